@@ -1,0 +1,1 @@
+-- Laws of lists and numbers. Assumes nothing.

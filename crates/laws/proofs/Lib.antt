@@ -1,0 +1,6 @@
+pub mod Sums
+pub mod Divide
+pub mod Parts
+pub mod Gates
+pub mod Fields
+pub mod Packing

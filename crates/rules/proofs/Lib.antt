@@ -1,0 +1,5 @@
+pub mod Verdicts
+pub mod Finite
+pub mod Yard
+pub mod Runs
+pub mod Refusals

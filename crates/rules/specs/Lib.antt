@@ -1,0 +1,7 @@
+pub mod Streams
+pub mod States
+pub mod Steps
+pub mod Load
+pub mod Sheet
+pub mod Numbers
+pub mod Runs

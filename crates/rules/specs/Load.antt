@@ -1,0 +1,127 @@
+-- Document 01, "The load check".
+-- Assumes nothing.
+use Prim.Native.Nat.{ℕ, _+_, _-_, _*_, _/_, _≤_, _<_, _∣_}
+use mathlib.Core.Bool.{Bool, true, false, cond, _&&_}
+use mathlib.Core.List.{List, [], _∷_}
+use mathlib.Core.Path.{_≡_}
+use lib.Dec.{leb, eqb}
+use Rattle.laws.specs.Lists.{below, any, sum, top, All}
+use Rattle.rules.specs.declared.Tuple.{Tuple}
+use Rattle.rules.specs.declared.Tuple.the-variants.{Once, Every}
+use Rattle.rules.specs.declared.TuplePlace.{TuplePlace}
+use Rattle.rules.specs.declared.Stream.{Stream}
+use Rattle.rules.specs.declared.Set.{Set}
+use Rattle.rules.specs.declared.Refusal.{Refusal}
+use Rattle.rules.specs.declared.Refusal.the-variants.{OutOfRule, LongCycles}
+use Rattle.rules.specs.declared.CountAnswer.{CountAnswer}
+use Rattle.rules.specs.declared.CountAnswer.the-variants.{Number, Refused as CountRefused}
+use Rattle.rules.specs.declared.Verdict.{Verdict}
+use Rattle.rules.specs.declared.Verdict.the-variants.{Accept, Late, Overload, Refused}
+use Rattle.rules.specs.Streams.{tuplesOf, streamsOf, limit, valid}
+
+-- ---- demand
+
+-- "the sum over streams with d not above I of c times E(I - d)": what one stream adds
+unfoldable pub due : ℕ → Stream → ℕ
+due i s = cond (leb (s .deadline) i) (s .cost * limit s (i - s .deadline)) 0
+
+-- "a stream with d not above I" of the task t
+abbrev pub urgent : ℕ → ℕ → Stream → Bool
+urgent t i s = eqb (s .task) t && leb (s .deadline) i
+
+-- "c - 1 among its streams with d above I"
+abbrev pub held : ℕ → ℕ → Stream → ℕ
+held t i s = cond (eqb (s .task) t) (cond (leb (s .deadline) i) 0 (s .cost - 1)) 0
+
+-- "The blocking of a task is 0 unless it has a stream with d not above I; then it is the largest c - 1 among its streams with d above I, or 0 if there are none."
+unfoldable pub blocking : List Stream → ℕ → ℕ → ℕ
+blocking ss i t = cond (any (urgent t i) ss) (top (held t i) ss) 0
+
+-- "Demand(I), for I of 0 or more, is the sum over streams .., plus the blocking of each task."
+unfoldable pub demand : List Stream → ℕ → ℕ
+demand ss i = sum (due i) ss + sum (blocking ss i) (below 16)
+
+-- "Asked for an invalid set, demand .. [is] refused with 7 and give[s] 0"
+unfoldable pub demandOf : Set → ℕ → CountAnswer
+demandOf x i = cond (valid x) (Number (demand (streamsOf x) i)) (CountRefused OutOfRule)
+
+-- ---- H and long-run load
+
+-- h is a multiple of each cycle of a tuple, a stream, a list of streams
+abbrev pub CycleIn : ℕ → Tuple → Type 0
+CycleIn h (Once a) = Unit {0}
+CycleIn h (Every z a) = z ∣ h
+
+abbrev pub PlaceIn : ℕ → TuplePlace → Type 0
+PlaceIn h p = CycleIn h (p .tuple)
+
+abbrev pub CyclesIn : ℕ → Stream → Type 0
+CyclesIn h s = All (PlaceIn h) (tuplesOf s)
+
+abbrev pub Common : ℕ → List Stream → Type 0
+Common h ss = All (CyclesIn h) ss
+
+-- "H is the least common multiple of all cycles, 1 where there are none."
+pub record IsH (ss : List Stream) (h : ℕ) : Type 0 where
+  pub positive : 0 < h
+  pub common : Common h ss
+  pub least : (m : ℕ) → 0 < m → Common m ss → h ≤ m
+
+-- "c times H / z over the cyclic tuples": what one tuple of a stream of cost c adds
+abbrev pub rateOf : ℕ → Tuple → ℕ
+rateOf h (Once a) = 0
+rateOf h (Every z a) = h / z
+
+abbrev pub rate : ℕ → ℕ → TuplePlace → ℕ
+rate h c p = c * rateOf h (p .tuple)
+
+unfoldable pub streamLoad : ℕ → Stream → ℕ
+streamLoad h s = sum (rate h (s .cost)) (tuplesOf s)
+
+-- "Long-run load is the sum of c times H / z over the cyclic tuples."
+unfoldable pub load : List Stream → ℕ → ℕ
+load ss h = sum (streamLoad h) ss
+
+-- ---- the verdict
+
+-- "Verdicts, in this order: ..; 8 exactly if H is above 1,000,000; overload if long-run load is above H;
+-- late, with the least I where demand(I) is above I and that demand; accept." "Accept speaks of every I, not of those tested."
+pub record Accepts (ss : List Stream) (h : ℕ) : Type 0 where
+  pub short : h ≤ 1000000
+  pub light : load ss h ≤ h
+  pub fits : (i : ℕ) → demand ss i ≤ i
+
+pub record IsLate (ss : List Stream) (h i w : ℕ) : Type 0 where
+  pub short : h ≤ 1000000
+  pub light : load ss h ≤ h
+  pub that : w ≡ demand ss i
+  pub above : i < demand ss i
+  pub least : (j : ℕ) → j < i → demand ss j ≤ j
+
+pub record Overloads (ss : List Stream) (h : ℕ) : Type 0 where
+  pub short : h ≤ 1000000
+  pub heavy : h < load ss h
+
+pub record TooLong (h : ℕ) (why : Refusal) : Type 0 where
+  pub number : why ≡ LongCycles
+  pub long : 1000000 < h
+
+-- the verdict on the streams of a valid set whose H is h
+abbrev pub Judged : List Stream → ℕ → Verdict → Type 0
+Judged ss h Accept = Accepts ss h
+Judged ss h (Late i w) = IsLate ss h i w
+Judged ss h Overload = Overloads ss h
+Judged ss h (Refused why) = TooLong h why
+
+pub record JudgedByH (ss : List Stream) (v : Verdict) : Type 0 where
+  pub h : ℕ
+  pub is-h : IsH ss h
+  pub judged : Judged ss h v
+
+-- "Verdicts, in this order: 7 for an invalid set; .."
+abbrev pub VerdictIf : Bool → List Stream → Verdict → Type 0
+VerdictIf false ss v = v ≡ Refused OutOfRule
+VerdictIf true ss v = JudgedByH ss v
+
+unfoldable pub VerdictOf : Set → Verdict → Type 0
+VerdictOf x v = VerdictIf (valid x) (streamsOf x) v

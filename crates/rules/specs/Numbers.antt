@@ -1,0 +1,106 @@
+-- Document 01, "Numbers the cab prints": the paper's number and values of each case of each answer.
+-- Assumes nothing.
+use Prim.Native.Nat.{ℕ}
+use lib.IntN.{ℤ}
+use Rattle.rules.specs.declared.Tuple.{Tuple}
+use Rattle.rules.specs.declared.Refusal.{Refusal}
+use Rattle.rules.specs.declared.Refusal.the-variants.{NoStream, Full, LastClock, NothingPending, BitsMissing, BadVersion, OutOfRule, LongCycles, BadByte, Leftover, ShortBuffer, IllFormed}
+use Rattle.rules.specs.declared.StartAnswer.{StartAnswer}
+use Rattle.rules.specs.declared.StartAnswer.the-variants.{Started, Refused as StartRefused}
+use Rattle.rules.specs.declared.PostAnswer.{PostAnswer}
+use Rattle.rules.specs.declared.PostAnswer.the-variants.{Posted, Refused as PostRefused}
+use Rattle.rules.specs.declared.ChooseAnswer.{ChooseAnswer}
+use Rattle.rules.specs.declared.ChooseAnswer.the-variants.{Nothing, Runs, Refused as ChooseRefused}
+use Rattle.rules.specs.declared.UnitAnswer.{UnitAnswer}
+use Rattle.rules.specs.declared.UnitAnswer.the-variants.{Ran, Finished, Cut, Idle, Refused as UnitRefused}
+use Rattle.rules.specs.declared.CountAnswer.{CountAnswer}
+use Rattle.rules.specs.declared.CountAnswer.the-variants.{Number, Refused as CountRefused}
+use Rattle.rules.specs.declared.JitterAnswer.{JitterAnswer}
+use Rattle.rules.specs.declared.JitterAnswer.the-variants.{Tuples, Refused as JitterRefused}
+use Rattle.rules.specs.declared.Verdict.{Verdict}
+use Rattle.rules.specs.declared.Verdict.the-variants.{Accept, Late, Overload, Refused as VerdictRefused}
+use Rattle.rules.specs.declared.ReadAnswer.{ReadAnswer}
+use Rattle.rules.specs.declared.ReadAnswer.the-variants.{Read, Refused as ReadRefused}
+use Rattle.rules.specs.declared.WriteAnswer.{WriteAnswer}
+use Rattle.rules.specs.declared.WriteAnswer.the-variants.{Wrote, Refused as WriteRefused}
+
+-- "No | Given exactly when"
+abbrev pub number : Refusal → ℕ
+number NoStream = 1
+number Full = 2
+number LastClock = 3
+number NothingPending = 4
+number BitsMissing = 5
+number BadVersion = 6
+number OutOfRule = 7
+number LongCycles = 8
+number BadByte = 9
+number Leftover = 10
+number ShortBuffer = 11
+number IllFormed = 12
+
+-- what an answer says: the paper's word with its values, or a refusal's number; `refused-with-0` where 0 is given with it
+pub data Says : Type 0 where
+  refused : (no : ℕ) → Says
+  refused-with-0 : (no : ℕ) → Says
+  started : Says
+  posted : (stream deadline : ℕ) → Says
+  none : Says
+  runs : (task stream : ℕ) → Says
+  ran : (task stream : ℕ) → Says
+  done : (task stream : ℕ) (laxity : ℤ) → Says
+  cut : (task stream : ℕ) (laxity : ℤ) → Says
+  idle : Says
+  gives : ℕ → Says
+  tuples : Tuple → Tuple → Says
+  accept : Says
+  late : (length demand : ℕ) → Says
+  overload : Says
+  read : Says
+  wrote : (bytes : ℕ) → Says
+
+abbrev pub startSays : StartAnswer → Says
+startSays Started = started
+startSays (StartRefused why) = refused (number why)
+
+-- "posted stream deadline"
+abbrev pub postSays : PostAnswer → Says
+postSays (Posted k d) = posted k d
+postSays (PostRefused why) = refused (number why)
+
+abbrev pub chooseSays : ChooseAnswer → Says
+chooseSays Nothing = none
+chooseSays (Runs t k) = runs t k
+chooseSays (ChooseRefused why) = refused (number why)
+
+-- "ran task stream; done or cut task stream laxity; idle; refused N"
+abbrev pub unitSays : UnitAnswer → Says
+unitSays (Ran t k) = ran t k
+unitSays (Finished t k l) = done t k l
+unitSays (Cut t k l) = cut t k l
+unitSays Idle = idle
+unitSays (UnitRefused why) = refused (number why)
+
+-- "refused with 7 and give 0"
+abbrev pub countSays : CountAnswer → Says
+countSays (Number n) = gives n
+countSays (CountRefused why) = refused-with-0 (number why)
+
+abbrev pub jitterSays : JitterAnswer → Says
+jitterSays (Tuples a b) = tuples a b
+jitterSays (JitterRefused why) = refused (number why)
+
+-- "the verdict (accept, late I demand, overload, refused N)"
+abbrev pub verdictSays : Verdict → Says
+verdictSays Accept = accept
+verdictSays (Late i w) = late i w
+verdictSays Overload = overload
+verdictSays (VerdictRefused why) = refused (number why)
+
+abbrev pub readSays : ReadAnswer → Says
+readSays Read = read
+readSays (ReadRefused why) = refused (number why)
+
+abbrev pub writeSays : WriteAnswer → Says
+writeSays (Wrote n) = wrote n
+writeSays (WriteRefused why) = refused (number why)

@@ -1,0 +1,84 @@
+-- Document 01, "State and steps": the state, and when it is well formed.
+-- Assumes nothing.
+use Prim.Native.Nat.{ℕ, _+_, _-_, _≤_}
+use mathlib.Core.Bool.{Bool, true, false, cond, _&&_}
+use mathlib.Core.List.{List, [], _∷_}
+use mathlib.Core.Path.{_≡_}
+use lib.ListN.{length, take, drop, replicate}
+use lib.Dec.{ltb, leb, eqb}
+use Rattle.laws.specs.Lists.{every, within, below, all, count, scan}
+use Rattle.rules.specs.declared.Set.{Set}
+use Rattle.rules.specs.declared.Message.{Message}
+use Rattle.rules.specs.declared.State.{State}
+use Rattle.rules.specs.Streams.{Placed, streamAt, valid}
+
+abbrev pub noMessage : Message
+noMessage = record { stream = 0; deadline = 0; used = 0 }
+
+-- "The state holds a set, the clock and up to 64 pending messages in posting order"
+abbrev pub pending : State → List Message
+pending s = take (s .count) (s .messages)
+
+-- a message's task, its cost c and its relative deadline d are those of its stream
+abbrev pub taskOf : Set → Message → ℕ
+taskOf x m = streamAt x (m .stream) .task
+
+abbrev pub costOf : Set → Message → ℕ
+costOf x m = streamAt x (m .stream) .cost
+
+abbrev pub spanOf : Set → Message → ℕ
+spanOf x m = streamAt x (m .stream) .deadline
+
+-- "deadline less d": the clock at which the message was posted
+abbrev pub postedAt : Set → Message → ℕ
+postedAt x m = m .deadline - spanOf x m
+
+-- "each message names a stream of the set, has used less than c, and has a deadline from d to clock + d;
+-- deadline less d never falls along the order": a message behind one that was posted at `before`
+abbrev pub messageTests : Set → ℕ → ℕ → Message → List Bool
+messageTests x clock before m =
+    ltb (m .stream) (x .count)
+    ∷ ltb (m .used) (costOf x m)
+    ∷ within (spanOf x m) (m .deadline) (clock + spanOf x m)
+    ∷ leb before (postedAt x m)
+    ∷ []
+
+unfoldable pub messageOk : Set → ℕ → ℕ → Message → Bool
+messageOk x clock before m = every (messageTests x clock before m)
+
+unfoldable pub messagesOk : Set → ℕ → List Message → Bool
+messagesOk x clock l = scan (messageOk x clock) (postedAt x) 0 l
+
+-- a message of the task t with a used unit: a started one
+abbrev pub startedOf : Set → ℕ → Message → Bool
+startedOf x t m = ltb 0 (m .used) && eqb (taskOf x m) t
+
+-- "each task has at most one message with a used unit"
+unfoldable pub startedOnce : Set → List Message → ℕ → Bool
+startedOnce x l t = leb (count (startedOf x t) l) 1
+
+unfoldable pub messageUnused : Message → Bool
+messageUnused m = every (eqb (m .stream) 0 ∷ eqb (m .deadline) 0 ∷ eqb (m .used) 0 ∷ [])
+
+abbrev pub lastClock : ℕ
+lastClock = 4000000000
+
+-- "It is well formed if the set is valid; there are at most 64 messages; the clock is at most 4,000,000,000; each message ..;
+-- each task has at most one message with a used unit; unused places are zero."
+abbrev pub stateTests : State → List Bool
+stateTests s =
+    valid (s .set)
+    ∷ leb (s .count) 64
+    ∷ leb (s .clock) lastClock
+    ∷ messagesOk (s .set) (s .clock) (pending s)
+    ∷ all (startedOnce (s .set) (pending s)) (below 16)
+    ∷ all messageUnused (drop (s .count) (s .messages))
+    ∷ []
+
+unfoldable pub wellFormed : State → Bool
+wellFormed s = every (stateTests s)
+
+-- What the types say of the arrays of a state: those of its set, and 64 places for messages. Every state that a program holds is so.
+pub record Housed (s : State) : Type 0 where
+  pub set : Placed (s .set)
+  pub places : length (s .messages) ≡ 64

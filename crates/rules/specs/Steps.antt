@@ -1,0 +1,159 @@
+-- Document 01, "State and steps": start, post, choose and unit.
+-- Assumes nothing.
+use Prim.Native.Nat.{ℕ, zero, suc, _+_, _-_}
+use mathlib.Core.Bool.{Bool, true, false, cond, _&&_}
+use mathlib.Core.List.{List, [], _∷_}
+use lib.ListN.{length, getD, set, replicate}
+use lib.Dec.{ltb, leb, eqb}
+use lib.IntN.{ℤ, pos, _-ℤ_}
+use Rattle.laws.specs.Lists.{find, remove, firstLeast}
+use Rattle.rules.specs.declared.Set.{Set}
+use Rattle.rules.specs.declared.Message.{Message}
+use Rattle.rules.specs.declared.State.{State}
+use Rattle.rules.specs.declared.Refusal.{Refusal}
+use Rattle.rules.specs.declared.Refusal.the-variants.{NoStream, Full, LastClock, NothingPending, OutOfRule, IllFormed}
+use Rattle.rules.specs.declared.StartResult.{StartResult}
+use Rattle.rules.specs.declared.StartAnswer.the-variants.{Started, Refused as StartRefused}
+use Rattle.rules.specs.declared.PostResult.{PostResult}
+use Rattle.rules.specs.declared.PostAnswer.the-variants.{Posted, Refused as PostRefused}
+use Rattle.rules.specs.declared.ChooseAnswer.{ChooseAnswer}
+use Rattle.rules.specs.declared.ChooseAnswer.the-variants.{Nothing, Runs, Refused as ChooseRefused}
+use Rattle.rules.specs.declared.UnitResult.{UnitResult}
+use Rattle.rules.specs.declared.UnitAnswer.{UnitAnswer}
+use Rattle.rules.specs.declared.UnitAnswer.the-variants.{Ran, Finished, Cut, Idle, Refused as UnitRefused}
+use Rattle.rules.specs.Streams.{emptySet, streamAt, valid}
+use Rattle.rules.specs.States.{noMessage, pending, taskOf, costOf, startedOf, lastClock, wellFormed}
+
+-- ---- Start
+
+-- "the clock at 0 and no message"
+abbrev pub fresh : Set → State
+fresh x = record { set = x; clock = 0; count = 0; messages = replicate 64 noMessage }
+
+-- "A valid set gives the clock at 0 and no message. An invalid one gives 7 and the start of the empty set."
+unfoldable pub startOf : Set → StartResult
+startOf x =
+    cond (valid x)
+    (record { answer = Started; state = fresh x })
+    (record { answer = StartRefused OutOfRule; state = fresh emptySet })
+
+-- ---- Post
+
+-- "A message with deadline clock + d and 0 used"
+abbrev pub newMessage : State → ℕ → Message
+newMessage s k = record { stream = k; deadline = s .clock + streamAt (s .set) k .deadline; used = 0 }
+
+-- ".. goes last"
+abbrev pub added : State → Message → State
+added s m = record { set = s .set; clock = s .clock; count = s .count + 1; messages = set (s .messages) (s .count) m }
+
+-- "state unchanged"
+abbrev pub postRefused : State → Refusal → PostResult
+postRefused s why = record { answer = PostRefused why; state = s }
+
+-- "Order: post 12, 1, 2."
+unfoldable pub postOf : State → ℕ → PostResult
+postOf s k =
+    cond (wellFormed s)
+    (cond (ltb k (s .set .count))
+    (cond (ltb (s .count) 64)
+    (record { answer = Posted k (newMessage s k .deadline); state = added s (newMessage s k) })
+    (postRefused s Full))
+    (postRefused s NoStream))
+    (postRefused s IllFormed)
+
+-- ---- Choose
+
+-- one deadline comes before another
+abbrev pub sooner : ℕ → ℕ → Bool
+sooner d e = ltb d e
+
+-- after every deadline that 32 bits hold: the deadline of a task with nothing pending
+abbrev pub never : ℕ
+never = 4294967296
+
+-- "A task's deadline is the least deadline of its pending messages, the started one included."
+unfoldable pub taskDeadline : Set → List Message → ℕ → ℕ
+taskDeadline x [] t = never
+taskDeadline x (m ∷ l) t =
+    cond (eqb (taskOf x m) t && sooner (m .deadline) (taskDeadline x l t)) (m .deadline) (taskDeadline x l t)
+
+-- "The task with the least deadline runs; on a tie, the lowest task number."
+unfoldable pub runningTask : Set → List Message → ℕ
+runningTask x l = firstLeast (taskDeadline x l) 16
+
+-- "its started message"
+unfoldable pub startedAt : Set → List Message → ℕ → ℕ
+startedAt x l t = find (startedOf x t) l
+
+-- "its message of least deadline, on a tie the earliest posted"
+abbrev pub dueOf : Set → ℕ → ℕ → Message → Bool
+dueOf x t d m = eqb (m .deadline) d && eqb (taskOf x m) t
+
+unfoldable pub urgentAt : Set → List Message → ℕ → ℕ
+urgentAt x l t = find (dueOf x t (taskDeadline x l t)) l
+
+-- "It serves its started message if there is one, else its message of least deadline, on a tie the earliest posted."
+unfoldable pub servedAt : Set → List Message → ℕ → ℕ
+servedAt x l t = cond (ltb (startedAt x l t) (length l)) (startedAt x l t) (urgentAt x l t)
+
+-- the place of the chosen message among the pending ones, and the message
+unfoldable pub placeOf : State → ℕ
+placeOf s = servedAt (s .set) (pending s) (runningTask (s .set) (pending s))
+
+abbrev pub messageAt : State → ℕ → Message
+messageAt s i = getD (s .messages) i noMessage
+
+-- "With nothing pending the answer is none." "12: state not well formed: .. no task named"
+unfoldable pub chooseOf : State → ChooseAnswer
+chooseOf s =
+    cond (wellFormed s)
+    (cond (eqb (s .count) 0) Nothing (Runs (taskOf (s .set) (messageAt s (placeOf s))) (messageAt s (placeOf s) .stream)))
+    (ChooseRefused IllFormed)
+
+-- ---- Unit(done)
+
+-- "only the clock moves"
+abbrev pub ticked : State → State
+ticked s = record { set = s .set; clock = s .clock + 1; count = s .count; messages = s .messages }
+
+-- "The chosen message gains one used unit and the clock one."
+abbrev pub gained : Message → Message
+gained m = record { stream = m .stream; deadline = m .deadline; used = m .used + 1 }
+
+abbrev pub stayed : State → ℕ → State
+stayed s i = record { set = s .set; clock = s .clock + 1; count = s .count; messages = set (s .messages) i (gained (messageAt s i)) }
+
+-- "it leaves .. The order of the rest is kept."
+abbrev pub departed : State → ℕ → State
+departed s i = record { set = s .set; clock = s .clock + 1; count = s .count - 1; messages = remove noMessage i (s .messages) }
+
+-- "the laxity, its deadline minus the clock after the unit, which is negative when late"
+unfoldable pub laxityOf : ℕ → ℕ → ℤ
+laxityOf deadline clock = pos deadline -ℤ pos clock
+
+abbrev pub answered : State → UnitAnswer → UnitResult
+answered s a = record { answer = a; state = s }
+
+-- "If done, it leaves as finished. If not done and its used units now equal c, it leaves as cut. Otherwise it stays as ran.
+-- .. Each answer names task and stream; a leaving one also has the laxity"
+unfoldable pub servedOf : State → ℕ → Bool → UnitResult
+servedOf s i done =
+    cond done
+    (answered (departed s i) (Finished (taskOf (s .set) (messageAt s i)) (messageAt s i .stream) (laxityOf (messageAt s i .deadline) (s .clock + 1))))
+    (cond (eqb (messageAt s i .used + 1) (costOf (s .set) (messageAt s i)))
+    (answered (departed s i) (Cut (taskOf (s .set) (messageAt s i)) (messageAt s i .stream) (laxityOf (messageAt s i .deadline) (s .clock + 1))))
+    (answered (stayed s i) (Ran (taskOf (s .set) (messageAt s i)) (messageAt s i .stream))))
+
+-- "With nothing pending and not done, the answer is idle and only the clock moves."
+unfoldable pub emptyUnit : State → Bool → UnitResult
+emptyUnit s done = cond done (answered s (UnitRefused NothingPending)) (answered (ticked s) Idle)
+
+-- "Unit 12, 3, 4."
+unfoldable pub unitOf : State → Bool → UnitResult
+unitOf s done =
+    cond (wellFormed s)
+    (cond (ltb (s .clock) lastClock)
+    (cond (eqb (s .count) 0) (emptyUnit s done) (servedOf s (placeOf s) done))
+    (answered s (UnitRefused LastClock)))
+    (answered s (UnitRefused IllFormed))

@@ -1,0 +1,140 @@
+// The things that document 01 names, as the machine holds them. What they mean stands in specs/.
+
+// A tuple is either once at an offset, or every cycle z from an offset.
+// `Once` comes first: the zero of a place is then once at 0, document 01's unused tuple.
+pub enum Tuple {
+    // offset
+    Once(u32),
+    // cycle, offset
+    Every(u32, u32),
+}
+
+// A place of a stream's array of tuples.
+pub struct TuplePlace {
+    pub tuple: Tuple,
+}
+
+// A stream: its task, cost c, relative deadline d, how many tuples it has, and 4 places for them.
+pub struct Stream {
+    pub task: usize,
+    pub cost: u32,
+    pub deadline: u32,
+    pub count: usize,
+    pub tuples: [TuplePlace; 4],
+}
+
+// A set: how many streams it has, and 16 places for them.
+pub struct Set {
+    pub count: usize,
+    pub streams: [Stream; 16],
+}
+
+// A message: its stream, its absolute deadline and the units it has used.
+pub struct Message {
+    pub stream: usize,
+    pub deadline: u32,
+    pub used: u32,
+}
+
+// The state: a set, the clock, how many messages are pending, and 64 places for them in posting order.
+pub struct State {
+    pub set: Set,
+    pub clock: u32,
+    pub count: usize,
+    pub messages: [Message; 64],
+}
+
+// Why a call is refused. specs/Numbers.antt gives the number that the cab prints for each.
+pub enum Refusal {
+    NoStream,
+    Full,
+    LastClock,
+    NothingPending,
+    BitsMissing,
+    BadVersion,
+    OutOfRule,
+    LongCycles,
+    BadByte,
+    Leftover,
+    ShortBuffer,
+    IllFormed,
+}
+
+pub enum StartAnswer {
+    Started,
+    Refused(Refusal),
+}
+
+pub struct StartResult {
+    pub answer: StartAnswer,
+    pub state: State,
+}
+
+pub enum PostAnswer {
+    // stream, deadline
+    Posted(usize, u32),
+    Refused(Refusal),
+}
+
+pub struct PostResult {
+    pub answer: PostAnswer,
+    pub state: State,
+}
+
+pub enum ChooseAnswer {
+    Nothing,
+    // task, stream
+    Runs(usize, usize),
+    Refused(Refusal),
+}
+
+pub enum UnitAnswer {
+    // task, stream
+    Ran(usize, usize),
+    // task, stream, laxity
+    Finished(usize, usize, i64),
+    // task, stream, laxity
+    Cut(usize, usize, i64),
+    Idle,
+    Refused(Refusal),
+}
+
+pub struct UnitResult {
+    pub answer: UnitAnswer,
+    pub state: State,
+}
+
+// What an event limit or a demand that is asked for answers.
+pub enum CountAnswer {
+    Number(u64),
+    Refused(Refusal),
+}
+
+pub enum JitterAnswer {
+    Tuples(Tuple, Tuple),
+    Refused(Refusal),
+}
+
+pub enum Verdict {
+    Accept,
+    // the least length where demand is above it, and that demand
+    Late(u64, u64),
+    Overload,
+    Refused(Refusal),
+}
+
+pub enum ReadAnswer {
+    Read,
+    Refused(Refusal),
+}
+
+pub struct ReadResult {
+    pub answer: ReadAnswer,
+    pub set: Set,
+}
+
+pub enum WriteAnswer {
+    // bytes written
+    Wrote(usize),
+    Refused(Refusal),
+}
