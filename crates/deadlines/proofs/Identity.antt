@@ -1,0 +1,1 @@
+-- Every accepted message is accounted for, by its number. Assumes nothing.

@@ -1,0 +1,1 @@
+-- The promise for any lawful machine. Assumes nothing.
