@@ -8,9 +8,10 @@ use mathlib.Core.Path.{_≡_, refl, sym, ap, subst, _∙_}
 use native.Mathlib.Nat.{mul-add}
 use native.Mathlib.Decide.{decLe, ℕ-discrete}
 use native.Mathlib.Omega.{arith}
-use lib.ListN.{length, getD}
+use lib.ListN.{length, getD, take, drop, length-append}
+use lib.Seq.{take-append-le}
 use lib.Dec.{T, leb, ltb, eqb, le→leb, leb→le, nltb→le, ltb→lt, eqb→eq, eqb-refl}
-use Rattle.laws.specs.Lists.{below, any, sum, top, count, find, firstLeast}
+use Rattle.laws.specs.Lists.{every, below, all, any, sum, top, find, remove, firstLeast}
 
 -- ---- cases
 
@@ -212,6 +213,28 @@ module _ {A : Type 0} where
       tail (List·Memᴰ·head e) = inl e
       tail (List·Memᴰ·tail q) = inr (Memᴰ·append-right xs (Memᴰ·append-right r q))
 
+  pub all-each : (p : A → Bool) (l : List A) → T (all p l) → Each (λ m. T (p m)) l
+  unfolding all
+  all-each p [] t m i = absurd (List·Memᴰ·not-nil i)
+  all-each p (x ∷ xs) t m (List·Memᴰ·head e) = subst (λ (y : A). T (p y)) (sym e) (both-left (p x) (all p xs) t)
+  all-each p (x ∷ xs) t m (List·Memᴰ·tail i) = all-each p xs (both-right (p x) (all p xs) t) m i
+
+  -- ---- a place taken out
+
+  pub length-remove : (d : A) (i : ℕ) (l : List A) → length (remove d i l) ≡ length l
+  unfolding remove
+  length-remove d i [] = refl
+  length-remove d zero (x ∷ xs) = omega (arith, length-append xs (d ∷ []))
+  length-remove d (suc i) (x ∷ xs) = ap suc (length-remove d i xs)
+
+  -- the first n places, of which the place i is taken out
+  pub take-remove : (d : A) (i n : ℕ) (l : List A) → i ≤ n → n < length l → take n (remove d i l) ≡ take i (take (suc n) l) ++ drop (suc i) (take (suc n) l)
+  unfolding remove
+  take-remove d i n [] h g = absurd (omega arith)
+  take-remove d zero n (x ∷ xs) h g = take-append-le n xs (d ∷ []) (omega arith)
+  take-remove d (suc i) zero (x ∷ xs) h g = absurd (omega arith)
+  take-remove d (suc i) (suc n) (x ∷ xs) h g = ap (λ (l : List A). x ∷ l) (take-remove d i n xs (omega arith) (omega arith))
+
   -- ---- the first that passes a test
 
   pub find-hit : (p : A → Bool) (l : List A) (d : A) → find p l < length l → T (p (getD l (find p l) d))
@@ -243,6 +266,13 @@ module _ {A : Type 0} where
       (λ (h : length l ≤ find p l). absurd (find-miss p l h m i t))
       (λ (h : find p l < length l). h)
       (le-or-lt (length l) (find p l))
+
+-- each test of a list of tests that all pass
+pub every-each : (ts : List Bool) → T (every ts) → Each (λ b. T b) ts
+every-each [] t b i = absurd (List·Memᴰ·not-nil i)
+every-each (u ∷ []) t b i = subst T (sym (List·Memᴰ·eq-of-singleton i)) t
+every-each (u ∷ (v ∷ ts)) t b (List·Memᴰ·head e) = subst T (sym e) (both-left u (every (v ∷ ts)) t)
+every-each (u ∷ (v ∷ ts)) t b (List·Memᴰ·tail i) = every-each (v ∷ ts) (both-right u (every (v ∷ ts)) t) b i
 
 -- what f makes of a list is counted as the list is
 pub sum-map : {A B : Type 0} (g : B → ℕ) (f : A → B) (l : List A) → sum g (map f l) ≡ sum (λ x. g (f x)) l

@@ -1,0 +1,3 @@
+pub mod Valid
+pub mod Choosing
+pub mod Cases
