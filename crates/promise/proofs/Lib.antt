@@ -1,3 +1,5 @@
 pub mod Valid
 pub mod Choosing
 pub mod Cases
+pub mod Pairing
+pub mod Base
