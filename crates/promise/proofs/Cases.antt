@@ -48,39 +48,48 @@ post-case s k = go (wellFormed s) (ltb k (s .set .count)) (ltb (s .count) 64) (l
     go true true false f g = refuses Full
     go true true true f g = accepts (f tt) (g tt)
 
--- a unit that serves the message at the place i
+-- a unit that serves a message
 pub record Serving (s : State) : Type 0 where
   pub some : s .count ≢ 0
   pub early : s .clock < lastClock
 
+-- the message that a unit would serve, its task and its laxity after the unit
+abbrev pub chosenOf : State → Message
+chosenOf s = messageAt s (placeOf s)
+
+abbrev pub chosenTask : State → ℕ
+chosenTask s = taskOf (s .set) (chosenOf s)
+
+abbrev pub chosenLaxity : State → ℤ
+chosenLaxity s = laxityOf (chosenOf s .deadline) (s .clock + 1)
+
 pub data UnitCase (s : State) (done : Bool) : UnitResult → Type 0 where
-  refuses : (why : Refusal) → UnitCase s done (answered s (UnitRefused why))
+  stops : (why : Refusal) → UnitCase s done (answered s (UnitRefused why))
   idles : s .count ≡ 0 → UnitCase s done (answered (ticked s) Idle)
-  finishes : (t k : ℕ) (l : ℤ) → Serving s → UnitCase s done (answered (departed s (placeOf s)) (Finished t k l))
-  cuts : (t k : ℕ) (l : ℤ) → Serving s → messageAt s (placeOf s) .used + 1 ≡ costOf (s .set) (messageAt s (placeOf s)) → UnitCase s done (answered (departed s (placeOf s)) (Cut t k l))
-  runs : (t k : ℕ) → Serving s → messageAt s (placeOf s) .used + 1 ≢ costOf (s .set) (messageAt s (placeOf s)) → UnitCase s done (answered (stayed s (placeOf s)) (Ran t k))
+  finishes : Serving s → UnitCase s done (answered (departed s (placeOf s)) (Finished (chosenTask s) (chosenOf s .stream) (chosenLaxity s)))
+  cuts : Serving s → chosenOf s .used + 1 ≡ costOf (s .set) (chosenOf s) → UnitCase s done (answered (departed s (placeOf s)) (Cut (chosenTask s) (chosenOf s .stream) (chosenLaxity s)))
+  runs : Serving s → chosenOf s .used + 1 ≢ costOf (s .set) (chosenOf s) → UnitCase s done (answered (stayed s (placeOf s)) (Ran (chosenTask s) (chosenOf s .stream)))
 
 served-case : (s : State) (done : Bool) → Serving s → UnitCase s done (servedOf s (placeOf s) done)
 unfolding servedOf
-served-case s done v = go done (eqb (m .used + 1) (costOf (s .set) m)) (eqb→eq (m .used + 1) (costOf (s .set) m)) (λ f e. T-not (eqb (m .used + 1) (costOf (s .set) m)) f (same-pass (m .used + 1) (costOf (s .set) m) e))
+served-case s done v = go done (eqb (chosenOf s .used + 1) (costOf (s .set) (chosenOf s)))
+    (eqb→eq (chosenOf s .used + 1) (costOf (s .set) (chosenOf s)))
+    (λ f e. T-not (eqb (chosenOf s .used + 1) (costOf (s .set) (chosenOf s))) f (same-pass (chosenOf s .used + 1) (costOf (s .set) (chosenOf s)) e))
   where
-    m : Message
-    m = messageAt s (placeOf s)
-
-    go : (a b : Bool) → (T b → m .used + 1 ≡ costOf (s .set) m) → (T (not b) → m .used + 1 ≢ costOf (s .set) m) → UnitCase s done (
+    go : (a b : Bool) → (T b → chosenOf s .used + 1 ≡ costOf (s .set) (chosenOf s)) → (T (not b) → chosenOf s .used + 1 ≢ costOf (s .set) (chosenOf s)) → UnitCase s done (
       cond a
-      (answered (departed s (placeOf s)) (Finished (taskOf (s .set) m) (m .stream) (laxityOf (m .deadline) (s .clock + 1))))
+      (answered (departed s (placeOf s)) (Finished (chosenTask s) (chosenOf s .stream) (chosenLaxity s)))
       (cond b
-      (answered (departed s (placeOf s)) (Cut (taskOf (s .set) m) (m .stream) (laxityOf (m .deadline) (s .clock + 1))))
-      (answered (stayed s (placeOf s)) (Ran (taskOf (s .set) m) (m .stream))))
+      (answered (departed s (placeOf s)) (Cut (chosenTask s) (chosenOf s .stream) (chosenLaxity s)))
+      (answered (stayed s (placeOf s)) (Ran (chosenTask s) (chosenOf s .stream))))
     )
-    go true b f g = finishes (taskOf (s .set) m) (m .stream) (laxityOf (m .deadline) (s .clock + 1)) v
-    go false true f g = cuts (taskOf (s .set) m) (m .stream) (laxityOf (m .deadline) (s .clock + 1)) v (f tt)
-    go false false f g = runs (taskOf (s .set) m) (m .stream) v (g tt)
+    go true b f g = finishes v
+    go false true f g = cuts v (f tt)
+    go false false f g = runs v (g tt)
 
 empty-case : (s : State) (done : Bool) → s .count ≡ 0 → UnitCase s done (emptyUnit s done)
 unfolding emptyUnit
-empty-case s true e = refuses NothingPending
+empty-case s true e = stops NothingPending
 empty-case s false e = idles e
 
 pub unit-case : (s : State) (done : Bool) → UnitCase s done (unitOf s done)
@@ -94,8 +103,8 @@ unit-case s done = go (wellFormed s) (ltb (s .clock) lastClock) (eqb (s .count) 
       (answered s (UnitRefused LastClock)))
       (answered s (UnitRefused IllFormed))
     )
-    go false b c f g h = refuses IllFormed
-    go true false c f g h = refuses LastClock
+    go false b c f g h = stops IllFormed
+    go true false c f g h = stops LastClock
     go true true true f g h = empty-case s done (g tt)
     go true true false f g h = served-case s done (record { some = h tt; early = f tt })
 

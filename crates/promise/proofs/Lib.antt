@@ -3,3 +3,4 @@ pub mod Choosing
 pub mod Cases
 pub mod Pairing
 pub mod Base
+pub mod Following
