@@ -47,6 +47,10 @@ module _ (S : Set) (placed : Placed S) (ok : T (valid S)) where
     pub few : r .state .count ≤ 64
     pub names-length : length (r .names) ≡ r .state .count
 
+  -- each pending message has a name
+  pub all-named : (r : Run) → Good r → length (r .names) ≡ length (pending (r .state))
+  all-named r g = omega (arith, g .names-length, pending-length (r .state) (g .places) (g .few))
+
   -- the moment that a run has come to
   abbrev pub momentOf : Run → Moment (base S placed ok)
   momentOf r = record { clock = r .state .clock; pending = pendingOf r; posts = r .accepted; departures = r .departures }
@@ -85,7 +89,7 @@ module _ (S : Set) (placed : Placed S) (ok : T (valid S)) where
     };
     reached = subst (λ (l : List Named). Reaches (base S placed ok) (r .state .clock) l (r .accepted ++ (a ∷ [])) (r .departures)) (sym (
       ap (paired (r .names ++ (length (r .accepted) ∷ []))) (pending-added (r .state) (g .places) (newMessage (r .state) k) room)
-      ∙ paired-last (r .names) (pending (r .state)) (length (r .accepted)) (newMessage (r .state) k) (omega (arith, g .names-length, pending-length (r .state) (g .places) (g .few)))
+      ∙ paired-last (r .names) (pending (r .state)) (length (r .accepted)) (newMessage (r .state) k) (all-named r g)
     )) (post run a (name (length (r .accepted)) (newMessage (r .state) k)) (new-of r k g inside));
     more = a ∷ [];
     grown = refl;
@@ -101,7 +105,7 @@ module _ (S : Set) (placed : Placed S) (ok : T (valid S)) where
     l-length = pending-length (r .state) (g .places) (g .few)
 
     same-length : length (r .names) ≡ length (pending (r .state))
-    same-length = omega (arith, g .names-length, l-length)
+    same-length = all-named r g
 
     f : Formed (base S placed ok) (r .state .clock) (pendingOf r)
     f = formed (base S placed ok) run
@@ -123,12 +127,12 @@ module _ (S : Set) (placed : Placed S) (ok : T (valid S)) where
     some-in : List·Memᴰ (getD (pending (r .state)) 0 noMessage) (pending (r .state))
     some-in = mem-getD (pending (r .state)) 0 noMessage (omega (arith, l-length, v .some))
 
-    place-in : placeOf (r .state) < length (pending (r .state))
+    pub place-in : placeOf (r .state) < length (pending (r .state))
     unfolding placeOf
     place-in = subst (λ (x : Set). servedAt x (pending (r .state)) (runningTask x (pending (r .state))) < length (pending (r .state))) (sym (g .set-is))
         (served-in S (pending (r .state)) (getD (pending (r .state)) 0 noMessage) some-in tasks-in deadlines-in)
 
-    place-low : placeOf (r .state) < r .state .count
+    pub place-low : placeOf (r .state) < r .state .count
     place-low = omega (arith, place-in, l-length)
 
     -- the chosen message and its number
@@ -302,12 +306,12 @@ module _ (S : Set) (placed : Placed S) (ok : T (valid S)) where
     pub good : Good r
     pub seen : m ≡ momentOf r
 
-  begin-shows : Shows (begin S) (outset (base S placed ok))
+  pub begin-shows : Shows (begin S) (outset (base S placed ok))
   unfolding paired
   begin-shows = subst (λ (r : Run). Shows r (outset (base S placed ok))) (sym begin-is)
       (record { good = record { set-is = refl; places = refl; few = omega arith; names-length = refl }; seen = refl })
 
-  follow : (r : Run) (c : Call) (m : Moment (base S placed ok)) → Reached (base S placed ok) m → Shows r m → Following (base S placed ok) Shows m (stepOf r c)
+  pub follow : (r : Run) (c : Call) (m : Moment (base S placed ok)) → Reached (base S placed ok) m → Shows r m → Following (base S placed ok) Shows m (stepOf r c)
   follow r c m run shown =
       let next : Stepped r (stepOf r c) = call-step r c (shown .good) (subst (λ (q : Moment (base S placed ok)). Reached (base S placed ok) q) (shown .seen) run) in
       record {
@@ -320,5 +324,5 @@ module _ (S : Set) (placed : Placed S) (ok : T (valid S)) where
         };
       }
 
-  pub lawful : Lawful (base S placed ok) (begin S) stepOf
+  unfoldable pub lawful : Lawful (base S placed ok) (begin S) stepOf
   lawful = record { Shows = Shows; begins = begin-shows; follows = follow }

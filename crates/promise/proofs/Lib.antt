@@ -4,3 +4,4 @@ pub mod Cases
 pub mod Pairing
 pub mod Base
 pub mod Following
+pub mod Promise
