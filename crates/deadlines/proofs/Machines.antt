@@ -1,15 +1,13 @@
 -- Demand 3 for any lawful machine, whatever its ties, refusals, extra state and count of time. Assumes nothing.
-use Prim.Native.Nat.{ℕ, _+_, _≤_, _<_}
-use mathlib.Core.List.{List, [], _∷_, _++_, List·Memᴰ, append-assoc, append-nil}
+use mathlib.Core.List.{List, [], _∷_, _++_, append-assoc, append-nil}
 use mathlib.Core.Path.{_≡_, refl, sym, ap, subst, _∙_}
-use Rattle.laws.proofs.Gates.{Each}
-use Rattle.deadlines.specs.Model.{Model, Keeps, Fits, Run, start, Left}
-use Rattle.deadlines.specs.Machine.{Moment, outset, Reached, Next, runs, Following, Lawful}
+use Rattle.deadlines.specs.Model.{Model, Keeps, Fits, Run, start}
+use Rattle.deadlines.specs.Machine.{Moment, outset, Reached, NoneDue, AllLeft, Next, runs, Following, Lawful}
 use Rattle.deadlines.proofs.Account.{on-time}
 use Rattle.deadlines.proofs.Identity.{keeps-before, left-in-time}
 
 module _ (𝓜 : Model) {S C : Type 0} (begin : S) (step : S → C → S) (law : Lawful 𝓜 begin step) where
-  open Model 𝓜 using (Post, postStream, postClock, deadline, span)
+  open Model 𝓜 using (Post)
 
   -- more calls lead on from a moment
   pub leads : (s : S) (cs : List C) (m : Moment 𝓜) → Reached 𝓜 m → law .Shows s m → Following 𝓜 (law .Shows) m (runs step s cs)
@@ -40,11 +38,10 @@ module _ (𝓜 : Model) {S C : Type 0} (begin : S) (step : S → C → S) (law :
   pub later : (before more : List C) → Following 𝓜 (law .Shows) (moment before .to) (runs step (runs step begin before) more)
   later before more = leads (runs step begin before) more (moment before .to) (moment before .next .reached) (moment before .shown)
 
-  -- at every moment of a run that keeps the limits, no message is pending at its deadline or after it
-  pub never-due : Fits 𝓜 → (before more : List C) → Keeps 𝓜 (later before more .to .posts) → Each (λ m. moment before .to .clock < deadline m) (moment before .to .pending)
+  -- at every moment of a run that keeps the limits, no message is due
+  pub never-due : Fits 𝓜 → (before more : List C) → Keeps 𝓜 (later before more .to .posts) → NoneDue 𝓜 (moment before .to)
   never-due fits before more keeps = on-time 𝓜 fits (moment before .next .reached) (kept-earlier (moment before .to) (later before more .to) (later before more .next) keeps)
 
-  -- DEMAND 3 for any lawful machine: when the clock reaches the deadline of an accepted message, it has left, not after its deadline
-  pub has-left : Fits 𝓜 → (cs : List C) → Keeps 𝓜 (moment cs .to .posts) → (p : Post) → List·Memᴰ p (moment cs .to .posts)
-      → postClock p + span (postStream p) ≤ moment cs .to .clock → Left 𝓜 (moment cs .to .departures) p
-  has-left fits cs keeps p i reached = left-in-time 𝓜 fits (moment cs .next .reached) keeps p i reached
+  -- DEMAND 3 for any lawful machine
+  pub all-left : Fits 𝓜 → (cs : List C) → Keeps 𝓜 (moment cs .to .posts) → AllLeft 𝓜 (moment cs .to)
+  all-left fits cs keeps = left-in-time 𝓜 fits (moment cs .next .reached) keeps

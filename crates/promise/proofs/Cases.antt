@@ -35,14 +35,14 @@ unfolding postOf
 post-case s k = go (wellFormed s) (ltb k (s .set .count)) (ltb (s .count) 64) (ltb→lt k (s .set .count)) (ltb→lt (s .count) 64)
   where
     go : (a b c : Bool) → (T b → k < s .set .count) → (T c → s .count < 64) → PostCase s k (
-      cond a
-      (cond b
-      (cond c
-      (record { answer = Posted k (newMessage s k .deadline); state = added s (newMessage s k) })
-      (postRefused s Full))
-      (postRefused s NoStream))
-      (postRefused s IllFormed)
-    )
+        cond a
+        (cond b
+        (cond c
+        (record { answer = Posted k (newMessage s k .deadline); state = added s (newMessage s k) })
+        (postRefused s Full))
+        (postRefused s NoStream))
+        (postRefused s IllFormed)
+        )
     go false b c f g = refuses IllFormed
     go true false c f g = refuses NoStream
     go true true false f g = refuses Full
@@ -77,12 +77,12 @@ served-case s done v = go done (eqb (chosenOf s .used + 1) (costOf (s .set) (cho
     (λ f e. T-not (eqb (chosenOf s .used + 1) (costOf (s .set) (chosenOf s))) f (same-pass (chosenOf s .used + 1) (costOf (s .set) (chosenOf s)) e))
   where
     go : (a b : Bool) → (T b → chosenOf s .used + 1 ≡ costOf (s .set) (chosenOf s)) → (T (not b) → chosenOf s .used + 1 ≢ costOf (s .set) (chosenOf s)) → UnitCase s done (
-      cond a
-      (answered (departed s (placeOf s)) (Finished (chosenTask s) (chosenOf s .stream) (chosenLaxity s)))
-      (cond b
-      (answered (departed s (placeOf s)) (Cut (chosenTask s) (chosenOf s .stream) (chosenLaxity s)))
-      (answered (stayed s (placeOf s)) (Ran (chosenTask s) (chosenOf s .stream))))
-    )
+        cond a
+        (answered (departed s (placeOf s)) (Finished (chosenTask s) (chosenOf s .stream) (chosenLaxity s)))
+        (cond b
+        (answered (departed s (placeOf s)) (Cut (chosenTask s) (chosenOf s .stream) (chosenLaxity s)))
+        (answered (stayed s (placeOf s)) (Ran (chosenTask s) (chosenOf s .stream))))
+        )
     go true b f g = finishes v
     go false true f g = cuts v (f tt)
     go false false f g = runs v (g tt)
@@ -97,12 +97,12 @@ unfolding unitOf
 unit-case s done = go (wellFormed s) (ltb (s .clock) lastClock) (eqb (s .count) 0) (ltb→lt (s .clock) lastClock) (eqb→eq (s .count) 0) (λ f e. T-not (eqb (s .count) 0) f (same-pass (s .count) 0 e))
   where
     go : (a b c : Bool) → (T b → s .clock < lastClock) → (T c → s .count ≡ 0) → (T (not c) → s .count ≢ 0) → UnitCase s done (
-      cond a
-      (cond b
-      (cond c (emptyUnit s done) (servedOf s (placeOf s) done))
-      (answered s (UnitRefused LastClock)))
-      (answered s (UnitRefused IllFormed))
-    )
+        cond a
+        (cond b
+        (cond c (emptyUnit s done) (servedOf s (placeOf s) done))
+        (answered s (UnitRefused LastClock)))
+        (answered s (UnitRefused IllFormed))
+        )
     go false b c f g h = stops IllFormed
     go true false c f g h = stops LastClock
     go true true true f g h = empty-case s done (g tt)

@@ -88,9 +88,9 @@ module _ (S : Set) (placed : Placed S) (ok : T (valid S)) where
       names-length = omega (arith, length-append (r .names) (length (r .accepted) ∷ []), g .names-length);
     };
     reached = subst (λ (l : List Named). Reaches (base S placed ok) (r .state .clock) l (r .accepted ++ (a ∷ [])) (r .departures)) (sym (
-      ap (paired (r .names ++ (length (r .accepted) ∷ []))) (pending-added (r .state) (g .places) (newMessage (r .state) k) room)
-      ∙ paired-last (r .names) (pending (r .state)) (length (r .accepted)) (newMessage (r .state) k) (all-named r g)
-    )) (post run a (name (length (r .accepted)) (newMessage (r .state) k)) (new-of r k g inside));
+        ap (paired (r .names ++ (length (r .accepted) ∷ []))) (pending-added (r .state) (g .places) (newMessage (r .state) k) room)
+        ∙ paired-last (r .names) (pending (r .state)) (length (r .accepted)) (newMessage (r .state) k) (all-named r g)
+        )) (post run a (name (length (r .accepted)) (newMessage (r .state) k)) (new-of r k g inside));
     more = a ∷ [];
     grown = refl;
   }
@@ -199,13 +199,13 @@ module _ (S : Set) (placed : Placed S) (ok : T (valid S)) where
         );
       };
       reached = subst (λ (q : List Named). Reaches (base S placed ok) (r .state .clock + 1) q (r .accepted) (r .departures ++ (d ∷ []))) (sym (
-        ap (paired (take (placeOf (r .state)) (r .names) ++ drop (suc (placeOf (r .state))) (r .names))) (pending-departed (r .state) (g .places) (placeOf (r .state)) (g .few) place-low)
-        ∙ pairs-without (r .names) (pending (r .state)) same-length (placeOf (r .state)) place-in
-      )) (served [] (d ∷ []) (leaves (record {
-        named = refl;
-        timed = add-one (r .state .clock);
-        told = record { used = ap (λ (m : Message). m .used + 1) (message-is (r .state) (g .places) (placeOf (r .state)) place-low); cost = cost };
-      })));
+          ap (paired (take (placeOf (r .state)) (r .names) ++ drop (suc (placeOf (r .state))) (r .names))) (pending-departed (r .state) (g .places) (placeOf (r .state)) (g .few) place-low)
+          ∙ pairs-without (r .names) (pending (r .state)) same-length (placeOf (r .state)) place-in
+          )) (served [] (d ∷ []) (leaves (record {
+            named = refl;
+            timed = add-one (r .state .clock);
+            told = record { used = ap (λ (m : Message). m .used + 1) (message-is (r .state) (g .places) (placeOf (r .state)) place-low); cost = cost };
+          })));
       more = [];
       grown = sym (append-nil (r .accepted));
     }
@@ -248,9 +248,9 @@ module _ (S : Set) (placed : Placed S) (ok : T (valid S)) where
         names-length = g .names-length;
       };
       reached = subst (λ (q : List Named). Reaches (base S placed ok) (r .state .clock + 1) q (r .accepted) (r .departures)) (sym (
-        ap (paired (r .names)) (pending-stayed (r .state) (g .places) (placeOf (r .state)) (g .few) place-low)
-        ∙ pairs-with (r .names) (pending (r .state)) same-length (placeOf (r .state)) place-in (gained chosen)
-      )) (subst (λ (ds : List Departure). Reaches (base S placed ok) (r .state .clock + 1) (front ++ (y ∷ rear)) (r .accepted) ds) (append-nil (r .departures)) (served (y ∷ []) [] (stays (stays-of short))));
+          ap (paired (r .names)) (pending-stayed (r .state) (g .places) (placeOf (r .state)) (g .few) place-low)
+          ∙ pairs-with (r .names) (pending (r .state)) same-length (placeOf (r .state)) place-in (gained chosen)
+          )) (subst (λ (ds : List Departure). Reaches (base S placed ok) (r .state .clock + 1) (front ++ (y ∷ rear)) (r .accepted) ds) (append-nil (r .departures)) (served (y ∷ []) [] (stays (stays-of short))));
       more = [];
       grown = sym (append-nil (r .accepted));
     }

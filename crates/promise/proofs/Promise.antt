@@ -1,7 +1,7 @@
 -- Demand 3, and what follows from it. Assumes nothing.
 use Prim.Native.Nat.{ℕ, zero, suc, _+_, _-_, _*_, _≤_, _<_}
 use mathlib.Core.Bool.{Bool, true, false, cond}
-use mathlib.Core.List.{List, [], _∷_, _++_, List·Memᴰ}
+use mathlib.Core.List.{List, [], _∷_, _++_, List·Memᴰ, append-nil}
 use mathlib.Core.Logic.{_⊎_, inl, inr, _≢_, ⊎-elim}
 use mathlib.Core.Path.{_≡_, refl, sym, ap, subst, _∙_}
 use native.Mathlib.Omega.{arith}
@@ -27,10 +27,9 @@ use Rattle.rules.specs.Steps.{startOf, postOf, placeOf, messageAt, laxityOf, un
 use Rattle.rules.specs.Load.{demand, VerdictIf, VerdictOf}
 use Rattle.rules.specs.Runs.{Call, posts, units, How, finished, cut, Accepted, Departure, Run, afterPost, afterUnit, stepOf, begin, runFrom, runOf, KeepsLimits, dueAt, AtCost, LeftInTime, Demand3}
 use Rattle.deadlines.specs.Model.{Keeps, Fits, Left}
-use Rattle.deadlines.specs.Machine.{Moment, outset, Reached, runs, Following}
-use Rattle.deadlines.proofs.Account.{on-time}
-use Rattle.deadlines.proofs.Identity.{keeps-before, left-in-time, once, named, gone}
-use Rattle.deadlines.proofs.Machines.{leads, moment, kept-earlier}
+use Rattle.deadlines.specs.Machine.{Moment, outset, Reached, NoneDue, AllLeft, runs, Following}
+use Rattle.deadlines.proofs.Identity.{once, named, gone}
+use Rattle.deadlines.proofs.Machines.{moment, later, never-due as never-due-at, all-left}
 use Rattle.promise.specs.Kind.{Named, paired, pendingOf, CutAtCost, Tells}
 use Rattle.promise.specs.Statements.{NeverDue, NotLate, NoLateAnswer, EachOnce, leftAs, waitsAs, CodeRun, started, posted, ran, Demand3OfCode}
 use Rattle.promise.proofs.Cases.{Serving, chosenOf, UnitCase, stops, idles, finishes, cuts, runs as stays, unit-case, message-is}
@@ -69,41 +68,45 @@ from-append r [] ds = refl
 from-append r (c ∷ cs) ds = from-append (stepOf r c) cs ds
 
 module _ (S : Set) (placed : Placed S) (ok : T (valid S)) where
-  -- what a run keeps, and that it is one of the deadline argument
-  pub record Sound (r : Run) : Type 0 where
-    pub good : Good S placed ok r
-    pub reached : Reached (base S placed ok) (momentOf S placed ok r)
+  -- the moment that the deadline argument has after these calls is that of the run
+  abbrev reaches : (calls : List Call) → Following (base S placed ok) (lawful S placed ok .Shows) (outset (base S placed ok)) (runs stepOf (begin S) calls)
+  reaches calls = moment (base S placed ok) (begin S) stepOf (lawful S placed ok) calls
 
-  sound : (calls : List Call) → Sound (runOf S calls)
+  seen : (calls : List Call) → reaches calls .to ≡ momentOf S placed ok (runOf S calls)
   unfolding runOf lawful
-  sound calls = subst Sound (runs-from (begin S) calls) (record {
-    good = m .shown .good;
-    reached = subst (λ (q : Moment (base S placed ok)). Reached (base S placed ok) q) (m .shown .seen) (m .next .reached);
-  })
-    where
-      m : Following (base S placed ok) (lawful S placed ok .Shows) (outset (base S placed ok)) (runs stepOf (begin S) calls)
-      m = moment (base S placed ok) (begin S) stepOf (lawful S placed ok) calls
+  seen calls = reaches calls .shown .seen ∙ ap (momentOf S placed ok) (runs-from (begin S) calls)
 
-  -- limits that a run keeps, it kept before its last calls
-  earlier : (before more : List Call) → Keeps (base S placed ok) (runOf S (before ++ more) .accepted) → Keeps (base S placed ok) (runOf S before .accepted)
+  kept : (calls : List Call) → Good S placed ok (runOf S calls)
   unfolding runOf lawful
-  earlier before more keeps =
-      kept-earlier (base S placed ok) (begin S) stepOf (lawful S placed ok) (momentOf S placed ok (runOf S before)) (further .to) (further .next)
-      (subst (λ (h : List Accepted). Keeps (base S placed ok) h) same keeps)
-    where
-      further : Following (base S placed ok) (lawful S placed ok .Shows) (momentOf S placed ok (runOf S before)) (runs stepOf (runOf S before) more)
-      further = leads (base S placed ok) (begin S) stepOf (lawful S placed ok) (runOf S before) more (momentOf S placed ok (runOf S before)) (sound before .reached) (record { good = sound before .good; seen = refl })
+  kept calls = subst (Good S placed ok) (runs-from (begin S) calls) (reaches calls .shown .good)
 
-      same : runOf S (before ++ more) .accepted ≡ further .to .posts
-      same =
-          ap (λ (r : Run). r .accepted) (from-append (begin S) before more ∙ sym (runs-from (runOf S before) more))
-          ∙ ap (λ (q : Moment (base S placed ok)). q .posts) (sym (further .shown .seen))
+  reached : (calls : List Call) → Reached (base S placed ok) (momentOf S placed ok (runOf S calls))
+  reached calls = subst (λ (q : Moment (base S placed ok)). Reached (base S placed ok) q) (seen calls) (reaches calls .next .reached)
 
-  -- no pending message is due
-  not-due : Fits (base S placed ok) → (calls : List Call) → Keeps (base S placed ok) (runOf S calls .accepted) → Each (λ m. runOf S calls .state .clock < m .deadline) (pending (runOf S calls .state))
-  not-due fits calls keeps m i =
-      let h : Has (pendingOf (runOf S calls)) m = pair-in (runOf S calls .names) (pending (runOf S calls .state)) (all-named S placed ok (runOf S calls) (sound calls .good)) i in
-      on-time (base S placed ok) fits (sound calls .reached) keeps (name (h .number) m) (h .here)
+  -- the same after more calls
+  abbrev further : (before more : List Call) → Following (base S placed ok) (lawful S placed ok .Shows) (reaches before .to) (runs stepOf (runs stepOf (begin S) before) more)
+  further before more = later (base S placed ok) (begin S) stepOf (lawful S placed ok) before more
+
+  seen-further : (before more : List Call) → further before more .to ≡ momentOf S placed ok (runOf S (before ++ more))
+  unfolding runOf lawful
+  seen-further before more =
+      further before more .shown .seen
+      ∙ ap (momentOf S placed ok) (ap (λ (r : Run). runs stepOf r more) (runs-from (begin S) before) ∙ runs-from (runFrom (begin S) before) more ∙ sym (from-append (begin S) before more))
+
+  -- demand 3 of the run, in the words of the deadline argument
+  run-left : Fits (base S placed ok) → (calls : List Call) → Keeps (base S placed ok) (runOf S calls .accepted) → AllLeft (base S placed ok) (momentOf S placed ok (runOf S calls))
+  run-left fits calls = subst (λ (q : Moment (base S placed ok)). Keeps (base S placed ok) (q .posts) → AllLeft (base S placed ok) q) (seen calls)
+      (all-left (base S placed ok) (begin S) stepOf (lawful S placed ok) fits calls)
+
+  run-none-due : Fits (base S placed ok) → (before more : List Call) → Keeps (base S placed ok) (runOf S (before ++ more) .accepted) → NoneDue (base S placed ok) (momentOf S placed ok (runOf S before))
+  run-none-due fits before more keeps = subst (λ (q : Moment (base S placed ok)). NoneDue (base S placed ok) q) (seen before)
+      (never-due-at (base S placed ok) (begin S) stepOf (lawful S placed ok) fits before more (subst (λ (q : Moment (base S placed ok)). Keeps (base S placed ok) (q .posts)) (sym (seen-further before more)) keeps))
+
+  -- and of its messages without their numbers
+  not-due : Fits (base S placed ok) → (before more : List Call) → Keeps (base S placed ok) (runOf S (before ++ more) .accepted) → Each (λ m. runOf S before .state .clock < m .deadline) (pending (runOf S before .state))
+  not-due fits before more keeps m i =
+      let h : Has (pendingOf (runOf S before)) m = pair-in (runOf S before .names) (pending (runOf S before .state)) (all-named S placed ok (runOf S before) (kept before)) i in
+      run-none-due fits before more keeps (name (h .number) m) (h .here)
 
 -- ---- DEMAND 3
 
@@ -113,23 +116,27 @@ at-cost S p d k e cut c = c ∙ ap (λ (n : ℕ). streamAt S n .cost) e
 
 pub demand-3 : Demand3
 unfolding Demand3
-demand-3 S placed v calls keeps p i reached = (out .departure, out .departure-in, record {
-  same = out .named ∙ out .of .named;
-  cost = at-cost S p (out .departure) (out .who .message .stream) (out .of .to) (out .departure .how) (out .told .cost);
-  time = omega (arith, out .in-time, out .of .until);
-})
+demand-3 S placed v calls keeps p i reached = (
+  out .departure,
+  out .departure-in,
+  record {
+    same = out .named ∙ out .of .named;
+    cost = at-cost S p (out .departure) (out .who .message .stream) (out .of .to) (out .departure .how) (out .told .cost);
+    time = omega (arith, out .in-time, out .of .until);
+  },
+)
   where
     ok : T (valid S)
     ok = accepted-valid S v
 
     out : Left (base S placed ok) (runOf S calls .departures) p
-    out = left-in-time (base S placed ok) (base-fits S placed ok (accepted-fits S v)) (sound S placed ok calls .reached) (base-keeps S placed ok (runOf S calls .accepted) keeps) p i reached
+    out = run-left S placed ok (base-fits S placed ok (accepted-fits S v)) calls (base-keeps S placed ok (runOf S calls .accepted) keeps) p i reached
 
 -- ---- what follows
 
 pub never-due : NeverDue
 unfolding NeverDue
-never-due S placed v before more keeps = not-due S placed ok (base-fits S placed ok (accepted-fits S v)) before (earlier S placed ok before more (base-keeps S placed ok (runOf S (before ++ more) .accepted) keeps))
+never-due S placed v before more keeps = not-due S placed ok (base-fits S placed ok (accepted-fits S v)) before more (base-keeps S placed ok (runOf S (before ++ more) .accepted) keeps)
   where
     ok : T (valid S)
     ok = accepted-valid S v
@@ -152,7 +159,7 @@ not-late s done h u (cuts v e) = laxity-left (chosenOf s .deadline) (s .clock + 
 not-late s done h u (stays v e) = tt
 
 pub no-late-answer : NoLateAnswer
-unfolding NoLateAnswer
+unfolding NoLateAnswer NeverDue
 no-late-answer S placed v calls keeps done = not-late (r .state) done early (unitOf (r .state) done) (unit-case (r .state) done)
   where
     ok : T (valid S)
@@ -161,16 +168,16 @@ no-late-answer S placed v calls keeps done = not-late (r .state) done early (uni
     r : Run
     r = runOf S calls
 
-    so : Sound S placed ok (runOf S calls)
-    so = sound S placed ok calls
+    keeps-still : KeepsLimits S (runOf S (calls ++ []) .accepted)
+    keeps-still = rw append-nil keeps
 
     early : Serving (r .state) → r .state .clock + 1 ≤ chosenOf (r .state) .deadline
     early w = omega (
       arith,
-      not-due S placed ok (base-fits S placed ok (accepted-fits S v)) calls (base-keeps S placed ok (r .accepted) keeps)
+      never-due S placed v calls [] keeps-still
           (getD (pending (r .state)) (placeOf (r .state)) noMessage)
-          (mem-getD (pending (r .state)) (placeOf (r .state)) noMessage (place-in S placed ok r (so .good) (so .reached) w)),
-      ap (λ (m : Message). m .deadline) (message-is (r .state) (so .good .places) (placeOf (r .state)) (place-low S placed ok r (so .good) (so .reached) w)),
+          (mem-getD (pending (r .state)) (placeOf (r .state)) noMessage (place-in S placed ok r (kept S placed ok calls) (reached S placed ok calls) w)),
+      ap (λ (m : Message). m .deadline) (message-is (r .state) (kept S placed ok calls .places) (placeOf (r .state)) (place-low S placed ok r (kept S placed ok calls) (reached S placed ok calls) w)),
     )
 
 -- ---- each number once
@@ -187,14 +194,12 @@ leaving S placed ok n ds = refl
 
 pub each-once : EachOnce
 unfolding EachOnce ifle
-each-once S placed ok calls n =
-    let so : Sound S placed ok (runOf S calls) = sound S placed ok calls in
-    omega (
-      arith,
-      once (base S placed ok) (so .reached) n,
-      waiting S placed ok n (runOf S calls .names) (pending (runOf S calls .state)) (all-named S placed ok (runOf S calls) (so .good)),
-      leaving S placed ok n (runOf S calls .departures),
-    )
+each-once S placed ok calls n = omega (
+  arith,
+  once (base S placed ok) (reached S placed ok calls) n,
+  waiting S placed ok n (runOf S calls .names) (pending (runOf S calls .state)) (all-named S placed ok (runOf S calls) (kept S placed ok calls)),
+  leaving S placed ok n (runOf S calls .departures),
+)
 
 -- ---- the code's runs are the runs of rules
 
@@ -202,7 +207,7 @@ step-last : (S : Set) (calls : List Call) (c : Call) → runOf S (calls ++ (c �
 unfolding runOf runFrom
 step-last S calls c = from-append (begin S) calls (c ∷ [])
 
-code-run : (S : Set) {calls : List Call} {r : Run} → CodeRun S calls r → r ≡ runOf S calls
+pub code-run : (S : Set) {calls : List Call} {r : Run} → CodeRun S calls r → r ≡ runOf S calls
 unfolding runOf runFrom begin stepOf
 code-run S (started q e) = ap (λ (q : StartResult). record { state = q .state; names = []; accepted = []; departures = [] }) e
 code-run S (posted {calls = calls} {r = r} made k q e) =
