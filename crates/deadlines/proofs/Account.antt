@@ -116,15 +116,16 @@ module _ (𝓜 : Model) where
   unfolding count
   count-last s x i h p = sum-last (λ q. cond (inWindow 𝓜 s x i q) 1 0) h p
 
-  -- a post at a clock from x to x + i is counted
-  count-new : (s x i : ℕ) (h : List Post) (p : Post) → postStream p ≡ s → x ≤ postClock p → postClock p ≤ x + i → count (inWindow 𝓜 s x i) (h ++ (p ∷ [])) ≡ count (inWindow 𝓜 s x i) h + 1
+  -- a post at a clock from x to x + i, both ends among them, is counted
+  in-window : (s x i : ℕ) (p : Post) → postStream p ≡ s → x ≤ postClock p → postClock p ≤ x + i → T (inWindow 𝓜 s x i p)
   unfolding inWindow
-  count-new s x i h p e a b = omega (
-    arith,
-    count-last s x i h p,
-    cond-yes (inWindow 𝓜 s x i p) 1 0 (both-pass (eqb (postStream p) s) (within x (postClock p) (x + i)) (same-pass (postStream p) s e)
-        (both-pass (leb x (postClock p)) (leb (postClock p) (x + i)) (le→leb x (postClock p) a) (le→leb (postClock p) (x + i) b))),
-  )
+  in-window s x i p e a b =
+      let from : T (leb x (postClock p)) = le→leb x (postClock p) a in
+      let to : T (leb (postClock p) (x + i)) = le→leb (postClock p) (x + i) b in
+      both-pass (eqb (postStream p) s) (within x (postClock p) (x + i)) (same-pass (postStream p) s e) (both-pass (leb x (postClock p)) (leb (postClock p) (x + i)) from to)
+
+  count-new : (s x i : ℕ) (h : List Post) (p : Post) → postStream p ≡ s → x ≤ postClock p → postClock p ≤ x + i → count (inWindow 𝓜 s x i) (h ++ (p ∷ [])) ≡ count (inWindow 𝓜 s x i) h + 1
+  count-new s x i h p e a b = omega (arith, count-last s x i h p, cond-yes (inWindow 𝓜 s x i p) 1 0 (in-window s x i p e a b))
 
   supply-mono : (D z : ℕ) (p : Post) (h : List Post) (s : ℕ) → supply D z h s ≤ supply D z (h ++ (p ∷ [])) s
   unfolding supply
