@@ -1,6 +1,10 @@
+-- Theorems about the definitions. Assumes nothing.
 pub mod Examples
-pub mod Verdicts
+pub mod Valid
 pub mod Finite
+pub mod Cycles
+pub mod Judge
+pub mod Verdicts
 pub mod Yard
 pub mod Runs
 pub mod Refusals

@@ -1,7 +1,7 @@
--- Worked steps that fix what set B's trace leaves open: ties, the cut, the laxity of a late message, both ends of a window, and document 01's
--- "Ways a cab has gone wrong", each computed from the definitions.
+-- Worked steps that fix what set B's trace leaves open: ties, the cut, the laxity of a late message, both ends of a window, and the first three of
+-- document 01's "Ways a cab has gone wrong", each computed from the definitions. The other two are rows of the yard's second table.
 -- Assumes nothing.
-use Prim.Native.Nat.{ℕ, _+_}
+use Prim.Native.Nat.{ℕ}
 use mathlib.Core.Bool.{Bool, true, false}
 use mathlib.Core.List.{List, [], _∷_}
 use mathlib.Core.Path.{_≡_, refl}
@@ -9,8 +9,7 @@ use lib.IntN.{pos, negsuc}
 use Rattle.laws.specs.Lists.{count}
 use Rattle.rules.specs.declared.Tuple.the-variants.{Once}
 use Rattle.rules.specs.declared.Set.{Set}
-use Rattle.rules.specs.Streams.{streamAt, streamsOf, limit}
-use Rattle.rules.specs.Load.{demand}
+use Rattle.rules.specs.Streams.{streamAt, limit}
 use Rattle.rules.specs.Sheet.{setOf}
 use Rattle.rules.specs.Runs.{Call, posts, units, Accepted, inWindow, answersOf}
 use Rattle.rules.specs.Numbers.{Says, posted, ran, done, cut, idle, refused}
@@ -55,11 +54,3 @@ pub both-ends : (count (inWindow 0 0 20) twenty ∷ limit (streamAt setB 0) 20 �
     ≡ (2 ∷ 2 ∷ 1 ∷ 1 ∷ [])
 unfolding computed
 both-ends = refl
-
--- "Counting only the largest blocking over all tasks. Every task can hold one started message."
-abbrev twoHeld : Set
-twoHeld = setOf (stream 0 1 9 (each 40) ∷ stream 0 5 30 (each 40) ∷ stream 1 1 9 (each 40) ∷ stream 1 4 30 (each 40) ∷ [])
-
-pub each-holds-one : demand (streamsOf twoHeld) 9 ≡ 1 + 1 + (4 + 3)
-unfolding computed
-each-holds-one = refl
