@@ -1,5 +1,5 @@
--- Worked steps that fix what set B's trace leaves open: ties, the cut, the laxity of a late message, both ends of a window, and the first three of
--- document 01's "Ways a cab has gone wrong", each computed from the definitions. The other two are rows of the yard's second table.
+-- Worked steps that fix what set B's trace leaves open: ties, the cut, the laxity of a late message, both ends of a window, whose task blocks, and
+-- the first four of document 01's "Ways a cab has gone wrong", each computed from the definitions. The fifth is a row of the yard's second table.
 -- Assumes nothing.
 use Prim.Native.Nat.{ℕ}
 use mathlib.Core.Bool.{Bool, true, false}
@@ -9,7 +9,8 @@ use lib.IntN.{pos, negsuc}
 use Rattle.laws.specs.Lists.{count}
 use Rattle.rules.specs.declared.Tuple.the-variants.{Once}
 use Rattle.rules.specs.declared.Set.{Set}
-use Rattle.rules.specs.Streams.{streamAt, limit}
+use Rattle.rules.specs.Streams.{streamAt, streamsOf, limit}
+use Rattle.rules.specs.Load.{demand}
 use Rattle.rules.specs.Sheet.{setOf}
 use Rattle.rules.specs.Runs.{Call, posts, units, Accepted, inWindow, answersOf}
 use Rattle.rules.specs.Numbers.{Says, posted, ran, done, cut, idle, refused}
@@ -54,3 +55,15 @@ pub both-ends : (count (inWindow 0 0 20) twenty ∷ limit (streamAt setB 0) 20 �
     ≡ (2 ∷ 2 ∷ 1 ∷ 1 ∷ [])
 unfolding computed
 both-ends = refl
+
+-- "Counting only the largest blocking over all tasks. Every task can hold one started message."
+abbrev heldTwice : Set
+heldTwice = setOf (stream 0 1 9 (each 40) ∷ stream 0 5 30 (each 40) ∷ stream 1 1 9 (each 40) ∷ stream 1 4 30 (each 40) ∷ [])
+
+-- 1 for each of the two urgent streams, 4 and 3 held. "0 unless it has a stream with d not above I": at 5 task 1 has none
+abbrev apart : Set
+apart = setOf (stream 0 2 5 (each 10) ∷ stream 1 6 20 (each 20) ∷ [])
+
+pub blocked : (demand (streamsOf heldTwice) 9 ∷ demand (streamsOf apart) 5 ∷ []) ≡ (9 ∷ 2 ∷ [])
+unfolding computed
+blocked = refl

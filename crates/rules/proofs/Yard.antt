@@ -103,10 +103,6 @@ yard =
     ∷ sheet taskThree (0x10 ∷ 0x98 ∷ 0x00 ∷ 0x10 ∷ 0x00 ∷ 0x0A ∷ 0x00 ∷ 0x00 ∷ 0x50 ∷ 0x00 ∷ 0x00 ∷ [])
     ∷ []
 
--- "Counting only the largest blocking over all tasks. Every task can hold one started message."
-abbrev heldTwice : Set
-heldTwice = setOf (cyclic 0 1 2 20 ∷ cyclic 0 4 20 20 ∷ cyclic 1 1 2 20 ∷ cyclic 1 6 20 20 ∷ [])
-
 -- "Testing up to the longest deadline and calling that all lengths": 5 is the longest deadline, and 6 is late
 abbrev lateAfter : Set
 lateAfter =
@@ -120,15 +116,19 @@ lateAfter =
     }
     ∷ [])
 
--- "Ways a cab has gone wrong" and "no bytes (5); `10` (5); `20 00` (6); `10 01` (10); `10 00 00` (10)"
+-- the fifth of the "Ways a cab has gone wrong", and "no bytes (5); `10` (5); `20 00` (6); `10 01` (10); `10 00 00` (10)"
 abbrev pub faults : List Row
 faults =
-    demands heldTwice 2 10 ∷ judged heldTwice (late 2 10)
-    ∷ demands lateAfter 5 4 ∷ judged lateAfter (late 6 12)
+    demands lateAfter 5 4 ∷ judged lateAfter (late 6 12)
     ∷ no-sheet [] 5 ∷ no-sheet (0x10 ∷ []) 5 ∷ no-sheet (0x20 ∷ 0x00 ∷ []) 6 ∷ no-sheet (0x10 ∷ 0x01 ∷ []) 10 ∷ no-sheet (0x10 ∷ 0x00 ∷ 0x00 ∷ []) 10
     ∷ []
 
 -- ---- the tables are true
+
+-- one row more
+infixr 20 _and_
+abbrev _and_ : {P Q : Type 0} → P → Q → P × Q
+p and q = (p, q)
 
 -- a verdict that antt computes
 worked : (x : Set) (says : Says) → verdictSays (judge x) ≡ says → Judges x says
@@ -150,92 +150,20 @@ w7 i = ap gives (w7-demand i)
 
 pub yard-true : All True yard
 unfolding computed judge judgeBy judgeFrom hOf lastLength greatestDeadline greatestOffset streamOffset
-yard-true = (
-  refl,
-  (
-    refl,
-    (
-      worked setB accept refl,
-      (
-        refl,
-        (
-          refl,
-          (
-            worked (pair 0 6) (late 5 7) refl,
-            (
-              refl,
-              (
-                worked (pair 1 6) accept refl,
-                (
-                  refl,
-                  (
-                    worked (pair 0 4) accept refl,
-                    (
-                      worked (pair 0 5) (late 5 6) refl,
-                      (
-                        w7,
-                        (
-                          worked unitEach accept refl,
-                          (
-                            worked unitTwice overload refl,
-                            (
-                              worked onceTwice (late 3 6) refl,
-                              (
-                                worked longCycles (refused 8) refl,
-                                (
-                                  record { written = refl; back = refl },
-                                  (
-                                    worked emptySet accept refl,
-                                    (
-                                      record { written = refl; back = refl },
-                                      tt,
-                                    ),
-                                  ),
-                                ),
-                              ),
-                            ),
-                          ),
-                        ),
-                      ),
-                    ),
-                  ),
-                ),
-              ),
-            ),
-          ),
-        ),
-      ),
-    ),
-  ),
-)
+yard-true =
+    refl and refl and worked setB accept refl
+    and refl and refl and worked (pair 0 6) (late 5 7) refl
+    and refl and worked (pair 1 6) accept refl
+    and refl and worked (pair 0 4) accept refl
+    and worked (pair 0 5) (late 5 6) refl
+    and w7 and worked unitEach accept refl
+    and worked unitTwice overload refl
+    and worked onceTwice (late 3 6) refl
+    and worked longCycles (refused 8) refl
+    and record { written = refl; back = refl } and worked emptySet accept refl
+    and record { written = refl; back = refl }
+    and tt
 
 pub faults-true : All True faults
 unfolding computed judge judgeBy judgeFrom hOf lastLength greatestDeadline greatestOffset streamOffset
-faults-true = (
-  refl,
-  (
-    worked heldTwice (late 2 10) refl,
-    (
-      refl,
-      (
-        worked lateAfter (late 6 12) refl,
-        (
-          refl,
-          (
-            refl,
-            (
-              refl,
-              (
-                refl,
-                (
-                  refl,
-                  tt,
-                ),
-              ),
-            ),
-          ),
-        ),
-      ),
-    ),
-  ),
-)
+faults-true = refl and worked lateAfter (late 6 12) refl and refl and refl and refl and refl and refl and tt
