@@ -18,7 +18,7 @@ use Rattle.rules.specs.Load.{due, urgent, held, blocking, demand}
 use Rattle.rules.specs.Runs.{Accepted, Departure, KeepsLimits}
 use Rattle.deadlines.specs.Model.{Model, Keeps, Fits, inWindow, due as modelDue, blocked, demand as modelDemand}
 use Rattle.promise.specs.Kind.{Named, Fine, restOf, holdOf, capOf, Urged, Tells}
-use Rattle.promise.proofs.Valid.{streams-length, stream-is, stream-member, stream-ranged}
+use Rattle.promise.proofs.Valid.{streams-length, stream-is, stream-member, stream-valid}
 
 module _ (S : Set) where
   pub hold-started : (m : Named) → 0 < m .message .used → holdOf S m ≡ restOf S m
@@ -42,7 +42,7 @@ module _ (S : Set) where
       (λ (h : m .message .used < 1). omega arith)
       (le-or-lt 1 (m .message .used))
 
-  module _ (placed : Placed S) (ok : T (valid S)) where
+  module _ (placed : Placed S) (ok : valid S ≡ true) where
     -- a started message is one of those that the load check counts as blocking
     pub held-of : (m : Named) → Fine S m → (i : ℕ) → i < spanOf S (m .message) → holdOf S m ≤ capOf S (taskOf S (m .message)) i
     held-of m f i h = omega (
@@ -89,7 +89,7 @@ module _ (S : Set) where
       blocking = λ t i. blocking (streamsOf S) i t;
       blocking-urgent = blocking-of;
       live = λ m f. omega (arith, f .used-in);
-      task-in = λ m f. stream-ranged S placed ok (m .message .stream) (f .stream-in) .task-in;
+      task-in = λ m f. omega (arith, stream-valid S placed ok (m .message .stream) (f .stream-in) .task);
       held = held-of;
       urges = urges-of;
     }

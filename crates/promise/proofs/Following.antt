@@ -11,6 +11,7 @@ use lib.ListN.{length, getD, take, drop, length-append, length-drop, length-set}
 use lib.Seq.{length-take-le}
 use lib.Dec.{T}
 use Rattle.laws.specs.Lists.{remove}
+use Rattle.laws.proofs.Sums.{false-true}
 use Rattle.laws.proofs.Gates.{le-or-lt, Each, mem-getD, mem-here, length-remove}
 use Rattle.rules.specs.declared.Set.{Set}
 use Rattle.rules.specs.declared.Message.{Message}
@@ -28,7 +29,7 @@ use Rattle.deadlines.specs.Model.{Model, Of, New, Choice, Stays, Leaves, leaves
 use Rattle.deadlines.specs.Machine.{Moment, outset, Reached, Next, Following, Lawful}
 use Rattle.deadlines.proofs.Formed.{Formed, formed}
 use Rattle.promise.specs.Kind.{Named, paired, pendingOf, Fine, restOf, holdOf, CutAtCost, Tells}
-use Rattle.promise.proofs.Valid.{stream-ranged}
+use Rattle.promise.proofs.Valid.{stream-valid}
 use Rattle.promise.proofs.Choosing.{Chosen, served-in, served-chosen}
 use Rattle.promise.proofs.Cases.{PostCase, refuses, accepts, post-case, Serving, UnitCase, unit-case, stops, idles, finishes, cuts, runs, pending-length, pending-added, message-is, pending-stayed, pending-departed}
 use Rattle.promise.proofs.Pairing.{name, paired-last, message-in, Has, pair-in, before, behind, pairs-split, pairs-without, pairs-with}
@@ -39,7 +40,7 @@ unfolding paired
 paired-none [] = refl
 paired-none (n ∷ ns) = refl
 
-module _ (S : Set) (placed : Placed S) (ok : T (valid S)) where
+module _ (S : Set) (placed : Placed S) (ok : valid S ≡ true) where
   -- what a run from the start of S keeps of its state and its names
   pub record Good (r : Run) : Type 0 where
     pub set-is : r .state .set ≡ S
@@ -75,7 +76,7 @@ module _ (S : Set) (placed : Placed S) (ok : T (valid S)) where
         message = record { named = refl; to = refl; until = ap (λ (x : Set). r .state .clock + streamAt x k .deadline) (g .set-is) };
         whole = omega arith;
         unstarted = hold-unstarted S (name (length (r .accepted)) (newMessage (r .state) k)) refl;
-        fine = record { stream-in = inside; used-in = stream-ranged S placed ok k inside .cost-in };
+        fine = record { stream-in = inside; used-in = stream-valid S placed ok k inside .cost .low };
       }
 
   pub post-step : (r : Run) (k : ℕ) → Good r → Reached (base S placed ok) (momentOf r) → (p : PostResult) → PostCase (r .state) k p → Stepped r (afterPost r k (p .state) (p .answer))
@@ -117,12 +118,12 @@ module _ (S : Set) (placed : Placed S) (ok : T (valid S)) where
     tasks-in : Each (λ m. taskOf S m < 16) (pending (r .state))
     tasks-in m q =
         let h : Has (pendingOf r) m = of-message q in
-        stream-ranged S placed ok (m .stream) (f .fine (name (h .number) m) (h .here) .stream-in) .task-in
+        omega (arith, stream-valid S placed ok (m .stream) (f .fine (name (h .number) m) (h .here) .stream-in) .task)
 
     deadlines-in : Each (λ m. m .deadline < never) (pending (r .state))
     deadlines-in m q =
         let h : Has (pendingOf r) m = of-message q in
-        omega (arith, f .soon (name (h .number) m) (h .here), v .early, stream-ranged S placed ok (m .stream) (f .fine (name (h .number) m) (h .here) .stream-in) .span-in)
+        omega (arith, f .soon (name (h .number) m) (h .here), v .early, stream-valid S placed ok (m .stream) (f .fine (name (h .number) m) (h .here) .stream-in) .deadline .high)
 
     some-in : List·Memᴰ (getD (pending (r .state)) 0 noMessage) (pending (r .state))
     some-in = mem-getD (pending (r .state)) 0 noMessage (omega (arith, l-length, v .some))
@@ -292,9 +293,9 @@ module _ (S : Set) (placed : Placed S) (ok : T (valid S)) where
   unfolding startOf
   start-is = go (valid S) ok
     where
-      go : (b : Bool) → T b → cond {A = StartResult} b (record { answer = Started; state = fresh S }) (record { answer = StartRefused OutOfRule; state = fresh emptySet }) ≡ record { answer = Started; state = fresh S }
-      go true t = refl
-      go false t = absurd t
+      go : (b : Bool) → b ≡ true → cond {A = StartResult} b (record { answer = Started; state = fresh S }) (record { answer = StartRefused OutOfRule; state = fresh emptySet }) ≡ record { answer = Started; state = fresh S }
+      go true e = refl
+      go false e = false-true e
 
   begin-is : begin S ≡ record { state = fresh S; names = []; accepted = []; departures = [] }
   unfolding begin

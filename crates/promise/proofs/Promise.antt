@@ -39,15 +39,15 @@ use Rattle.promise.proofs.Following.{Good, all-named, momentOf, lawful,
 
 -- ---- an accepted set is valid, and demand fits in every length
 
-verdict-valid : (b : Bool) (ss : List Stream) → VerdictIf b ss Accept → T b
-verdict-valid true ss v = tt
+verdict-valid : (b : Bool) (ss : List Stream) → VerdictIf b ss Accept → b ≡ true
+verdict-valid true ss v = refl
 verdict-valid false ss v = absurd (let z : _≡_ {A = ℕ} 0 1 = cc in omega arith)
 
 verdict-fits : (b : Bool) (ss : List Stream) → VerdictIf b ss Accept → (i : ℕ) → demand ss i ≤ i
 verdict-fits true ss v = v .judged .fits
 verdict-fits false ss v = absurd (let z : _≡_ {A = ℕ} 0 1 = cc in omega arith)
 
-accepted-valid : (S : Set) → VerdictOf S Accept → T (valid S)
+accepted-valid : (S : Set) → VerdictOf S Accept → valid S ≡ true
 unfolding VerdictOf
 accepted-valid S v = verdict-valid (valid S) (streamsOf S) v
 
@@ -67,7 +67,7 @@ unfolding runFrom
 from-append r [] ds = refl
 from-append r (c ∷ cs) ds = from-append (stepOf r c) cs ds
 
-module _ (S : Set) (placed : Placed S) (ok : T (valid S)) where
+module _ (S : Set) (placed : Placed S) (ok : valid S ≡ true) where
   -- the moment that the deadline argument has after these calls is that of the run
   abbrev reaches : (calls : List Call) → Following (base S placed ok) (lawful S placed ok .Shows) (outset (base S placed ok)) (runs stepOf (begin S) calls)
   reaches calls = moment (base S placed ok) (begin S) stepOf (lawful S placed ok) calls
@@ -126,7 +126,7 @@ demand-3 S placed v calls keeps p i reached = (
   },
 )
   where
-    ok : T (valid S)
+    ok : valid S ≡ true
     ok = accepted-valid S v
 
     out : Left (base S placed ok) (runOf S calls .departures) p
@@ -138,7 +138,7 @@ pub never-due : NeverDue
 unfolding NeverDue
 never-due S placed v before more keeps = not-due S placed ok (base-fits S placed ok (accepted-fits S v)) before more (base-keeps S placed ok (runOf S (before ++ more) .accepted) keeps)
   where
-    ok : T (valid S)
+    ok : valid S ≡ true
     ok = accepted-valid S v
 
 -- the laxity is what is left until the deadline, where that is not past
@@ -162,7 +162,7 @@ pub no-late-answer : NoLateAnswer
 unfolding NoLateAnswer NeverDue
 no-late-answer S placed v calls keeps done = not-late (r .state) done early (unitOf (r .state) done) (unit-case (r .state) done)
   where
-    ok : T (valid S)
+    ok : valid S ≡ true
     ok = accepted-valid S v
 
     r : Run
@@ -182,13 +182,13 @@ no-late-answer S placed v calls keeps done = not-late (r .state) done early (uni
 
 -- ---- each number once
 
-waiting : (S : Set) (placed : Placed S) (ok : T (valid S)) (n : ℕ) (ns : List ℕ) (ms : List Message) → length ns ≡ length ms → sum (named (base S placed ok) n) (paired ns ms) ≡ count (waitsAs n) ns
+waiting : (S : Set) (placed : Placed S) (ok : valid S ≡ true) (n : ℕ) (ns : List ℕ) (ms : List Message) → length ns ≡ length ms → sum (named (base S placed ok) n) (paired ns ms) ≡ count (waitsAs n) ns
 unfolding paired count sum named ifeq
 waiting S placed ok n [] ms e = refl
 waiting S placed ok n (k ∷ ns) [] e = absurd (omega arith)
 waiting S placed ok n (k ∷ ns) (m ∷ ms) e = ap (λ (q : ℕ). cond (eqb k n) 1 0 + q) (waiting S placed ok n ns ms (omega arith))
 
-leaving : (S : Set) (placed : Placed S) (ok : T (valid S)) (n : ℕ) (ds : List Departure) → sum (gone (base S placed ok) n) ds ≡ count (leftAs n) ds
+leaving : (S : Set) (placed : Placed S) (ok : valid S ≡ true) (n : ℕ) (ds : List Departure) → sum (gone (base S placed ok) n) ds ≡ count (leftAs n) ds
 unfolding count gone ifeq
 leaving S placed ok n ds = refl
 

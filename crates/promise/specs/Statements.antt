@@ -1,11 +1,11 @@
 -- What follows from demand 3 or stands beside it: no pending message is ever due, no laxity is negative, no message leaves twice, and all of it of the code.
 -- Demand 3 itself is `Demand3` of rules. Assumes nothing.
 use Prim.Native.Nat.{ℕ, _+_, _≤_, _<_}
-use mathlib.Core.Bool.{Bool, cond}
+use mathlib.Core.Bool.{Bool, true, cond}
 use mathlib.Core.List.{List, [], _∷_, _++_, List·Memᴰ}
 use mathlib.Core.Path.{_≡_}
 use lib.ListN.{length}
-use lib.Dec.{T, ltb, eqb}
+use lib.Dec.{ltb, eqb}
 use lib.IntN.{ℤ, pos}
 use lib.Signed.{_≤ℤ_}
 use Rattle.laws.specs.Lists.{count}
@@ -52,7 +52,7 @@ waitsAs n k = eqb k n
 
 unfoldable pub EachOnce : Type 0
 EachOnce =
-    (S : Set) → Placed S → T (valid S) → (calls : List Call) → (n : ℕ)
+    (S : Set) → Placed S → valid S ≡ true → (calls : List Call) → (n : ℕ)
     → count (waitsAs n) (runOf S calls .names) + count (leftAs n) (runOf S calls .departures) ≡ cond (ltb n (length (runOf S calls .accepted))) 1 0
 
 -- The run that a program makes with the functions of the crate scheduler: each result is one that the function's contract allows.
