@@ -9,7 +9,7 @@ use mathlib.Core.List.{List, [], _∷_, _++_, map}
 use native.Mathlib.Omega.{arith}
 use native.Mathlib.Numerals.{add-one}
 use native.Mathlib.Nat.{eq-or-lt-of-le}
-use borrow.Author.Tests.{eqb-true, eqb-false, leb-true, leb-false, le-leb, lt-leb}
+use borrow.Author.Tests.{eqb-true, eqb-false, ltb-true, ltb-false, leb-true, leb-false, le-leb, lt-leb}
 use lib.Dec.{ltb, leb, eqb}
 use lib.ListN.{length, getD, take, drop, set, length-take, length-append, drop-of-length-le, length-map, List·getD-eq-default}
 use lib.Seq.{drop-cons, getD-take, take-all, take-append-le}
@@ -241,3 +241,64 @@ pub leb-less : (d s c : ℕ) → leb (d - s) c ≡ leb d (c + s)
 leb-less d s c =
     by-test (leb d (c + s)) (λ e. le-leb (d - s) c (omega (arith, leb-true d (c + s) e)) ∙ sym e)
     (λ e. lt-leb (d - s) c (omega (arith, leb-false d (c + s) e)) ∙ sym e)
+
+-- ---- the first element that passes a test
+
+module _ {A : Type 0} (p : A → Bool) (d : A) where
+  pub find-le : (l : List A) → find p l ≤ length l
+  unfolding find
+  find-le [] = omega arith
+  find-le (x ∷ l) = by-test (p x) (λ e. rw e (omega arith)) (λ e. rw e (omega (arith, find-le l)))
+
+  -- it passes, if there is one
+  pub find-passes : (l : List A) → find p l < length l → p (getD l (find p l) d) ≡ true
+  unfolding find
+  find-passes [] h = absurd (let z : 0 < 0 = h in omega arith)
+  find-passes (x ∷ l) h = by-test (p x) (λ e. rw e e) (λ e. rw e (find-passes l (less e)))
+    where
+      less : p x ≡ false → find p l < length l
+      less e = let z : suc (find p l) < suc (length l) = rw e at h in omega arith
+
+  -- none before it does
+  pub find-before : (l : List A) (j : ℕ) → j < find p l → p (getD l j d) ≡ false
+  unfolding find
+  find-before [] j h = absurd (let z : j < 0 = h in omega arith)
+  find-before (x ∷ l) zero h = by-test (p x) (λ e. absurd (let z : 0 < 0 = rw e at h in omega arith)) (λ e. e)
+  find-before (x ∷ l) (suc j) h =
+      by-test (p x) (λ e. absurd (let z : suc j < 0 = rw e at h in omega arith)) (λ e. find-before l j (let z : suc j < suc (find p l) = rw e at h in omega arith))
+
+  -- there is one, if one passes
+  pub find-within : (l : List A) (j : ℕ) → j < length l → p (getD l j d) ≡ true → find p l < length l
+  unfolding find
+  find-within [] j h e = absurd (let z : j < 0 = h in omega arith)
+  find-within (x ∷ l) zero h e = rw e (omega arith)
+  find-within (x ∷ l) (suc j) h e = by-test (p x) (λ q. rw q (omega arith)) (λ q. rw q (omega (arith, find-within l j (omega arith) e)))
+
+-- ---- the first number at which f is least: it is below n, no other is less, and those before it are greater
+
+module _ (f : ℕ → ℕ) where
+  pub first-least-lt : (n : ℕ) → 0 < n → firstLeast f n < n
+  unfolding firstLeast
+  first-least-lt zero h = absurd (let z : 0 < 0 = h in omega arith)
+  first-least-lt (suc zero) h = by-test (ltb (f 0) (f 0)) (λ e. rw e (omega arith)) (λ e. rw e (omega arith))
+  first-least-lt (suc (suc n)) h =
+      by-test (ltb (f (suc n)) (f (firstLeast f (suc n)))) (λ e. rw e (omega arith)) (λ e. rw e (omega (arith, first-least-lt (suc n) (omega arith))))
+
+  pub first-least-least : (n k : ℕ) → k < n → f (firstLeast f n) ≤ f k
+  unfolding firstLeast
+  first-least-least zero k h = absurd (let z : k < 0 = h in omega arith)
+  first-least-least (suc n) k h =
+      by-test (ltb (f n) (f (firstLeast f n)))
+      (λ e. rw e (upto k h (λ x. omega (arith, ltb-true (f n) (f (firstLeast f n)) e, first-least-least n k x)) (omega arith)))
+      (λ e. rw e (upto k h (λ x. first-least-least n k x) (ltb-false (f n) (f (firstLeast f n)) e)))
+    where
+      upto : {v : ℕ} (k : ℕ) → k < suc n → (k < n → v ≤ f k) → v ≤ f n → v ≤ f k
+      upto {v} k h g q = ⊎-elim (λ (x : k ≡ n). rw x q) (λ (x : k < n). g x) (eq-or-lt-of-le (omega arith))
+
+  pub first-least-first : (n k : ℕ) → k < firstLeast f n → f (firstLeast f n) < f k
+  unfolding firstLeast
+  first-least-first zero k h = absurd (let z : k < 0 = h in omega arith)
+  first-least-first (suc n) k h =
+      by-test (ltb (f n) (f (firstLeast f n)))
+      (λ e. rw e (omega (arith, ltb-true (f n) (f (firstLeast f n)) e, first-least-least n k (let z : k < n = rw e at h in z))))
+      (λ e. rw e (first-least-first n k (let z : k < firstLeast f n = rw e at h in z)))
