@@ -185,6 +185,18 @@ module _ {A : Type 0} where
   mem-getD (x ∷ xs) zero d h = List·Memᴰ·head refl
   mem-getD (x ∷ xs) (suc k) d h = List·Memᴰ·tail (mem-getD xs k d (omega arith))
 
+  -- the place of a member
+  pub record Placed-at (l : List A) (d m : A) : Type 0 where
+    pub place : ℕ
+    pub inside : place < length l
+    pub there : getD l place d ≡ m
+
+  pub mem-at : (l : List A) (d : A) {m : A} → List·Memᴰ m l → Placed-at l d m
+  mem-at (x ∷ l) d (List·Memᴰ·head e) = record { place = 0; inside = omega arith; there = sym e }
+  mem-at (x ∷ l) d (List·Memᴰ·tail i) =
+      let p : Placed-at l d _ = mem-at l d i in
+      record { place = suc (p .place); inside = omega (arith, p .inside); there = p .there }
+
   pub each-nil : (P : A → Type 0) → Each P []
   each-nil P m q = absurd (List·Memᴰ·not-nil q)
 
@@ -212,96 +224,3 @@ module _ {A : Type 0} where
       tail : List·Memᴰ m (x ∷ ys) → (m ≡ x) ⊎ List·Memᴰ m (xs ++ (r ++ ys))
       tail (List·Memᴰ·head e) = inl e
       tail (List·Memᴰ·tail q) = inr (Memᴰ·append-right xs (Memᴰ·append-right r q))
-
-  pub all-each : (p : A → Bool) (l : List A) → T (all p l) → Each (λ m. T (p m)) l
-  unfolding all
-  all-each p [] t m i = absurd (List·Memᴰ·not-nil i)
-  all-each p (x ∷ xs) t m (List·Memᴰ·head e) = subst (λ (y : A). T (p y)) (sym e) (both-left (p x) (all p xs) t)
-  all-each p (x ∷ xs) t m (List·Memᴰ·tail i) = all-each p xs (both-right (p x) (all p xs) t) m i
-
-  -- ---- a place taken out
-
-  pub length-remove : (d : A) (i : ℕ) (l : List A) → length (remove d i l) ≡ length l
-  unfolding remove
-  length-remove d i [] = refl
-  length-remove d zero (x ∷ xs) = omega (arith, length-append xs (d ∷ []))
-  length-remove d (suc i) (x ∷ xs) = ap suc (length-remove d i xs)
-
-  -- the first n places, of which the place i is taken out
-  pub take-remove : (d : A) (i n : ℕ) (l : List A) → i ≤ n → n < length l → take n (remove d i l) ≡ take i (take (suc n) l) ++ drop (suc i) (take (suc n) l)
-  unfolding remove
-  take-remove d i n [] h g = absurd (omega arith)
-  take-remove d zero n (x ∷ xs) h g = take-append-le n xs (d ∷ []) (omega arith)
-  take-remove d (suc i) zero (x ∷ xs) h g = absurd (omega arith)
-  take-remove d (suc i) (suc n) (x ∷ xs) h g = ap (λ (l : List A). x ∷ l) (take-remove d i n xs (omega arith) (omega arith))
-
-  -- ---- the first that passes a test
-
-  pub find-hit : (p : A → Bool) (l : List A) (d : A) → find p l < length l → T (p (getD l (find p l) d))
-  unfolding find
-  find-hit p [] d h = absurd (omega arith)
-  find-hit p (x ∷ xs) d h = go (p x) refl h (λ q. find-hit p xs d q)
-    where
-      go : (b : Bool) → p x ≡ b → cond b 0 (suc (find p xs)) < suc (length xs) → (find p xs < length xs → T (p (getD xs (find p xs) d))) → T (p (getD (x ∷ xs) (cond b 0 (suc (find p xs))) d))
-      go true e q rest = subst T (sym e) tt
-      go false e q rest = rest (omega arith)
-
-  pub find-miss : (p : A → Bool) (l : List A) → length l ≤ find p l → Each (λ m. T (p m) → ⊥) l
-  unfolding find
-  find-miss p [] h m i t = List·Memᴰ·not-nil i
-  find-miss p (x ∷ xs) h m (List·Memᴰ·head e) t = go (p x) refl h
-    where
-      go : (b : Bool) → p x ≡ b → suc (length xs) ≤ cond b 0 (suc (find p xs)) → ⊥
-      go true q g = omega arith
-      go false q g = subst T (ap p e ∙ q) t
-  find-miss p (x ∷ xs) h m (List·Memᴰ·tail i) t = go (p x) h (λ q. find-miss p xs q m i t)
-    where
-      go : (b : Bool) → suc (length xs) ≤ cond b 0 (suc (find p xs)) → (length xs ≤ find p xs → ⊥) → ⊥
-      go true g rest = omega arith
-      go false g rest = rest (omega arith)
-
-  -- a member that passes is found
-  pub find-in : (p : A → Bool) {m : A} (l : List A) → List·Memᴰ m l → T (p m) → find p l < length l
-  find-in p {m} l i t = ⊎-elim
-      (λ (h : length l ≤ find p l). absurd (find-miss p l h m i t))
-      (λ (h : find p l < length l). h)
-      (le-or-lt (length l) (find p l))
-
--- each test of a list of tests that all pass
-pub every-each : (ts : List Bool) → T (every ts) → Each (λ b. T b) ts
-every-each [] t b i = absurd (List·Memᴰ·not-nil i)
-every-each (u ∷ []) t b i = subst T (sym (List·Memᴰ·eq-of-singleton i)) t
-every-each (u ∷ (v ∷ ts)) t b (List·Memᴰ·head e) = subst T (sym e) (both-left u (every (v ∷ ts)) t)
-every-each (u ∷ (v ∷ ts)) t b (List·Memᴰ·tail i) = every-each (v ∷ ts) (both-right u (every (v ∷ ts)) t) b i
-
--- what f makes of a list is counted as the list is
-pub sum-map : {A B : Type 0} (g : B → ℕ) (f : A → B) (l : List A) → sum g (map f l) ≡ sum (λ x. g (f x)) l
-unfolding sum
-sum-map g f [] = refl
-sum-map g f (x ∷ xs) = omega (arith, sum-map g f xs)
-
--- ---- the first number at which f is least
-
-pub firstLeast-in : (f : ℕ → ℕ) (n : ℕ) → firstLeast f (suc n) < suc n
-unfolding firstLeast
-firstLeast-in f zero = go (ltb (f 0) (f 0))
-  where
-    go : (b : Bool) → cond b 0 0 < 1
-    go true = omega arith
-    go false = omega arith
-firstLeast-in f (suc n) = go (ltb (f (suc n)) (f (firstLeast f (suc n)))) (firstLeast-in f n)
-  where
-    go : (b : Bool) → firstLeast f (suc n) < suc n → cond b (suc n) (firstLeast f (suc n)) < suc (suc n)
-    go true h = omega arith
-    go false h = omega arith
-
-pub firstLeast-least : (f : ℕ → ℕ) (n k : ℕ) → k < n → f (firstLeast f n) ≤ f k
-unfolding firstLeast
-firstLeast-least f zero k h = absurd (omega arith)
-firstLeast-least f (suc n) k h = go (ltb (f n) (f (firstLeast f n))) (ltb→lt (f n) (f (firstLeast f n))) (nltb→le (f n) (f (firstLeast f n))) (eq-or-ne k n) (λ (q : k < n). firstLeast-least f n k q)
-  where
-    go : (b : Bool) → (T b → f n < f (firstLeast f n)) → (T (not b) → f (firstLeast f n) ≤ f n) → (k ≡ n) ⊎ (k ≢ n) → (k < n → f (firstLeast f n) ≤ f k) → f (cond b n (firstLeast f n)) ≤ f k
-    go true s u (inl e) rest = omega (arith, ap f e)
-    go true s u (inr e) rest = omega (arith, s tt, rest (omega arith))
-    go false s u (inl e) rest = omega (arith, ap f e, u tt)
-    go false s u (inr e) rest = rest (omega arith)

@@ -18,7 +18,7 @@ use Rattle.rules.specs.Load.{due, urgent, held, blocking, demand}
 use Rattle.rules.specs.Runs.{Accepted, Departure, KeepsLimits}
 use Rattle.deadlines.specs.Model.{Model, Keeps, Fits, inWindow, due as modelDue, blocked, demand as modelDemand}
 use Rattle.promise.specs.Kind.{Named, Fine, restOf, holdOf, capOf, Urged, Tells}
-use Rattle.promise.proofs.Valid.{streams-length, stream-is, stream-member, stream-valid}
+use Rattle.keeps.proofs.Valid.{streams-length, stream-is, stream-member, stream-valid}
 
 module _ (S : Set) where
   pub hold-started : (m : Named) → 0 < m .message .used → holdOf S m ≡ restOf S m

@@ -12,7 +12,8 @@ use lib.Seq.{length-take-le}
 use lib.Dec.{T}
 use Rattle.laws.specs.Lists.{remove}
 use Rattle.laws.proofs.Sums.{false-true}
-use Rattle.laws.proofs.Gates.{le-or-lt, Each, mem-getD, mem-here, length-remove}
+use Rattle.laws.proofs.Gates.{le-or-lt, Each, mem-getD, mem-here}
+use Rattle.laws.proofs.Parts.{length-remove}
 use Rattle.rules.specs.declared.Set.{Set}
 use Rattle.rules.specs.declared.Message.{Message}
 use Rattle.rules.specs.declared.State.{State}
@@ -29,9 +30,11 @@ use Rattle.deadlines.specs.Model.{Model, Of, New, Choice, Stays, Leaves, leaves
 use Rattle.deadlines.specs.Machine.{Moment, outset, Reached, Next, Following, Lawful}
 use Rattle.deadlines.proofs.Formed.{Formed, formed}
 use Rattle.promise.specs.Kind.{Named, paired, pendingOf, Fine, restOf, holdOf, CutAtCost, Tells}
-use Rattle.promise.proofs.Valid.{stream-valid}
-use Rattle.promise.proofs.Choosing.{Chosen, served-in, served-chosen}
-use Rattle.promise.proofs.Cases.{PostCase, refuses, accepts, post-case, Serving, UnitCase, unit-case, stops, idles, finishes, cuts, runs, pending-length, pending-added, message-is, pending-stayed, pending-departed}
+use Rattle.keeps.proofs.Valid.{stream-valid}
+use Rattle.choosing.specs.Words.{at, Served}
+use Rattle.choosing.proofs.Choice.{served as served-by-words}
+use Rattle.promise.proofs.Choosing.{Chosen, chosen-of}
+use Rattle.keeps.proofs.Cases.{PostCase, refuses, accepts, post-case, Serving, UnitCase, unit-case, stops, idles, finishes, cuts, runs, pending-length, pending-added, message-is, pending-stayed, pending-departed}
 use Rattle.promise.proofs.Pairing.{name, paired-last, message-in, Has, pair-in, before, behind, pairs-split, pairs-without, pairs-with}
 use Rattle.promise.proofs.Base.{hold-started, hold-unstarted, started-hold, base}
 
@@ -125,13 +128,18 @@ module _ (S : Set) (placed : Placed S) (ok : valid S ≡ true) where
         let h : Has (pendingOf r) m = of-message q in
         omega (arith, f .soon (name (h .number) m) (h .here), v .early, stream-valid S placed ok (m .stream) (f .fine (name (h .number) m) (h .here) .stream-in) .deadline .high)
 
-    some-in : List·Memᴰ (getD (pending (r .state)) 0 noMessage) (pending (r .state))
-    some-in = mem-getD (pending (r .state)) 0 noMessage (omega (arith, l-length, v .some))
+    -- the choice in the paper's words
+    in-words : Served S (pending (r .state)) (servedAt S (pending (r .state)) (runningTask S (pending (r .state))))
+    in-words = served-by-words S (pending (r .state)) (omega (arith, l-length, v .some))
+        (λ j h. tasks-in (at (pending (r .state)) j) (mem-getD (pending (r .state)) j noMessage h))
+        (λ j h. deadlines-in (at (pending (r .state)) j) (mem-getD (pending (r .state)) j noMessage h))
+
+    pub words : Served S (pending (r .state)) (placeOf (r .state))
+    unfolding placeOf
+    words = subst (λ (x : Set). Served S (pending (r .state)) (servedAt x (pending (r .state)) (runningTask x (pending (r .state))))) (sym (g .set-is)) in-words
 
     pub place-in : placeOf (r .state) < length (pending (r .state))
-    unfolding placeOf
-    place-in = subst (λ (x : Set). servedAt x (pending (r .state)) (runningTask x (pending (r .state))) < length (pending (r .state))) (sym (g .set-is))
-        (served-in S (pending (r .state)) (getD (pending (r .state)) 0 noMessage) some-in tasks-in deadlines-in)
+    place-in = words .inside
 
     pub place-low : placeOf (r .state) < r .state .count
     place-low = omega (arith, place-in, l-length)
@@ -144,9 +152,8 @@ module _ (S : Set) (placed : Placed S) (ok : valid S ≡ true) where
     x = name (getD (r .names) (placeOf (r .state)) 0) chosen
 
     is-chosen : Chosen S (pending (r .state)) chosen
-    unfolding placeOf chosen
-    is-chosen = subst (λ (x : Set). Chosen S (pending (r .state)) (getD (pending (r .state)) (servedAt x (pending (r .state)) (runningTask x (pending (r .state)))) noMessage)) (sym (g .set-is))
-        (served-chosen S (pending (r .state)) (getD (pending (r .state)) 0 noMessage) some-in tasks-in deadlines-in)
+    unfolding chosen
+    is-chosen = chosen-of S (pending (r .state)) deadlines-in (placeOf (r .state)) words
 
     front : List Named
     front = before (r .names) (pending (r .state)) same-length (placeOf (r .state)) place-in

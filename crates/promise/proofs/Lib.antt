@@ -1,6 +1,4 @@
-pub mod Valid
 pub mod Choosing
-pub mod Cases
 pub mod Pairing
 pub mod Base
 pub mod Following

@@ -32,7 +32,7 @@ use Rattle.deadlines.proofs.Identity.{once, named, gone}
 use Rattle.deadlines.proofs.Machines.{moment, later, never-due as never-due-at, all-left}
 use Rattle.promise.specs.Kind.{Named, paired, pendingOf, CutAtCost, Tells}
 use Rattle.promise.specs.Statements.{NeverDue, NotLate, NoLateAnswer, EachOnce, leftAs, waitsAs, CodeRun, started, posted, ran, Demand3OfCode}
-use Rattle.promise.proofs.Cases.{Serving, chosenOf, UnitCase, stops, idles, finishes, cuts, runs as stays, unit-case, message-is}
+use Rattle.keeps.proofs.Cases.{Serving, chosenOf, UnitCase, stops, idles, finishes, cuts, runs as stays, unit-case, message-is}
 use Rattle.promise.proofs.Pairing.{name, pair-in, Has}
 use Rattle.promise.proofs.Base.{base, base-fits, base-keeps}
 use Rattle.promise.proofs.Following.{Good, all-named, momentOf, lawful, place-in, place-low}

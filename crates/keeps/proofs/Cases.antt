@@ -7,11 +7,12 @@ use mathlib.Core.Path.{_≡_, refl, sym, ap, subst, _∙_}
 use native.Mathlib.Numerals.{add-one}
 use native.Mathlib.Omega.{arith}
 use lib.ListN.{length, getD, take, drop, set, length-take}
-use lib.Seq.{take-suc-set, take-set-lt, set-split, getD-take, length-take-le}
+use lib.Seq.{take-suc-set, take-set-lt, set-split, getD-take, length-take-le, take-take}
 use lib.Dec.{T, leb, ltb, eqb, ltb→lt, eqb→eq, T-not}
 use lib.IntN.{ℤ}
 use Rattle.laws.specs.Lists.{remove}
-use Rattle.laws.proofs.Gates.{same-pass, take-remove}
+use Rattle.laws.proofs.Gates.{same-pass}
+use Rattle.laws.proofs.Parts.{take-remove}
 use Rattle.rules.specs.declared.Set.{Set}
 use Rattle.rules.specs.declared.Message.{Message}
 use Rattle.rules.specs.declared.State.{State}
@@ -129,4 +130,5 @@ module _ (s : State) (places : length (s .messages) ≡ 64) where
   pub pending-departed : (i : ℕ) → s .count ≤ 64 → i < s .count → pending (departed s i) ≡ take i (pending s) ++ drop (suc i) (pending s)
   pending-departed i few h =
       take-remove noMessage i (s .count - 1) (s .messages) (omega arith) (omega arith)
-      ∙ ap (λ (n : ℕ). take i (take n (s .messages)) ++ drop (suc i) (take n (s .messages))) (let e : suc (s .count - 1) ≡ s .count = omega arith in e)
+      ∙ ap (λ (n : ℕ). take i (s .messages) ++ drop (suc i) (take n (s .messages))) (let e : suc (s .count - 1) ≡ s .count = omega arith in e)
+      ∙ ap (λ (l : List Message). l ++ drop (suc i) (pending s)) (sym (take-take i (s .count) (s .messages) (omega arith)))
