@@ -9,7 +9,8 @@ use native.Mathlib.Nat.{mul-le-mul-left}
 use native.Mathlib.Omega.{arith}
 use lib.Dec.{T, leb, eqb, le→leb, eqb-refl}
 use Rattle.laws.specs.Lists.{within, below, sum, count}
-use Rattle.laws.proofs.Gates.{le-or-lt, eq-or-ne, both-pass, same-pass, cond-yes, ifle, ifle-yes, ifle-no, ifeq, ifeq-yes, ifeq-no, range-mono, range-bump, sum-nil, sum-last, sum-mid, sum-at, sum-scale, sum-zero, sum-member, Each, mem-here, each-nil, each-last, each-mid}
+use Rattle.laws.proofs.Sums.{sum-none}
+use Rattle.laws.proofs.Gates.{le-or-lt, eq-or-ne, both-pass, same-pass, cond-yes, ifle, ifle-yes, ifle-no, ifeq, ifeq-yes, ifeq-no, range-mono, range-bump, sum-last, sum-mid, sum-at, sum-scale, sum-zero, sum-member, Each, mem-here, each-nil, each-last, each-mid}
 use Rattle.deadlines.specs.Model.{Model, inWindow, Keeps, due, blocked, demand, Fits, New, Choice, Stays, After, Run, start, post, unit, idle}
 use Rattle.deadlines.proofs.Formed.{after-each, after-sum, started, started-same, Soon, Formed, formed}
 
@@ -269,8 +270,8 @@ module _ (𝓜 : Model) where
     z = 0;
     b = λ k. 0;
     past = omega arith;
-    balance = omega (arith, sum-nil (work D));
-    paid = λ k. omega (arith, sum-nil (debt D k));
+    balance = omega (arith, sum-none (work D));
+    paid = λ k. omega (arith, sum-none (debt D k));
     cause = λ k p. absurd (omega arith);
     young = each-nil (Young D 0);
     old = each-nil (Old D 0);

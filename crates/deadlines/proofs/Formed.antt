@@ -6,7 +6,8 @@ use mathlib.Core.Logic.{_⊎_, inl, inr, _≢_, ⊎-elim}
 use mathlib.Core.Path.{_≡_, refl, sym, ap, subst, _∙_}
 use native.Mathlib.Omega.{arith}
 use Rattle.laws.specs.Lists.{sum}
-use Rattle.laws.proofs.Gates.{le-or-lt, eq-or-ne, ifle, ifle-yes, ifle-no, ifeq, ifeq-yes, ifeq-no, sum-nil, sum-one, sum-last, sum-mid, sum-at, sum-zero, Each, mem-here, each-nil, each-one, each-last, each-mid}
+use Rattle.laws.proofs.Sums.{sum-none}
+use Rattle.laws.proofs.Gates.{le-or-lt, eq-or-ne, ifle, ifle-yes, ifle-no, ifeq, ifeq-yes, ifeq-no, sum-one, sum-last, sum-mid, sum-at, sum-zero, Each, mem-here, each-nil, each-one, each-last, each-mid}
 use Rattle.deadlines.specs.Model.{Model, New, Choice, Stays, Leaves, After, leaves, stays, Run, start, post, unit, idle}
 
 module _ (𝓜 : Model) where
@@ -20,7 +21,7 @@ module _ (𝓜 : Model) where
 
   -- a bound on the sum over what is left of it
   pub after-sum : (f : Msg → ℕ) (b : ℕ) {t : ℕ} {x : Msg} {r : List Msg} {e : List Departure} → After 𝓜 t x r e → ((y : Msg) → Stays 𝓜 x y → f y ≤ b) → sum f r ≤ b
-  after-sum f b (leaves _) h = omega (arith, sum-nil f)
+  after-sum f b (leaves _) h = omega (arith, sum-none f)
   after-sum f b (stays {y = y} k) h = omega (arith, sum-one f y, h y k)
 
   -- ---- 1 if m has started on the task k
@@ -93,7 +94,7 @@ module _ (𝓜 : Model) where
     pub one : (k : ℕ) → sum (started k) l ≤ 1
 
   empty-formed : (t : ℕ) → Formed t []
-  empty-formed t = record { fine = each-nil Fine; soon = each-nil (Soon t); one = λ k. omega (arith, sum-nil (started k)) }
+  empty-formed t = record { fine = each-nil Fine; soon = each-nil (Soon t); one = λ k. omega (arith, sum-none (started k)) }
 
   pub formed : {t : ℕ} {l : List Msg} {h : List Post} {ds : List Departure} → Run 𝓜 t l h ds → Formed t l
   formed start = empty-formed 0

@@ -9,7 +9,8 @@ use native.Mathlib.Omega.{arith}
 use lib.ListN.{length, length-append}
 use lib.Dec.{T, eqb}
 use Rattle.laws.specs.Lists.{sum, count}
-use Rattle.laws.proofs.Gates.{le-or-lt, eq-or-ne, ifle, ifle-yes, ifle-no, ifeq, ifeq-yes, ifeq-no, sum-nil, sum-one, sum-append, sum-last, sum-mid, sum-at, Each, mem-here, mem-mid, each-nil, each-last}
+use Rattle.laws.proofs.Sums.{sum-none, sum-append}
+use Rattle.laws.proofs.Gates.{le-or-lt, eq-or-ne, ifle, ifle-yes, ifle-no, ifeq, ifeq-yes, ifeq-no, sum-one, sum-last, sum-mid, sum-at, Each, mem-here, mem-mid, each-nil, each-last}
 use Rattle.deadlines.specs.Model.{Model, inWindow, Keeps, Fits, Of, New, Choice, Stays, Leaves, After, leaves, stays, Run, start, post, unit, idle, Pending, Left}
 use Rattle.deadlines.proofs.Account.{on-time}
 
@@ -94,8 +95,8 @@ module _ (𝓜 : Model) where
 
   one-after : (n : ℕ) {t : ℕ} {x : Msg} {r : List Msg} {e : List Departure} → After 𝓜 t x r e → sum (named n) r + sum (gone n) e ≡ named n x
   unfolding named gone
-  one-after n {x = x} (leaves {d = d} v) = omega (arith, sum-nil (named n), sum-one (gone n) d, ap (λ (k : ℕ). ifeq k n 1) (v .named))
-  one-after n {x = x} (stays {y = y} κ) = omega (arith, sum-nil (gone n), sum-one (named n) y, ap (λ (k : ℕ). ifeq k n 1) (κ .same-number))
+  one-after n {x = x} (leaves {d = d} v) = omega (arith, sum-none (named n), sum-one (gone n) d, ap (λ (k : ℕ). ifeq k n 1) (v .named))
+  one-after n {x = x} (stays {y = y} κ) = omega (arith, sum-none (gone n), sum-one (named n) y, ap (λ (k : ℕ). ifeq k n 1) (κ .same-number))
 
   -- one number more is given
   one-more : (n k : ℕ) → ifle (suc n) (suc k) 1 ≡ ifle (suc n) k 1 + ifeq k n 1
@@ -115,7 +116,7 @@ module _ (𝓜 : Model) where
   named-new n v = ap (λ (k : ℕ). ifeq k n 1) (v .message .named ∙ v .next)
 
   pub once : {t : ℕ} {l : List Msg} {h : List Post} {ds : List Departure} → Run 𝓜 t l h ds → (n : ℕ) → sum (named n) l + sum (gone n) ds ≡ ifle (suc n) (length h) 1
-  once start n = omega (arith, sum-nil (named n), sum-nil (gone n), ifle-no (suc n) 0 1 (omega arith))
+  once start n = omega (arith, sum-none (named n), sum-none (gone n), ifle-no (suc n) 0 1 (omega arith))
   once (post {l = l} {h = h} run q m v) n =
       omega (arith, once run n, sum-last (named n) l m, named-new n v, ap (λ (k : ℕ). ifle (suc n) k 1) (longer h q), one-more n (length h))
   once (unit {ds = ds} xs x ys r e run ch af) n =

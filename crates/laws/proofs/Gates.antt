@@ -1,17 +1,17 @@
 -- Cases on numbers, numbers behind a test, sums over a range and over the members of a list, and what holds of each member.
 -- Assumes nothing.
 use Prim.Native.Nat.{ℕ, zero, suc, _+_, _-_, _*_, _≤_, _<_, max}
-use mathlib.Core.Bool.{Bool, true, false, cond, not, _&&_, _||_}
-use mathlib.Core.List.{List, [], _∷_, _++_, map, List·Memᴰ, List·Memᴰ·head, List·Memᴰ·tail, List·Memᴰ·append-cases, List·Memᴰ·eq-of-singleton, List·Memᴰ·not-nil, Memᴰ·append-left, Memᴰ·append-right}
+use mathlib.Core.Bool.{Bool, true, false, cond, _&&_, _||_}
+use mathlib.Core.List.{List, [], _∷_, _++_, List·Memᴰ, List·Memᴰ·head, List·Memᴰ·tail, List·Memᴰ·append-cases, List·Memᴰ·eq-of-singleton, List·Memᴰ·not-nil, Memᴰ·append-left, Memᴰ·append-right}
 use mathlib.Core.Logic.{_⊎_, inl, inr, _≢_, ⊎-elim}
 use mathlib.Core.Path.{_≡_, refl, sym, ap, subst, _∙_}
 use native.Mathlib.Nat.{mul-add}
 use native.Mathlib.Decide.{decLe, ℕ-discrete}
 use native.Mathlib.Omega.{arith}
-use lib.ListN.{length, getD, take, drop, length-append}
-use lib.Seq.{take-append-le}
-use lib.Dec.{T, leb, ltb, eqb, le→leb, leb→le, nltb→le, ltb→lt, eqb→eq, eqb-refl}
-use Rattle.laws.specs.Lists.{every, below, all, any, sum, top, find, remove, firstLeast}
+use lib.ListN.{length, getD}
+use lib.Dec.{T, leb, eqb, le→leb, leb→le, eqb→eq, eqb-refl}
+use Rattle.laws.specs.Lists.{below, any, sum, top}
+use Rattle.laws.proofs.Sums.{sum-append}
 
 -- ---- cases
 
@@ -30,14 +30,6 @@ eq-or-ne a b = go (ℕ-discrete a b)
     go (no h) = inr h
 
 -- ---- tests
-
-pub both-left : (a b : Bool) → T (a && b) → T a
-both-left true b t = tt
-both-left false b t = t
-
-pub both-right : (a b : Bool) → T (a && b) → T b
-both-right true b t = t
-both-right false b t = absurd t
 
 pub both-pass : (a b : Bool) → T a → T b → T (a && b)
 both-pass true b s t = t
@@ -105,19 +97,6 @@ range-first (suc n) f = omega (arith, range-first n f)
 -- ---- sums over a list
 
 module _ {A : Type 0} where
-  pub sum-nil : (f : A → ℕ) → sum f [] ≡ 0
-  unfolding sum
-  sum-nil f = refl
-
-  pub sum-cons : (f : A → ℕ) (x : A) (xs : List A) → sum f (x ∷ xs) ≡ f x + sum f xs
-  unfolding sum
-  sum-cons f x xs = refl
-
-  pub sum-append : (f : A → ℕ) (xs ys : List A) → sum f (xs ++ ys) ≡ sum f xs + sum f ys
-  unfolding sum
-  sum-append f [] ys = omega arith
-  sum-append f (x ∷ xs) ys = omega (arith, sum-append f xs ys)
-
   pub sum-one : (f : A → ℕ) (x : A) → sum f (x ∷ []) ≡ f x
   unfolding sum
   sum-one f x = omega arith
