@@ -66,7 +66,7 @@ chosenLaxity s = laxityOf (chosenOf s .deadline) (s .clock + 1)
 
 pub data UnitCase (s : State) (done : Bool) : UnitResult → Type 0 where
   stops : (why : Refusal) → UnitCase s done (answered s (UnitRefused why))
-  idles : s .count ≡ 0 → UnitCase s done (answered (ticked s) Idle)
+  idles : s .count ≡ 0 → s .clock < lastClock → UnitCase s done (answered (ticked s) Idle)
   finishes : Serving s → UnitCase s done (answered (departed s (placeOf s)) (Finished (chosenTask s) (chosenOf s .stream) (chosenLaxity s)))
   cuts : Serving s → chosenOf s .used + 1 ≡ costOf (s .set) (chosenOf s) → UnitCase s done (answered (departed s (placeOf s)) (Cut (chosenTask s) (chosenOf s .stream) (chosenLaxity s)))
   runs : Serving s → chosenOf s .used + 1 ≢ costOf (s .set) (chosenOf s) → UnitCase s done (answered (stayed s (placeOf s)) (Ran (chosenTask s) (chosenOf s .stream)))
@@ -88,10 +88,10 @@ served-case s done v = go done (eqb (chosenOf s .used + 1) (costOf (s .set) (cho
     go false true f g = cuts v (f tt)
     go false false f g = runs v (g tt)
 
-empty-case : (s : State) (done : Bool) → s .count ≡ 0 → UnitCase s done (emptyUnit s done)
+empty-case : (s : State) (done : Bool) → s .count ≡ 0 → s .clock < lastClock → UnitCase s done (emptyUnit s done)
 unfolding emptyUnit
-empty-case s true e = stops NothingPending
-empty-case s false e = idles e
+empty-case s true e h = stops NothingPending
+empty-case s false e h = idles e h
 
 pub unit-case : (s : State) (done : Bool) → UnitCase s done (unitOf s done)
 unfolding unitOf
@@ -106,7 +106,7 @@ unit-case s done = go (wellFormed s) (ltb (s .clock) lastClock) (eqb (s .count) 
         )
     go false b c f g h = stops IllFormed
     go true false c f g h = stops LastClock
-    go true true true f g h = empty-case s done (g tt)
+    go true true true f g h = empty-case s done (g tt) (f tt)
     go true true false f g h = served-case s done (record { some = h tt; early = f tt })
 
 -- ---- the pending messages after a step, of a state with its 64 places

@@ -1,2 +1,7 @@
 pub mod Valid
 pub mod Cases
+pub mod Rows
+pub mod Started
+pub mod Kept
+pub mod Runs
+pub mod Twelve

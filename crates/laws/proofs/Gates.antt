@@ -8,10 +8,12 @@ use mathlib.Core.Path.{_≡_, refl, sym, ap, subst, _∙_}
 use native.Mathlib.Nat.{mul-add}
 use native.Mathlib.Decide.{decLe, ℕ-discrete}
 use native.Mathlib.Omega.{arith}
-use lib.ListN.{length, getD}
+use lib.ListN.{length, getD, drop}
+use lib.Seq.{drop-append-le}
 use lib.Dec.{T, leb, eqb, le→leb, leb→le, eqb→eq, eqb-refl}
-use Rattle.laws.specs.Lists.{below, any, sum, top}
+use Rattle.laws.specs.Lists.{below, all, any, sum, top, remove}
 use Rattle.laws.proofs.Sums.{sum-append}
+use Rattle.laws.proofs.Parts.{both-first, both-second}
 
 -- ---- cases
 
@@ -203,3 +205,30 @@ module _ {A : Type 0} where
       tail : List·Memᴰ m (x ∷ ys) → (m ≡ x) ⊎ List·Memᴰ m (xs ++ (r ++ ys))
       tail (List·Memᴰ·head e) = inl e
       tail (List·Memᴰ·tail q) = inr (Memᴰ·append-right xs (Memᴰ·append-right r q))
+
+-- ---- tests on parts of a list
+
+module _ {A : Type 0} where
+  -- all of a list pass, so do all after its first n, one less
+  pub all-drop : (p : A → Bool) (n : ℕ) (l : List A) → all p (drop n l) ≡ true → all p (drop (suc n) l) ≡ true
+  unfolding all
+  all-drop p n [] e = nothing n e
+    where
+      nothing : (n : ℕ) → all p (drop n []) ≡ true → all p (drop (suc n) []) ≡ true
+      nothing zero e = e
+      nothing (suc n) e = e
+  all-drop p zero (x ∷ l) e = both-second (p x) (all p l) e
+  all-drop p (suc n) (x ∷ l) e = all-drop p n l e
+
+  pub all-last : (p : A → Bool) (l : List A) (x : A) → all p l ≡ true → p x ≡ true → all p (l ++ (x ∷ [])) ≡ true
+  unfolding all
+  all-last p [] x e h = rw h
+  all-last p (y ∷ l) x e h = rw (both-first (p y) (all p l) e, all-last p l x (both-second (p y) (all p l) e) h)
+
+  -- what stands behind the first n, when a place before them is taken out
+  pub drop-remove : (d : A) (i n : ℕ) (l : List A) → i ≤ n → n < length l → drop n (remove d i l) ≡ drop (suc n) l ++ (d ∷ [])
+  unfolding remove
+  drop-remove d i n [] h g = absurd (let z : n < 0 = g in omega arith)
+  drop-remove d zero n (x ∷ l) h g = drop-append-le n l (d ∷ []) (omega arith)
+  drop-remove d (suc i) zero (x ∷ l) h g = absurd (omega arith)
+  drop-remove d (suc i) (suc n) (x ∷ l) h g = drop-remove d i n l (omega arith) (omega arith)

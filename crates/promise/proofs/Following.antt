@@ -282,7 +282,7 @@ module _ (S : Set) (placed : Placed S) (ok : valid S ≡ true) where
 
   pub unit-step : (r : Run) (done : Bool) → Good r → Reached (base S placed ok) (momentOf r) → (u : UnitResult) → UnitCase (r .state) done u → Stepped r (afterUnit r (u .state) (u .answer))
   unit-step r done g run u (stops why) = record { good = g; reached = run; more = []; grown = sym (append-nil (r .accepted)) }
-  unit-step r done g run u (idles e) = idle-step r g run e
+  unit-step r done g run u (idles e h) = idle-step r g run e
   unit-step r done g run u (finishes v) = leave-step r g run v finished tt
   unit-step r done g run u (cuts v e) = leave-step r g run v cut (cut-cost r g run v e)
   unit-step r done g run u (runs v e) = stay-step r g run v (gains r g run v e)

@@ -153,7 +153,7 @@ laxity-left d (suc c) h = go (ltb d (suc c)) (ltb→lt d (suc c))
 
 not-late : (s : State) (done : Bool) → (Serving s → s .clock + 1 ≤ chosenOf s .deadline) → (u : UnitResult) → UnitCase s done u → NotLate (u .answer)
 not-late s done h u (stops why) = tt
-not-late s done h u (idles e) = tt
+not-late s done h u (idles e c) = tt
 not-late s done h u (finishes v) = laxity-left (chosenOf s .deadline) (s .clock + 1) (h v)
 not-late s done h u (cuts v e) = laxity-left (chosenOf s .deadline) (s .clock + 1) (h v)
 not-late s done h u (stays v e) = tt
