@@ -1,4 +1,5 @@
 -- Theorems about the definitions. Assumes nothing.
+pub mod Examples
 pub mod Valid
 pub mod Finite
 pub mod Cycles
@@ -7,3 +8,4 @@ pub mod Verdicts
 pub mod Yard
 pub mod Runs
 pub mod Refusals
+pub mod Ways

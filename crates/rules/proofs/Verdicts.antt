@@ -1,4 +1,4 @@
--- H is one number, and the verdict relation allows one verdict for a set.
+-- One answer for one input: results that are equal to a definition, H, and the verdict of a set.
 -- Assumes nothing.
 use Prim.Native.Nat.{ℕ, _≤_, _<_}
 use native.Mathlib.Nat.{le-antisymm}
@@ -13,6 +13,10 @@ use Rattle.rules.specs.declared.Verdict.{Verdict}
 use Rattle.rules.specs.declared.Verdict.the-variants.{Accept, Late, Overload, Refused}
 use Rattle.rules.specs.Streams.{streamsOf, valid}
 use Rattle.rules.specs.Load.{demand, load, IsH, Judged, VerdictIf, VerdictOf, JudgedByH}
+
+-- A contract that says `r ≡ f x` allows one result: so it is of every public function but the verdict, whose theorem is below.
+pub one-answer {ℓ} : {A : Type ℓ} {r s f : A} → r ≡ f → s ≡ f → r ≡ s
+one-answer p q = p ∙ sym q
 
 pub h-unique : (ss : List Stream) (h k : ℕ) → IsH ss h → IsH ss k → h ≡ k
 h-unique ss h k a b = le-antisymm (a .least k (b .positive) (b .common)) (b .least h (a .positive) (a .common))
