@@ -1,27 +1,18 @@
-// The greatest common divisor, H and the long-run load.
+// The least common multiple of the cycles, and the long-run load.
 ghost use mathlib.Core.Path.{_≡_};
 ghost use Prim.Native.Nat.{_*_, _≤_};
-ghost use Rattle.laws.specs.Multiples.{IsGcd};
 ghost use Rattle.rules.proofs.Valid.{Between, ValidCycle, ValidPlace, ValidStream, ValidSet};
 ghost use Rattle.rules.specs.Streams.{streamsOf};
 ghost use Rattle.rules.specs.Load.{rateOf, streamLoad, load};
-ghost use Rattle.load.specs.Cycles.{CycleOf, CyclesOf, CommonOf, JoinedBy, HOf};
+ghost use Rattle.load.specs.Cycles.{CycleOf, CyclesOf, CommonOf, JoinedBy};
 use crate::Joined;
+use crate::gcd;
 use crate::wide;
-use rules::CountAnswer;
-use rules::Refusal;
 use rules::Set;
 use rules::Stream;
 use rules::Tuple;
 
-// ---- H
-
-// The greatest common divisor: the remainder falls at each call.
-pub fn gcd(a: u32, b: u32) -> u32
-    ensures { λ r. ⌜ IsGcd a b r ⌝ }
-{
-    if b == 0 { a } else { gcd(b, a % b) }
-}
+// ---- the cycles, joined one after the other
 
 fn join_cycle(h: u32, z: u32, a: u32) -> Joined
     requires { ⌜ (Between 1 h 1000000) × (Between 1 z 1000000) ⌝ }
@@ -91,21 +82,6 @@ pub fn join_all(x: Set) -> Joined
         k = k + 1;
     }
     Joined::Is(acc)
-}
-
-// H of a set: 7 for an invalid one, 8 where H is above 1,000,000.
-pub fn h_of(x: Set) -> CountAnswer
-    ensures { λ r. ⌜ HOf x r ⌝ }
-{
-    if streams::is_valid(x) {
-        let joined = join_all(x);
-        match joined {
-            Joined::Above => CountAnswer::Refused(Refusal::LongCycles),
-            Joined::Is(h) => CountAnswer::Number(wide(h)),
-        }
-    } else {
-        CountAnswer::Refused(Refusal::OutOfRule)
-    }
 }
 
 // ---- long-run load

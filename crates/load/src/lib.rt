@@ -1,13 +1,14 @@
 // The load check: H, demand and the verdict of a set, which speaks of every length.
-pub mod cycles; // cycles.rt: the greatest common divisor, H and the long-run load
+mod cycles; // cycles.rt: the least common multiple of the cycles, and the long-run load
 mod dues; // dues.rt: a set's tuples laid out in rows, and what is due by a length
 mod held; // held.rt: the blocking of each task
 mod lengths; // lengths.rt: which lengths there are to test, and the testing of a range of them
 
 ghost use mathlib.Core.Path.{_≡_};
 ghost use Prim.Native.Nat.{max};
+ghost use Rattle.laws.specs.Multiples.{IsGcd};
 ghost use Rattle.rules.specs.Load.{demandOf, VerdictOf};
-ghost use Rattle.rules.proofs.Valid.{ValidSet};
+ghost use Rattle.load.specs.Cycles.{HOf};
 use rules::CountAnswer;
 use rules::Refusal;
 use rules::Set;
@@ -39,16 +40,38 @@ pub enum Opening {
     Until(u32),
 }
 
-pub fn wide(n: u32) -> u64
+fn wide(n: u32) -> u64
     ensures { λ r. ⌜ r ≡ n ⌝ }
 {
     n as u64
 }
 
-pub fn larger(a: u32, b: u32) -> u32
+fn larger(a: u32, b: u32) -> u32
     ensures { λ r. ⌜ r ≡ max a b ⌝ }
 {
     if a < b { b } else { a }
+}
+
+// The greatest common divisor: the remainder falls at each call.
+pub fn gcd(a: u32, b: u32) -> u32
+    ensures { λ r. ⌜ IsGcd a b r ⌝ }
+{
+    if b == 0 { a } else { gcd(b, a % b) }
+}
+
+// H of a set: 7 for an invalid one, 8 where H is above 1,000,000.
+pub fn h_of(x: Set) -> CountAnswer
+    ensures { λ r. ⌜ HOf x r ⌝ }
+{
+    if streams::is_valid(x) {
+        let joined = cycles::join_all(x);
+        match joined {
+            Joined::Above => CountAnswer::Refused(Refusal::LongCycles),
+            Joined::Is(h) => CountAnswer::Number(wide(h)),
+        }
+    } else {
+        CountAnswer::Refused(Refusal::OutOfRule)
+    }
 }
 
 // The demand of a set at a length, 7 for an invalid set.

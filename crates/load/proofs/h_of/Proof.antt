@@ -1,4 +1,4 @@
--- `load::cycles::h_of` meets its contract. Assumes nothing.
+-- `load::h_of` meets its contract. Assumes nothing.
 use borrow.Author.Needs.{needs}
 use Prim.Native.Nat.{ℕ, _+_, _-_, _*_, _/_, _≤_, _<_, max}
 use mathlib.Core.Path.{_≡_, refl, ap, ap₂, subst, sym, _∙_}
@@ -6,8 +6,8 @@ use Rattle.rules.specs.Streams.{streamsOf}
 use Rattle.rules.proofs.Valid.{valid-set}
 use Rattle.load.specs.Cycles.{CommonOf, JoinedBy}
 use Rattle.load.proofs.Cycling.{h-is, h-above, h-refused}
-use Rattle.load.proofs.cycles.h_of.Statement.{statement}
-use Rattle.load.proofs.cycles.h_of.Tie as tie
+use Rattle.load.proofs.h_of.Statement.{statement}
+use Rattle.load.proofs.h_of.Tie as tie
 
 is-valid-requires : tie.Need-is-valid-requires
 is-valid-requires c κs = search needs

@@ -1,4 +1,4 @@
--- `load::cycles::gcd` meets its contract, by Euclid's step; the second number falls at each call. Assumes nothing.
+-- `load::gcd` meets its contract, by Euclid's step; the second number falls at each call. Assumes nothing.
 use native.Mathlib.Nat.{mod-lt, pos-of-ne-zero}
 use mathlib.Core.Path.{subst, sym}
 use Rattle.laws.specs.Multiples.{IsGcd}
@@ -7,11 +7,11 @@ use Prim.Native.Nat.{_%_}
 use Prim.Native.Nat.{ℕ, _<_}
 use borrow.Fn.Kinds.{In}
 use borrow.Fn.PlainCycle.{Measures, is, falls, and}
-use Rattle.load.proofs.cycles.gcd.Reads as gcd
-use Rattle.load.proofs.cycles.gcd.Kinds as gcd-kinds
-use Rattle.load.proofs.cycles.+gcd.Lts-gcd as gcd-lts
-use Rattle.load.proofs.cycles.+gcd.{statement}
-use Rattle.load.proofs.cycles.+gcd.Tie.{close}
+use Rattle.load.proofs.gcd.Reads as gcd
+use Rattle.load.proofs.gcd.Kinds as gcd-kinds
+use Rattle.load.proofs.+gcd.Lts-gcd as gcd-lts
+use Rattle.load.proofs.+gcd.{statement}
+use Rattle.load.proofs.+gcd.Tie.{close}
 
 abbrev μ-gcd : Measures 0 gcd-kinds.ps ℕ
 μ-gcd κs a = a .1 .0
