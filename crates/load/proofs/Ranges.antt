@@ -41,16 +41,9 @@ module _ (f : ℕ → ℕ) (a : ℕ) where
   late-join i e e′ k w p q n l =
       record { from = omega (arith, l .from); before = omega (arith, l .before); that = l .that; above = l .above; first = none-join i k n (l .first) }
 
--- the length i is late, with nothing late before it; k and v are the code's names for it and for its demand
-pub late-at : (f : ℕ → ℕ) (a e i k v : ℕ) → k ≡ i → v ≡ f i → a ≤ i → i < e → i < v → NoneLate f a i → FirstLate f a e k v
-late-at f a e i k v p q lo hi late n =
-    record {
-      from = omega arith;
-      before = omega arith;
-      that = q ∙ ap f (sym p);
-      above = omega (arith, ap f p);
-      first = λ j x y. n j x (omega arith);
-    }
+-- the length i is late, with nothing late before it
+pub late-at : (f : ℕ → ℕ) (a e i w : ℕ) → w ≡ f i → a ≤ i → i < e → i < w → NoneLate f a i → FirstLate f a e i w
+late-at f a e i w q lo hi late n = record { from = lo; before = hi; that = q; above = omega arith; first = n }
 
 -- two demands that agree from a up to e are tested alike
 tested-same : (f g : ℕ → ℕ) (a e : ℕ) → ((j : ℕ) → a ≤ j → j < e → f j ≡ g j) → (r : Tested) → TestedBy f a e r → TestedBy g a e r

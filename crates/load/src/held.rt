@@ -1,6 +1,6 @@
 // The blocking of each task, and up to where it stays the same.
 ghost use mathlib.Core.Path.{_≡_};
-ghost use Prim.Native.Nat.{_<_};
+ghost use Prim.Native.Nat.{_+_, _≤_, _<_};
 ghost use Rattle.rules.proofs.Valid.{ValidSet};
 ghost use Rattle.rules.specs.Streams.{streamsOf};
 ghost use Rattle.rules.specs.Load.{urgent, held, blocking};
@@ -47,6 +47,14 @@ fn task_blocking(x: Set, i: u32, t: usize) -> u32
     if any { most } else { 0 }
 }
 
+// The blocking of one task more.
+fn with_task(acc: u64, units: u32) -> u64
+    requires { ⌜ acc ≤ 1048560 ⌝ }
+    ensures { λ r. ⌜ r ≡ acc + units ⌝ }
+{
+    acc + wide(units)
+}
+
 // The blocking of all tasks at a length.
 pub fn blockings(x: Set, i: u32) -> u64
     requires { ⌜ ValidSet x ⌝ }
@@ -55,7 +63,7 @@ pub fn blockings(x: Set, i: u32) -> u64
     let mut acc: u64 = 0;
     let mut t: usize = 0;
     while t < 16 {
-        acc = acc + wide(task_blocking(x, i, t));
+        acc = with_task(acc, task_blocking(x, i, t));
         t = t + 1;
     }
     acc

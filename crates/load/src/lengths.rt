@@ -89,6 +89,12 @@ pub fn opening(x: Set) -> Opening
 
 // ---- testing
 
+fn late_at(i: u32, w: u64) -> Tested
+    ensures { λ r. ⌜ r ≡ Tested.Late i w ⌝ }
+{
+    Tested::Late(wide(i), w)
+}
+
 // The lengths from `from` up to `stop`, at all of which the blocking is `blocked`.
 fn test_span(t: Rows, blocked: u64, from: u32, stop: u32) -> Tested
     requires { ⌜ (Sound (t .costs) (t .cycles) (t .count)) × (blocked ≤ 1048560) × (from ≤ stop) ⌝ }
@@ -102,7 +108,7 @@ fn test_span(t: Rows, blocked: u64, from: u32, stop: u32) -> Tested
     while i < stop {
         let w = dues::dues_at(&costs, &firsts, &cycles, n, i) + blocked;
         if wide(i) < w {
-            return Tested::Late(wide(i), w);
+            return late_at(i, w);
         }
         i = i + 1;
     }

@@ -1,6 +1,5 @@
 -- `load::held::blockings` meets its contract. Assumes nothing.
 use native.Mathlib.Omega.{arith}
-use borrow.Author.Needs.{needs}
 use Prim.Native.Nat.{ℕ, _+_, _-_, _*_, _/_, _≤_, _<_, max}
 use mathlib.Core.Path.{_≡_, refl, ap, ap₂, subst, sym, _∙_}
 use lib.ListN.{length, getD, take}
@@ -25,11 +24,8 @@ loop-holds c = (omega arith, sym (sum-none _), omega arith)
 task-blocking-requires : tie.Need-task-blocking-requires Inv-loop μ-loop
 task-blocking-requires c κs = c .before .before .pre
 
-wide-requires : tie.Need-wide-requires Inv-loop μ-loop
-wide-requires c κs = search needs
-
-add-acc : tie.Need-add-acc Inv-loop μ-loop
-add-acc c = omega (arith, c .wide .ensures, c .before .task-blocking .ensures, blocking-fits (streamsOf (c .before .before .before .before .args .x)) (c .before .before .before .before .args .i) (c .before .before .before .loop .t) (c .before .before .before .before .pre .streams))
+with-task-requires : tie.Need-with-task-requires Inv-loop μ-loop
+with-task-requires c κs = omega arith
 
 add-t : tie.Need-add-t Inv-loop μ-loop
 add-t c = omega arith
@@ -40,8 +36,8 @@ loop-less c = omega arith
 loop-again : tie.Need-loop-again Inv-loop μ-loop
 loop-again c = (
   omega arith,
-  omega (arith, c .wide .ensures, c .before .task-blocking .ensures, sum-below (blocking (streamsOf (c .before .before .before .before .args .x)) (c .before .before .before .before .args .i)) (c .before .before .before .loop .t)),
-  omega (arith, c .wide .ensures, c .before .task-blocking .ensures, blocking-fits (streamsOf (c .before .before .before .before .args .x)) (c .before .before .before .before .args .i) (c .before .before .before .loop .t) (c .before .before .before .before .pre .streams)),
+  omega (arith, c .with-task .ensures, c .before .task-blocking .ensures, sum-below (blocking (streamsOf (c .before .before .before .before .args .x)) (c .before .before .before .before .args .i)) (c .before .before .before .loop .t)),
+  omega (arith, c .with-task .ensures, c .before .task-blocking .ensures, blocking-fits (streamsOf (c .before .before .before .before .args .x)) (c .before .before .before .before .args .i) (c .before .before .before .loop .t) (c .before .before .before .before .pre .streams)),
 )
 
 returns : tie.Need-returns Inv-loop μ-loop
@@ -58,8 +54,7 @@ blockings-spec =
     μ-loop
     loop-holds
     task-blocking-requires
-    wide-requires
-    add-acc
+    with-task-requires
     add-t
     loop-less
     loop-again

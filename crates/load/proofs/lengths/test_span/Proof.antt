@@ -1,5 +1,6 @@
 -- `load::lengths::test_span` meets its contract: no length passed is late. Assumes nothing.
 use native.Mathlib.Omega.{arith}
+use borrow.Author.Needs.{needs}
 use Prim.Native.Nat.{ℕ, _+_, _-_, _*_, _/_, _≤_, _<_, max}
 use mathlib.Core.Path.{_≡_, refl, ap, ap₂, subst, sym, _∙_}
 use Rattle.load.specs.Dues.{duesBelow, rowsDue}
@@ -33,14 +34,15 @@ add-w c =
 wide-requires : tie.Need-wide-requires Inv-loop μ-loop
 wide-requires c κs = tt
 
-wide-requires-2 : tie.Need-wide-requires-2 Inv-loop μ-loop
-wide-requires-2 c κs = tt
+late-at-requires : tie.Need-late-at-requires Inv-loop μ-loop
+late-at-requires c κs = search needs
 
 returns : tie.Need-returns Inv-loop μ-loop
 returns c =
-    late-at (rowsWith (c .before .before .before .before .before .before .before .before .before .before .before .before .args .t) (c .before .before .before .before .before .before .before .before .before .before .before .before .args .blocked)) (c .before .before .before .before .before .before .before .before .before .before .before .before .args .from) (c .before .before .before .before .before .before .before .before .before .before .before .before .args .stop) (c .before .before .before .before .before .before .before .before .loop .i) (c .wide2 .result)
-    (c .before .before .before .dues-at .result + c .before .before .before .before .before .before .before .before .before .before .before .before .args .blocked) (c .wide2 .ensures) (ap (λ (n : ℕ). n + c .before .before .before .before .before .before .before .before .before .before .before .before .args .blocked) (c .before .before .before .dues-at .ensures))
-    (omega arith) (omega arith) (omega (arith, c .before .before .wide .ensures)) (c .before .before .before .before .before .before .before .before .loop .inv .2)
+    rw (c .late-at .ensures)
+    (late-at (rowsWith (c .before .before .before .before .before .before .before .before .before .before .before .before .args .t) (c .before .before .before .before .before .before .before .before .before .before .before .before .args .blocked)) (c .before .before .before .before .before .before .before .before .before .before .before .before .args .from) (c .before .before .before .before .before .before .before .before .before .before .before .before .args .stop) (c .before .before .before .before .before .before .before .before .loop .i)
+    (c .before .before .before .dues-at .result + c .before .before .before .before .before .before .before .before .before .before .before .before .args .blocked) (ap (λ (n : ℕ). n + c .before .before .before .before .before .before .before .before .before .before .before .before .args .blocked) (c .before .before .before .dues-at .ensures))
+    (omega arith) (omega arith) (omega (arith, c .before .before .wide .ensures)) (c .before .before .before .before .before .before .before .before .loop .inv .2))
 
 add-i : tie.Need-add-i Inv-loop μ-loop
 add-i c = omega arith
@@ -66,7 +68,7 @@ test-span-spec =
     dues-at-requires
     add-w
     wide-requires
-    wide-requires-2
+    late-at-requires
     returns
     add-i
     loop-less
