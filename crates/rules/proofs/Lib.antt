@@ -1,5 +1,9 @@
-pub mod Verdicts
+-- Theorems about the definitions. Assumes nothing.
+pub mod Valid
 pub mod Finite
+pub mod Cycles
+pub mod Judge
+pub mod Verdicts
 pub mod Yard
 pub mod Runs
 pub mod Refusals
