@@ -18,7 +18,7 @@ use Rattle.rules.specs.declared.Set.{Set}
 use Rattle.rules.specs.declared.Message.{Message}
 use Rattle.rules.specs.declared.State.{State}
 use Rattle.rules.specs.Streams.{streamAt}
-use Rattle.rules.specs.States.{noMessage, pending, taskOf, startedOf, wellFormed, Housed}
+use Rattle.rules.specs.States.{noMessage, pending, taskOf, startedOf, wellFormed}
 use Rattle.rules.specs.Steps.{sooner, never, taskDeadline, runningTask, startedAt, dueOf, urgentAt, servedAt, placeOf, messageAt}
 use Rattle.states.proofs.WellFormed.{well-formed, sound, stands, task-in, message-stream}
 use Rattle.choosing.specs.Words.{at, DeadlineOf, Served}
@@ -137,9 +137,9 @@ module _ (x : Set) (l : List Message) (some : 0 < length l) (tasks : (j : ℕ) �
 
 -- ---- of a state
 
-module _ (s : State) (w : wellFormed s ≡ true) (h : Housed s) where
+module _ (s : State) (w : wellFormed s ≡ true) (ms : length (s .messages) ≡ 64) (ss : length (s .set .streams) ≡ 16) where
   pub all-pending : length (pending s) ≡ s .count
-  all-pending = length-take-le (s .count) (s .messages) (omega (arith, well-formed s w .few, h .places))
+  all-pending = length-take-le (s .count) (s .messages) (omega (arith, well-formed s w .few, ms))
 
   pub pending-at : (j : ℕ) → j < s .count → at (pending s) j ≡ messageAt s j
   pending-at j q = getD-take (s .count) (s .messages) j noMessage q
@@ -147,13 +147,13 @@ module _ (s : State) (w : wellFormed s ≡ true) (h : Housed s) where
   pending-task : (j : ℕ) → j < length (pending s) → taskOf (s .set) (at (pending s) j) < 16
   pending-task j q =
       let c : j < s .count = omega (arith, all-pending) in
-      rw (pending-at j c) (task-in s (sound s w) (h .places) j c (h .set .sixteen))
+      rw (pending-at j c) (task-in s (sound s w) ms j c ss)
 
   pending-due : (j : ℕ) → j < length (pending s) → at (pending s) j .deadline < 4294967296
   pending-due j q =
       let c : j < s .count = omega (arith, all-pending) in
-      let o = stands s (sound s w) (h .places) j c in
-      rw (pending-at j c) (omega (arith, o .1 .late, well-formed s w .clock, message-stream s (sound s w) (h .places) j c (h .set .sixteen) .deadline .high))
+      let o = stands s (sound s w) ms j c in
+      rw (pending-at j c) (omega (arith, o .1 .late, well-formed s w .clock, message-stream s (sound s w) ms j c ss .deadline .high))
 
   -- "choose is the paper's choice"
   pub choice : (s .count ≡ 0 → ⊥) → Served (s .set) (pending s) (placeOf s)

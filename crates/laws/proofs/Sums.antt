@@ -214,6 +214,10 @@ pub all-below : (P : ℕ → Type 0) (n : ℕ) → ((k : ℕ) → k < n → P k)
 all-below P zero f = tt
 all-below P (suc n) f = (f n (omega arith), all-below P n (λ k h. f k (omega arith)))
 
+pub length-below : (n : ℕ) → length (below n) ≡ n
+length-below zero = refl
+length-below (suc n) = ap suc (length-below n)
+
 -- an array that is a field of a struct stands in the machine's relation as a `map` of its list
 pub length-of-map : (X Y : Type 0) (f : X → Y) (l : List X) (n : ℕ) → length (map f l) ≡ n → length l ≡ n
 length-of-map X Y f l n e = sym (length-map l f) ∙ e

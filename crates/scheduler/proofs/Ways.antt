@@ -23,8 +23,10 @@ use Rattle.rules.specs.Streams.{streamAt, noStream}
 use Rattle.rules.specs.States.{wellFormed, taskOf, costOf}
 use Rattle.rules.specs.Steps.{newMessage, added, postRefused, postOf, messageAt, placeOf, chooseOf, ticked, stayed, departed, laxityOf, answered, servedOf, emptyUnit, unitOf}
 use Rattle.rules.proofs.Valid.{valid-set}
-use Rattle.states.proofs.WellFormed.{blank, well-formed, stream-valid}
+use Rattle.states.proofs.WellFormed.{blank, well-formed, sound, stream-valid, stands, stream-place, stream-read, message-stream}
+use Rattle.choosing.proofs.Choice.{place-in}
 use Rattle.choosing.proofs.Looking.{Serves, Rests}
+use Rattle.scheduler.specs.Serving.{Servable}
 
 -- ---- post
 
@@ -57,6 +59,31 @@ module _ (s : State) (k : ℕ) where
             → _≡_ {A = PostResult} (record { answer = Posted k (s .clock + getD (s .set .streams) k blank .deadline); state = t }) (postOf s k)
         unfolding postOf
         posted t e g = rw (e, read, w, lt-ltb _ _ h, lt-ltb _ _ g)
+
+-- ---- the message that is served
+
+module _ (s : State) (i : ℕ) (h : Serves s i) (ms : length (s .messages) ≡ 64) (ss : length (s .set .streams) ≡ 16) where
+  pub place-count : i < s .count
+  place-count = rw (h .place) (place-in s (h .formed) ms ss (h .some))
+
+  pub place-lt : i < 64
+  place-lt = omega (arith, place-count, well-formed s (h .formed) .few)
+
+  pub stream-lt : messageAt s i .stream < 16
+  stream-lt = stream-place s (sound s (h .formed)) ms i place-count
+
+  pub stream-is : getD (s .set .streams) (messageAt s i .stream) blank ≡ streamAt (s .set) (messageAt s i .stream)
+  stream-is = stream-read s (sound s (h .formed)) ms i place-count ss
+
+  pub servable : s .clock < 4000000000 → Servable s i
+  servable c = record {
+    clock = c;
+    some = omega (arith, place-count);
+    place = place-lt;
+    stream = stream-lt;
+    used = omega (arith, stands s (sound s (h .formed)) ms i place-count .1 .used, message-stream s (sound s (h .formed)) ms i place-count ss .cost .high);
+    deadline = omega (arith, stands s (sound s (h .formed)) ms i place-count .1 .late, message-stream s (sound s (h .formed)) ms i place-count ss .deadline .high);
+  }
 
 -- ---- choose
 

@@ -10,3 +10,4 @@ pub record Servable (s : State) (i : ℕ) : Type 0 where
   pub place : i < 64
   pub stream : messageAt s i .stream < 16
   pub used : messageAt s i .used < 65535
+  pub deadline : messageAt s i .deadline < 4294967296

@@ -1,36 +1,29 @@
-use native.Mathlib.Omega.{arith}
+-- `scheduler::start` meets its contract. Assumes nothing.
 use borrow.Author.Needs.{needs}
+use mathlib.Core.Path.{_≡_, refl, sym, ap, _∙_}
+use Rattle.rules.specs.Steps.{startOf}
 use Rattle.scheduler.proofs.start.Statement.{statement}
 use Rattle.scheduler.proofs.start.Tie as tie
-use Rattle.scheduler.proofs.start.Reads as reads
-use Rattle.scheduler.proofs.start.Lts as lts
-use Rattle.scheduler.proofs.fresh_state.Reads as fresh-state-reads
-use Rattle.streams.proofs.empty_set.Reads as empty-set-reads
-use Rattle.streams.proofs.is_valid.Reads as is-valid-reads
 
--- src/lib.rt:39:8
 is-valid-requires : tie.Need-is-valid-requires
 is-valid-requires c κs = search needs
 
--- src/lib.rt:40:13
 fresh-state-requires : tie.Need-fresh-state-requires
 fresh-state-requires c κs = search needs
 
--- src/lib.rt:42:9
 returns : tie.Need-returns
-returns c = ?
+unfolding startOf
+returns c = simp (c .fresh-state .ensures, sym (c .before .before .is-valid .ensures) ∙ c .before .if1 .taken)
 
--- src/lib.rt:47:25
 empty-set-requires : tie.Need-empty-set-requires
 empty-set-requires c κs = search needs
 
--- src/lib.rt:47:9
 fresh-state-requires-2 : tie.Need-fresh-state-requires-2
 fresh-state-requires-2 c κs = search needs
 
--- src/lib.rt:36:1
 returns-2 : tie.Need-returns-2
-returns-2 c = ?
+unfolding startOf
+returns-2 c = simp (c .fresh-state2 .ensures, c .before .empty-set .ensures, sym (c .before .before .before .is-valid .ensures) ∙ c .before .before .if1 .left)
 
 pub start-spec : {M : Type 1} → statement M
 start-spec =

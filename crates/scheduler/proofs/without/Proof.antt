@@ -1,59 +1,53 @@
+-- `scheduler::without` meets its contract. Taking k out of what there is comes to the same as taking i out of what there was. Assumes nothing.
 use native.Mathlib.Omega.{arith}
 use borrow.Author.Needs.{needs}
+use mathlib.Core.Path.{_≡_, refl, sym, ap, _∙_}
+use Prim.Native.Nat.{ℕ, _+_, _-_, _≤_, _<_}
+use lib.ListN.{length, getD, length-set}
+use Rattle.laws.specs.Lists.{remove}
+use Rattle.laws.proofs.Parts.{remove-step, remove-last}
+use Rattle.rules.specs.States.{noMessage}
 use Rattle.scheduler.proofs.without.Statement.{statement}
 use Rattle.scheduler.proofs.without.Tie as tie
-use Rattle.scheduler.proofs.without.Reads as reads
-use Rattle.scheduler.proofs.without.Lts as lts
 
 abbrev Inv-loop : tie.InvT-loop
-Inv-loop i b₀ k₀ b k = ?
+Inv-loop i b₀ k₀ b k = (k ≤ 63) × (length b ≡ 64) × (remove noMessage k b ≡ remove noMessage i b₀)
 
 abbrev μ-loop : tie.MeasureT-loop
-μ-loop i b₀ k₀ b k = ?
+μ-loop i b₀ k₀ b k = 63 - k
 
--- src/lib.rt:147:5
 loop-holds : tie.Need-loop-holds Inv-loop μ-loop
-loop-holds c = ?
+loop-holds c = (omega arith, c .good .0 .1 .0 .1, refl)
 
--- src/lib.rt:148:19
 add-m : tie.Need-add-m Inv-loop μ-loop
-add-m c = ?
+add-m c = search needs
 
--- src/lib.rt:148:17
 mul-m : tie.Need-mul-m Inv-loop μ-loop
-mul-m c = ?
+mul-m c = search needs
 
--- src/lib.rt:148:17
 array-copy-out-m : tie.Need-array-copy-out-m Inv-loop μ-loop
-array-copy-out-m c = ?
+array-copy-out-m c = search needs
 
--- src/lib.rt:149:9
 mul-b : tie.Need-mul-b Inv-loop μ-loop
-mul-b c = ?
+mul-b c = search needs
 
--- src/lib.rt:149:9
 array-set-from-b : tie.Need-array-set-from-b Inv-loop μ-loop
-array-set-from-b c = ?
+array-set-from-b c = search needs
 
--- src/lib.rt:150:13
 add-k : tie.Need-add-k Inv-loop μ-loop
-add-k c = ?
+add-k c = search needs
 
--- src/lib.rt:147:5
 loop-less : tie.Need-loop-less Inv-loop μ-loop
-loop-less c = ?
+loop-less c = search needs
 
--- src/lib.rt:147:5
 loop-again : tie.Need-loop-again Inv-loop μ-loop
-loop-again c = ?
+loop-again c = (omega arith, simp length-set (c .before .before .loop .inv .1), remove-step noMessage (c .before .before .loop .k) (c .before .before .loop .b) (omega arith) ∙ c .before .before .loop .inv .2)
 
--- src/lib.rt:152:5
 array-set-from-b-2 : tie.Need-array-set-from-b-2 Inv-loop μ-loop
-array-set-from-b-2 c = ?
+array-set-from-b-2 c = search needs
 
--- src/lib.rt:141:1
 returns : tie.Need-returns Inv-loop μ-loop
-returns c = ?
+returns c = (let e : 63 ≡ c .before .loop .k = omega arith in sym (remove-last noMessage 63 (c .before .loop .b) (c .before .loop .inv .1)) ∙ (ap (λ (k : ℕ). remove noMessage k (c .before .loop .b)) e ∙ c .before .loop .inv .2))
 
 pub without-spec : {M : Type 1} → statement M
 without-spec =
