@@ -84,10 +84,10 @@ module _ (s : State) (f : Formed s) where
 
   module _ (v : Serving s) where
     words : Served (s .set) (pending s) (placeOf s)
-    words = choice s (f .formed) (f .housed) (v .some)
+    words = choice s (f .formed) (f .housed .places) (f .housed .set .sixteen) (v .some)
 
     low : placeOf s < s .count
-    low = place-in s (f .formed) (f .housed) (v .some)
+    low = place-in s (f .formed) (f .housed .places) (f .housed .set .sixteen) (v .some)
 
     x : Message
     x = at (pending s) (placeOf s)
