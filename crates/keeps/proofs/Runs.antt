@@ -31,7 +31,7 @@ fresh-formed S placed ok = record {
   housed = record { set = placed; places = refl };
 }
 
-all-same : {A : Type 0} (P : A → Type 0) (a : A) → P a → (n : ℕ) → All P (replicate n a)
+pub all-same : {A : Type 0} (P : A → Type 0) (a : A) → P a → (n : ℕ) → All P (replicate n a)
 all-same P a p zero = tt
 all-same P a p (suc n) = (p, all-same P a p n)
 

@@ -3,3 +3,4 @@ pub mod Pairing
 pub mod Base
 pub mod Following
 pub mod Promise
+pub mod SetB

@@ -108,7 +108,8 @@ module _ (S : Set) (placed : Placed S) (ok : valid S ≡ true) where
       let h : Has (pendingOf (runOf S before)) m = pair-in (runOf S before .names) (pending (runOf S before .state)) (all-named S placed ok (runOf S before) (kept before)) i in
       run-none-due fits before more keeps (name (h .number) m) (h .here)
 
--- ---- DEMAND 3
+-- ---- DEMAND 3. A late message already started by a task that an urgent one also needs is covered by the blocking that demand counts:
+-- `account-blocked` of deadlines/proofs/Account.antt charges its units to the task.
 
 at-cost : (S : Set) (p : Accepted) (d : Departure) (k : ℕ) → k ≡ p .stream → (how : How) → CutAtCost S k d how → AtCost S p d how
 at-cost S p d k e finished c = tt
