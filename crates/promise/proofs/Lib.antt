@@ -1,6 +1,9 @@
 pub mod Choosing
 pub mod Pairing
 pub mod Base
+pub mod Moments
+pub mod Posting
+pub mod Serving
 pub mod Following
 pub mod Promise
 pub mod SetB

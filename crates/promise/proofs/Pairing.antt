@@ -12,6 +12,11 @@ use Rattle.promise.specs.Kind.{Named, paired}
 abbrev pub name : ℕ → Message → Named
 name n m = record { number = n; message = m }
 
+pub paired-none : (ns : List ℕ) → paired ns [] ≡ []
+unfolding paired
+paired-none [] = refl
+paired-none (n ∷ ns) = refl
+
 pub paired-append : (ns : List ℕ) (ms : List Message) (ns′ : List ℕ) (ms′ : List Message) → length ns ≡ length ms → paired (ns ++ ns′) (ms ++ ms′) ≡ paired ns ms ++ paired ns′ ms′
 unfolding paired
 paired-append [] [] ns′ ms′ e = refl

@@ -35,7 +35,9 @@ use Rattle.promise.specs.Statements.{NeverDue, NotLate, NoLateAnswer, Ea
 use Rattle.keeps.proofs.Cases.{Serving, chosenOf, UnitCase, stops, idles, finishes, cuts, runs as stays, unit-case, message-is}
 use Rattle.promise.proofs.Pairing.{name, pair-in, Has}
 use Rattle.promise.proofs.Base.{base, base-fits, base-keeps}
-use Rattle.promise.proofs.Following.{Good, all-named, momentOf, lawful, place-in, place-low}
+use Rattle.promise.proofs.Moments.{Good, all-numbered, momentOf}
+use Rattle.promise.proofs.Serving.{words, chosen-is}
+use Rattle.promise.proofs.Following.{lawful}
 
 -- ---- an accepted set is valid, and demand fits in every length
 
@@ -105,7 +107,7 @@ module _ (S : Set) (placed : Placed S) (ok : valid S ≡ true) where
   -- and of its messages without their numbers
   not-due : Fits (base S placed ok) → (before more : List Call) → Keeps (base S placed ok) (runOf S (before ++ more) .accepted) → Each (λ m. runOf S before .state .clock < m .deadline) (pending (runOf S before .state))
   not-due fits before more keeps m i =
-      let h : Has (pendingOf (runOf S before)) m = pair-in (runOf S before .names) (pending (runOf S before .state)) (all-named S placed ok (runOf S before) (kept before)) i in
+      let h : Has (pendingOf (runOf S before)) m = pair-in (runOf S before .names) (pending (runOf S before .state)) (all-numbered S placed ok (runOf S before) (kept before)) i in
       run-none-due fits before more keeps (name (h .number) m) (h .here)
 
 -- ---- DEMAND 3. A late message already started by a task that an urgent one also needs is covered by the blocking that demand counts:
@@ -177,8 +179,8 @@ no-late-answer S placed v calls keeps done = not-late (r .state) done early (uni
       arith,
       never-due S placed v calls [] keeps-still
           (getD (pending (r .state)) (placeOf (r .state)) noMessage)
-          (mem-getD (pending (r .state)) (placeOf (r .state)) noMessage (place-in S placed ok r (kept S placed ok calls) (reached S placed ok calls) w)),
-      ap (λ (m : Message). m .deadline) (message-is (r .state) (kept S placed ok calls .places) (placeOf (r .state)) (place-low S placed ok r (kept S placed ok calls) (reached S placed ok calls) w)),
+          (mem-getD (pending (r .state)) (placeOf (r .state)) noMessage (words S placed ok r (kept S placed ok calls) (reached S placed ok calls) w .inside)),
+      ap (λ (m : Message). m .deadline) (chosen-is S placed ok r (kept S placed ok calls) (reached S placed ok calls) w),
     )
 
 -- ---- each number once
@@ -198,7 +200,7 @@ unfolding EachOnce ifle
 each-once S placed ok calls n = omega (
   arith,
   once (base S placed ok) (reached S placed ok calls) n,
-  waiting S placed ok n (runOf S calls .names) (pending (runOf S calls .state)) (all-named S placed ok (runOf S calls) (kept S placed ok calls)),
+  waiting S placed ok n (runOf S calls .names) (pending (runOf S calls .state)) (all-numbered S placed ok (runOf S calls) (kept S placed ok calls)),
   leaving S placed ok n (runOf S calls .departures),
 )
 
