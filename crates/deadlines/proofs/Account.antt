@@ -1,17 +1,17 @@
 -- The deadline argument: a run whose posts keep the event limits has no pending message at or past its deadline, if demand(I) is at most I for every I.
 -- Assumes nothing.
-use Prim.Native.Nat.{ℕ, zero, suc, _+_, _-_, _*_, _≤_, _<_}
-use mathlib.Core.Bool.{Bool, cond, _&&_}
-use mathlib.Core.List.{List, [], _∷_, _++_, List·Memᴰ}
-use mathlib.Core.Logic.{_⊎_, inl, inr, _≢_, ⊎-elim}
+use Prim.Native.Nat.{ℕ, suc, _+_, _-_, _*_, _≤_, _<_}
+use mathlib.Core.Bool.{cond}
+use mathlib.Core.List.{List, [], _∷_, _++_}
+use mathlib.Core.Logic.{_≢_, ⊎-elim}
 use mathlib.Core.Path.{_≡_, refl, sym, ap, subst, _∙_}
 use native.Mathlib.Nat.{mul-le-mul-left}
 use native.Mathlib.Omega.{arith}
-use lib.Dec.{T, leb, eqb, le→leb, eqb-refl}
+use lib.Dec.{T, leb, eqb, le→leb}
 use Rattle.laws.specs.Lists.{within, below, sum, count}
 use Rattle.laws.proofs.Sums.{sum-none}
 use Rattle.laws.proofs.Gates.{le-or-lt, eq-or-ne, both-pass, same-pass, cond-yes, ifle, ifle-yes, ifle-no, ifeq, ifeq-yes, ifeq-no, range-mono, range-bump, sum-last, sum-mid, sum-at, sum-scale, sum-zero, sum-member, Each, mem-here, each-nil, each-last, each-mid}
-use Rattle.deadlines.specs.Model.{Model, inWindow, Keeps, due, blocked, demand, Fits, New, Choice, Stays, After, Run, start, post, unit, idle}
+use Rattle.deadlines.specs.Model.{Model, inWindow, Keeps, due, blocked, demand, Fits, New, Choice, After, Run, start, post, unit, idle}
 use Rattle.deadlines.proofs.Formed.{after-each, after-sum, started, started-same, Soon, Formed, formed}
 
 module _ (𝓜 : Model) where

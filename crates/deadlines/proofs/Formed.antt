@@ -1,14 +1,14 @@
 -- What is true at every moment of a run, whatever the load: messages keep their rules, none was posted in the future, each task has started at most one.
 -- Assumes nothing.
-use Prim.Native.Nat.{ℕ, zero, suc, _+_, _-_, _*_, _≤_, _<_}
-use mathlib.Core.List.{List, [], _∷_, _++_, List·Memᴰ}
-use mathlib.Core.Logic.{_⊎_, inl, inr, _≢_, ⊎-elim}
-use mathlib.Core.Path.{_≡_, refl, sym, ap, subst, _∙_}
+use Prim.Native.Nat.{ℕ, suc, _+_, _≤_, _<_}
+use mathlib.Core.List.{List, [], _∷_, _++_}
+use mathlib.Core.Logic.{_≢_, ⊎-elim}
+use mathlib.Core.Path.{_≡_, sym, ap, _∙_}
 use native.Mathlib.Omega.{arith}
 use Rattle.laws.specs.Lists.{sum}
 use Rattle.laws.proofs.Sums.{sum-none}
-use Rattle.laws.proofs.Gates.{le-or-lt, eq-or-ne, ifle, ifle-yes, ifle-no, ifeq, ifeq-yes, ifeq-no, sum-one, sum-last, sum-mid, sum-at, sum-zero, Each, mem-here, each-nil, each-one, each-last, each-mid}
-use Rattle.deadlines.specs.Model.{Model, New, Choice, Stays, Leaves, After, leaves, stays, Run, start, post, unit, idle}
+use Rattle.laws.proofs.Gates.{eq-or-ne, ifle, ifle-yes, ifle-no, ifeq, ifeq-yes, ifeq-no, sum-one, sum-last, sum-mid, sum-at, sum-zero, Each, mem-here, each-nil, each-one, each-last, each-mid}
+use Rattle.deadlines.specs.Model.{Model, Choice, Stays, After, leaves, stays, Run, start, post, unit, idle}
 
 module _ (𝓜 : Model) where
   open Model 𝓜 using (Msg, stream, task, deadline, hold, Fine, Post, Departure, span)

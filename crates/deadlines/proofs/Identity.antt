@@ -1,17 +1,16 @@
 -- Every accepted message is accounted for by its number: it is pending, or it has left, not after its deadline, and never both nor twice.
 -- Assumes nothing.
-use Prim.Native.Nat.{ℕ, zero, suc, _+_, _≤_, _<_}
-use mathlib.Core.Bool.{Bool, cond}
-use mathlib.Core.List.{List, [], _∷_, _++_, List·Memᴰ, List·Memᴰ·head, Memᴰ·append-left, Memᴰ·append-right, Memᴰ·cast}
+use Prim.Native.Nat.{ℕ, suc, _+_, _≤_, _<_}
+use mathlib.Core.Bool.{cond}
+use mathlib.Core.List.{List, [], _∷_, _++_, List·Memᴰ, List·Memᴰ·head, Memᴰ·append-left, Memᴰ·append-right}
 use mathlib.Core.Logic.{_⊎_, inl, inr, _≢_, ⊎-elim}
-use mathlib.Core.Path.{_≡_, refl, sym, ap, subst, _∙_}
+use mathlib.Core.Path.{_≡_, refl, ap, subst, _∙_}
 use native.Mathlib.Omega.{arith}
 use lib.ListN.{length, length-append}
-use lib.Dec.{T, eqb}
 use Rattle.laws.specs.Lists.{sum, count}
 use Rattle.laws.proofs.Sums.{sum-none, sum-append}
 use Rattle.laws.proofs.Gates.{le-or-lt, eq-or-ne, ifle, ifle-yes, ifle-no, ifeq, ifeq-yes, ifeq-no, sum-one, sum-last, sum-mid, sum-at, Each, mem-here, mem-mid, each-nil, each-last}
-use Rattle.deadlines.specs.Model.{Model, inWindow, Keeps, Fits, Of, New, Choice, Stays, Leaves, After, leaves, stays, Run, start, post, unit, idle, Pending, Left}
+use Rattle.deadlines.specs.Model.{Model, inWindow, Keeps, Fits, Of, New, After, leaves, stays, Run, start, post, unit, idle, Pending, Left}
 use Rattle.deadlines.proofs.Account.{on-time}
 
 module _ (𝓜 : Model) where

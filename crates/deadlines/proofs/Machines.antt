@@ -1,7 +1,7 @@
 -- Demand 3 for any lawful machine, whatever its ties, refusals, extra state and count of time. Assumes nothing.
 use mathlib.Core.List.{List, [], _∷_, _++_, append-assoc, append-nil}
-use mathlib.Core.Path.{_≡_, refl, sym, ap, subst, _∙_}
-use Rattle.deadlines.specs.Model.{Model, Keeps, Fits, Run, start}
+use mathlib.Core.Path.{sym, ap, subst, _∙_}
+use Rattle.deadlines.specs.Model.{Model, Keeps, Fits, start}
 use Rattle.deadlines.specs.Machine.{Moment, outset, Reached, NoneDue, AllLeft, Next, runs, Following, Lawful}
 use Rattle.deadlines.proofs.Account.{on-time}
 use Rattle.deadlines.proofs.Identity.{keeps-before, left-in-time}

@@ -1,7 +1,7 @@
 -- What the deadline argument speaks of: any kind of message, post and departure, and the runs of a scheduler over them.
 -- The set of document 01 is one kind; stages, parties, other ties and a wrapped clock are others.
 -- Assumes nothing.
-use Prim.Native.Nat.{ℕ, zero, suc, _+_, _-_, _*_, _≤_, _<_}
+use Prim.Native.Nat.{ℕ, suc, _+_, _-_, _*_, _≤_, _<_}
 use mathlib.Core.Bool.{Bool, cond, _&&_}
 use mathlib.Core.List.{List, [], _∷_, _++_, List·Memᴰ}
 use mathlib.Core.Logic.{_⊎_}

@@ -1,19 +1,17 @@
 -- What a post and a unit of document 01 come to, case by case, and the pending messages after each. Assumes nothing.
-use Prim.Native.Nat.{ℕ, zero, suc, _+_, _-_, _≤_, _<_}
-use mathlib.Core.Bool.{Bool, true, false, cond, not, _&&_}
+use Prim.Native.Nat.{ℕ, suc, _+_, _-_, _≤_, _<_}
+use mathlib.Core.Bool.{Bool, true, false, cond, not}
 use mathlib.Core.List.{List, [], _∷_, _++_}
-use mathlib.Core.Logic.{_⊎_, inl, inr, _≢_, ⊎-elim}
-use mathlib.Core.Path.{_≡_, refl, sym, ap, subst, _∙_}
+use mathlib.Core.Logic.{_≢_}
+use mathlib.Core.Path.{_≡_, sym, ap, _∙_}
 use native.Mathlib.Numerals.{add-one}
 use native.Mathlib.Omega.{arith}
-use lib.ListN.{length, getD, take, drop, set, length-take}
+use lib.ListN.{length, getD, take, drop, set}
 use lib.Seq.{take-suc-set, take-set-lt, set-split, getD-take, length-take-le, take-take}
-use lib.Dec.{T, leb, ltb, eqb, ltb→lt, eqb→eq, T-not}
+use lib.Dec.{T, ltb, eqb, ltb→lt, eqb→eq, T-not}
 use lib.IntN.{ℤ}
-use Rattle.laws.specs.Lists.{remove}
 use Rattle.laws.proofs.Gates.{same-pass}
 use Rattle.laws.proofs.Parts.{take-remove}
-use Rattle.rules.specs.declared.Set.{Set}
 use Rattle.rules.specs.declared.Message.{Message}
 use Rattle.rules.specs.declared.State.{State}
 use Rattle.rules.specs.declared.Refusal.{Refusal}

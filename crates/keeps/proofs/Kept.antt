@@ -1,32 +1,29 @@
 -- Start gives a well formed state, post and unit keep one, so every state that calls from a start can leave is well formed; and 12 is given exactly for one that is not.
 -- Assumes nothing.
-use Prim.Native.Nat.{ℕ, zero, suc, _+_, _-_, _≤_, _<_}
-use mathlib.Core.Bool.{Bool, true, false, cond}
-use mathlib.Core.List.{List, [], _∷_, _++_, List·Memᴰ}
-use mathlib.Core.Logic.{_⊎_, _≢_, ⊎-elim}
+use Prim.Native.Nat.{ℕ, suc, _+_, _-_, _≤_, _<_}
+use mathlib.Core.Bool.{Bool, true}
+use mathlib.Core.List.{List, [], _∷_, _++_}
+use mathlib.Core.Logic.{_≢_, ⊎-elim}
 use mathlib.Core.Path.{_≡_, refl, sym, ap, subst, _∙_}
 use native.Mathlib.Numerals.{add-one}
 use native.Mathlib.Omega.{arith}
-use lib.ListN.{length, getD, take, drop, set, length-set}
+use lib.ListN.{length, take, drop, set, length-set}
 use lib.Seq.{split-at, drop-set-lt}
-use Rattle.laws.specs.Lists.{below, all, remove}
-use Rattle.laws.proofs.Sums.{by-test}
+use Rattle.laws.specs.Lists.{all, remove}
 use Rattle.laws.proofs.Parts.{length-remove}
 use Rattle.laws.proofs.Gates.{eq-or-ne, Each, Placed-at, mem-at, all-drop, all-last, drop-remove}
-use Rattle.rules.specs.declared.Set.{Set}
 use Rattle.rules.specs.declared.Message.{Message}
 use Rattle.rules.specs.declared.State.{State}
-use Rattle.rules.specs.declared.StartResult.{StartResult}
 use Rattle.rules.specs.declared.PostResult.{PostResult}
 use Rattle.rules.specs.declared.UnitResult.{UnitResult}
-use Rattle.rules.specs.Streams.{Placed, emptySet, streamAt, valid}
-use Rattle.rules.specs.States.{noMessage, pending, taskOf, costOf, spanOf, messagesOk, startedOnce, messageUnused, lastClock, wellFormed, Housed}
-use Rattle.rules.specs.Steps.{fresh, startOf, newMessage, added, postOf, placeOf, messageAt, ticked, gained, stayed, departed, unitOf}
+use Rattle.rules.specs.Streams.{Placed}
+use Rattle.rules.specs.States.{noMessage, pending, taskOf, costOf, messageUnused, lastClock, Housed}
+use Rattle.rules.specs.Steps.{newMessage, added, postOf, placeOf, messageAt, ticked, gained, stayed, departed, unitOf}
 use Rattle.states.proofs.Standing.{Standing}
 use Rattle.states.proofs.WellFormed.{WellFormed, well-formed, well-formed-back}
 use Rattle.choosing.specs.Words.{at, Served}
 use Rattle.choosing.proofs.Choice.{choice, place-in}
-use Rattle.keeps.specs.Formed.{Formed, StartGives, PostKeeps, UnitKeeps}
+use Rattle.keeps.specs.Formed.{Formed, PostKeeps, UnitKeeps}
 use Rattle.keeps.proofs.Valid.{stream-valid}
 use Rattle.keeps.proofs.Cases.{PostCase, refuses, accepts, post-case, Serving, chosenOf, UnitCase, stops, idles, finishes, cuts, runs, unit-case, pending-added, message-is, pending-stayed, pending-departed}
 use Rattle.keeps.proofs.Rows.{Rows, rows, rows-ok, rows-last, rows-later, rows-gain, rows-leave, row-at}

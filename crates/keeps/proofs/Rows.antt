@@ -1,14 +1,14 @@
 -- Pending messages in their order, as propositions: what a post, a departure and a used unit leave of it. Assumes nothing.
-use Prim.Native.Nat.{ℕ, suc, _+_, _-_, _≤_, _<_}
-use mathlib.Core.Bool.{Bool, true, false, _&&_}
+use Prim.Native.Nat.{ℕ, _+_, _≤_, _<_}
+use mathlib.Core.Bool.{true}
 use mathlib.Core.List.{List, [], _∷_, _++_}
-use mathlib.Core.Path.{_≡_, refl, sym, ap, subst, _∙_}
+use mathlib.Core.Path.{_≡_, refl}
 use native.Mathlib.Omega.{arith}
 use Rattle.laws.specs.Lists.{scan}
 use Rattle.laws.proofs.Parts.{both-first, both-second}
 use Rattle.rules.specs.declared.Set.{Set}
 use Rattle.rules.specs.declared.Message.{Message}
-use Rattle.rules.specs.States.{costOf, spanOf, postedAt, messageOk, messagesOk}
+use Rattle.rules.specs.States.{costOf, postedAt, messageOk, messagesOk}
 use Rattle.rules.specs.Steps.{gained}
 use Rattle.states.proofs.Standing.{Standing, standing, standing-ok}
 

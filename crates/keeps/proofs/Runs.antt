@@ -1,21 +1,20 @@
 -- Every state that calls from a start can leave is well formed. Assumes nothing.
-use Prim.Native.Nat.{ℕ, zero, suc, _+_, _≤_, _<_}
-use mathlib.Core.Bool.{Bool, true, false, cond}
+use Prim.Native.Nat.{ℕ, zero, suc}
+use mathlib.Core.Bool.{true}
 use mathlib.Core.List.{List, [], _∷_}
-use mathlib.Core.Path.{_≡_, refl, sym, ap, subst, _∙_}
+use mathlib.Core.Path.{_≡_, refl, sym, subst}
 use native.Mathlib.Omega.{arith}
-use lib.ListN.{length, replicate}
+use lib.ListN.{replicate}
 use Rattle.laws.specs.Lists.{All, all, sum, count, scan}
 use Rattle.laws.proofs.Sums.{by-test}
 use Rattle.rules.specs.declared.Set.{Set}
 use Rattle.rules.specs.declared.State.{State}
-use Rattle.rules.specs.declared.StartResult.{StartResult}
 use Rattle.rules.specs.declared.PostAnswer.{PostAnswer}
 use Rattle.rules.specs.declared.PostAnswer.the-variants.{Posted, Refused as PostRefused}
 use Rattle.rules.specs.declared.UnitAnswer.{UnitAnswer}
 use Rattle.rules.specs.declared.UnitAnswer.the-variants.{Ran, Finished, Cut, Idle, Refused as UnitRefused}
 use Rattle.rules.specs.Streams.{Placed, FourTuples, noStream, emptySet, tupleUnused, streamUnused, valid}
-use Rattle.rules.specs.States.{messagesOk, startedOnce, messageUnused, wellFormed}
+use Rattle.rules.specs.States.{messagesOk, startedOnce, messageUnused}
 use Rattle.rules.specs.Steps.{fresh, startOf, postOf, unitOf}
 use Rattle.rules.specs.Runs.{Call, posts, units, Run, afterPost, afterUnit, stepOf, begin, runFrom, runOf}
 use Rattle.states.proofs.WellFormed.{well-formed-back}

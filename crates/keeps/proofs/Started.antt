@@ -1,16 +1,16 @@
 -- Each task has at most one message with a used unit: what a post, a departure and a used unit leave of it. Assumes nothing.
-use Prim.Native.Nat.{ℕ, suc, _+_, _-_, _≤_, _<_}
+use Prim.Native.Nat.{ℕ, _+_, _≤_, _<_}
 use mathlib.Core.Bool.{Bool, true, false, cond, _&&_}
-use mathlib.Core.List.{List, [], _∷_, _++_, List·Memᴰ}
-use mathlib.Core.Logic.{_⊎_, _≢_, ⊎-elim}
-use mathlib.Core.Path.{_≡_, refl, sym, ap, subst, _∙_}
+use mathlib.Core.List.{List, [], _∷_, _++_}
+use mathlib.Core.Logic.{_≢_, ⊎-elim}
+use mathlib.Core.Path.{_≡_, refl, sym, _∙_}
 use native.Mathlib.Omega.{arith}
 use borrow.Author.Tests.{leb-true, le-leb, lt-ltb, le-ltb, eq-eqb, ne-eqb}
-use lib.Dec.{ltb, leb, eqb}
+use lib.Dec.{ltb, eqb}
 use Rattle.laws.specs.Lists.{below, all, sum, count}
 use Rattle.laws.proofs.Sums.{sum-append}
 use Rattle.laws.proofs.Parts.{below-all, below-at}
-use Rattle.laws.proofs.Gates.{le-or-lt, eq-or-ne, sum-last, sum-at, sum-zero, Each}
+use Rattle.laws.proofs.Gates.{eq-or-ne, sum-last, sum-at, sum-zero, Each}
 use Rattle.rules.specs.declared.Set.{Set}
 use Rattle.rules.specs.declared.Message.{Message}
 use Rattle.rules.specs.States.{taskOf, startedOf, startedOnce}

@@ -1,21 +1,20 @@
 -- 12 is answered exactly for a state that is not well formed. Assumes nothing.
-use Prim.Native.Nat.{ℕ, _+_, _≤_, _<_}
+use Prim.Native.Nat.{ℕ, _+_}
 use mathlib.Core.Bool.{Bool, true, false, cond}
 use mathlib.Core.Path.{_≡_, refl}
 use native.Mathlib.Omega.{arith}
 use lib.Dec.{ltb, eqb}
 use Rattle.rules.specs.declared.State.{State}
-use Rattle.rules.specs.declared.Refusal.{Refusal}
-use Rattle.rules.specs.declared.Refusal.the-variants.{NoStream, Full, LastClock, NothingPending, IllFormed}
+use Rattle.rules.specs.declared.Refusal.the-variants.{NoStream, Full, LastClock, IllFormed}
 use Rattle.rules.specs.declared.PostResult.{PostResult}
 use Rattle.rules.specs.declared.PostAnswer.the-variants.{Posted, Refused as PostRefused}
 use Rattle.rules.specs.declared.ChooseAnswer.{ChooseAnswer}
 use Rattle.rules.specs.declared.ChooseAnswer.the-variants.{Nothing, Runs, Refused as ChooseRefused}
 use Rattle.rules.specs.declared.UnitResult.{UnitResult}
-use Rattle.rules.specs.declared.UnitAnswer.the-variants.{Ran, Finished, Cut, Idle, Refused as UnitRefused}
+use Rattle.rules.specs.declared.UnitAnswer.the-variants.{Ran, Finished, Cut, Refused as UnitRefused}
 use Rattle.rules.specs.States.{taskOf, costOf, lastClock, wellFormed}
-use Rattle.rules.specs.Steps.{newMessage, added, postRefused, postOf, placeOf, messageAt, chooseOf, ticked, stayed, departed, laxityOf, answered, servedOf, emptyUnit, unitOf}
-use Rattle.keeps.specs.Formed.{TwelveExactly, Twelve}
+use Rattle.rules.specs.Steps.{newMessage, added, postRefused, postOf, placeOf, messageAt, chooseOf, stayed, departed, laxityOf, answered, servedOf, emptyUnit, unitOf}
+use Rattle.keeps.specs.Formed.{Twelve}
 
 -- two refusals or answers that differ are not equal
 module _ (s : State) where

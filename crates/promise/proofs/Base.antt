@@ -1,22 +1,20 @@
 -- Document 01's set and messages as a kind of the deadline argument, and its demand and limits as that argument's. Assumes nothing.
-use Prim.Native.Nat.{ℕ, zero, suc, _+_, _-_, _*_, _≤_, _<_}
-use mathlib.Core.Bool.{Bool, true, false, cond, _&&_}
-use mathlib.Core.List.{List, [], _∷_, List·Memᴰ}
-use mathlib.Core.Logic.{_⊎_, inl, inr, _≢_, ⊎-elim}
-use mathlib.Core.Path.{_≡_, refl, sym, ap, subst, _∙_}
+use Prim.Native.Nat.{ℕ, _-_, _≤_, _<_}
+use mathlib.Core.Bool.{true, cond}
+use mathlib.Core.List.{List}
+use mathlib.Core.Logic.{⊎-elim}
+use mathlib.Core.Path.{_≡_, refl, ap}
 use native.Mathlib.Omega.{arith}
-use lib.ListN.{length, getD}
-use lib.Dec.{T, leb, ltb, eqb, leb→le, le→leb, ltb→lt, lt→ltb}
+use lib.ListN.{getD}
+use lib.Dec.{leb, ltb, eqb, leb→le, le→leb, ltb→lt, lt→ltb}
 use Rattle.laws.specs.Lists.{below, any, sum, top, count}
 use Rattle.laws.proofs.Gates.{le-or-lt, both-pass, same-pass, cond-yes, cond-no, range-mono, sum-places, top-member, any-member}
 use Rattle.rules.specs.declared.Set.{Set}
-use Rattle.rules.specs.declared.Stream.{Stream}
-use Rattle.rules.specs.declared.Message.{Message}
 use Rattle.rules.specs.Streams.{Placed, noStream, streamsOf, streamAt, limit, valid}
 use Rattle.rules.specs.States.{taskOf, costOf, spanOf}
 use Rattle.rules.specs.Load.{due, urgent, held, blocking, demand}
 use Rattle.rules.specs.Runs.{Accepted, Departure, KeepsLimits}
-use Rattle.deadlines.specs.Model.{Model, Keeps, Fits, inWindow, due as modelDue, blocked, demand as modelDemand}
+use Rattle.deadlines.specs.Model.{Model, Keeps, Fits, inWindow, due as modelDue, demand as modelDemand}
 use Rattle.promise.specs.Kind.{Named, Fine, restOf, holdOf, capOf, Urged, Tells}
 use Rattle.keeps.proofs.Valid.{streams-length, stream-is, stream-member, stream-valid}
 

@@ -1,11 +1,11 @@
 -- The choice in the paper's words is one of the deadline argument: the chosen message's task has the least deadline of all, and it is the task's started message,
 -- else one of its least deadline. Assumes nothing.
-use Prim.Native.Nat.{ℕ, zero, suc, _≤_, _<_}
-use mathlib.Core.List.{List, [], _∷_, List·Memᴰ, List·Memᴰ·head, List·Memᴰ·tail}
-use mathlib.Core.Logic.{_⊎_, _≢_, ⊎-elim}
-use mathlib.Core.Path.{_≡_, refl, sym, ap, subst, _∙_}
+use Prim.Native.Nat.{ℕ, _≤_, _<_}
+use mathlib.Core.List.{List, List·Memᴰ}
+use mathlib.Core.Logic.{_≢_, ⊎-elim}
+use mathlib.Core.Path.{_≡_, refl, ap, _∙_}
 use native.Mathlib.Omega.{arith}
-use lib.ListN.{length, getD}
+use lib.ListN.{length}
 use Rattle.laws.proofs.Gates.{eq-or-ne, Each, mem-getD, Placed-at, mem-at}
 use Rattle.rules.specs.declared.Set.{Set}
 use Rattle.rules.specs.declared.Message.{Message}

@@ -1,21 +1,16 @@
 -- The scheduler of document 01 is a lawful machine of the deadline argument: each call of a run is a refusal, a post, a unit that serves the chosen message, or an idle unit.
 -- Assumes nothing.
-use Prim.Native.Nat.{ℕ, _+_, _≤_, _<_}
-use mathlib.Core.Bool.{Bool, true, false, cond}
-use mathlib.Core.List.{List, [], _∷_, _++_}
+use Prim.Native.Nat.{ℕ, _+_}
+use mathlib.Core.Bool.{Bool, true}
+use mathlib.Core.List.{List, [], _++_}
 use mathlib.Core.Path.{_≡_, refl, sym, ap, subst, _∙_}
 use native.Mathlib.Numerals.{add-one}
-use native.Mathlib.Omega.{arith}
-use lib.ListN.{length, take}
-use Rattle.laws.proofs.Sums.{false-true}
+use lib.ListN.{take}
 use Rattle.rules.specs.declared.Set.{Set}
-use Rattle.rules.specs.declared.Message.{Message}
-use Rattle.rules.specs.declared.State.{State}
 use Rattle.rules.specs.declared.StartResult.{StartResult}
-use Rattle.rules.specs.declared.StartAnswer.the-variants.{Started, Refused as StartRefused}
-use Rattle.rules.specs.declared.Refusal.the-variants.{OutOfRule}
+use Rattle.rules.specs.declared.StartAnswer.the-variants.{Started}
 use Rattle.rules.specs.declared.UnitResult.{UnitResult}
-use Rattle.rules.specs.Streams.{Placed, emptySet, valid}
+use Rattle.rules.specs.Streams.{Placed, valid}
 use Rattle.rules.specs.Steps.{fresh, startOf, postOf, unitOf, ticked}
 use Rattle.rules.specs.Runs.{Call, posts, units, finished, cut, Run, afterStaying, afterUnit, stepOf, begin}
 use Rattle.deadlines.specs.Model.{idle, Run as Reaches}

@@ -1,17 +1,14 @@
 -- The moments of a run of document 01 in the deadline argument, and what the run keeps beside them. Assumes nothing.
-use Prim.Native.Nat.{ℕ}
 use mathlib.Core.Bool.{true}
 use mathlib.Core.List.{List, [], _++_, append-nil}
-use mathlib.Core.Path.{_≡_, sym}
+use mathlib.Core.Path.{_≡_}
 use native.Mathlib.Omega.{arith}
 use lib.ListN.{length}
 use Rattle.rules.specs.declared.Set.{Set}
-use Rattle.rules.specs.declared.State.{State}
 use Rattle.rules.specs.Streams.{Placed, valid}
 use Rattle.rules.specs.States.{pending}
 use Rattle.rules.specs.Runs.{Accepted, Run}
 use Rattle.states.proofs.WellFormed.{well-formed}
-use Rattle.deadlines.specs.Model.{Model}
 use Rattle.deadlines.specs.Machine.{Moment, Reached}
 use Rattle.keeps.specs.Formed.{Formed}
 use Rattle.keeps.proofs.Cases.{pending-length}

@@ -1,12 +1,11 @@
 -- An accepted post is one of the deadline argument: a message with the next number goes last. Assumes nothing.
-use Prim.Native.Nat.{ℕ, _+_, _≤_, _<_}
+use Prim.Native.Nat.{ℕ, _+_, _<_}
 use mathlib.Core.Bool.{true}
 use mathlib.Core.List.{List, [], _∷_, _++_}
 use mathlib.Core.Path.{_≡_, refl, sym, ap, subst, _∙_}
 use native.Mathlib.Omega.{arith}
 use lib.ListN.{length, length-append}
 use Rattle.rules.specs.declared.Set.{Set}
-use Rattle.rules.specs.declared.State.{State}
 use Rattle.rules.specs.declared.PostResult.{PostResult}
 use Rattle.rules.specs.Streams.{Placed, streamAt, valid}
 use Rattle.rules.specs.States.{pending}

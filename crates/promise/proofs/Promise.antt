@@ -1,16 +1,15 @@
 -- Demand 3, and what follows from it. Assumes nothing.
-use Prim.Native.Nat.{ℕ, zero, suc, _+_, _-_, _*_, _≤_, _<_}
+use Prim.Native.Nat.{ℕ, zero, suc, _+_, _-_, _≤_, _<_}
 use mathlib.Core.Bool.{Bool, true, false, cond}
 use mathlib.Core.List.{List, [], _∷_, _++_, List·Memᴰ, append-nil}
-use mathlib.Core.Logic.{_⊎_, inl, inr, _≢_, ⊎-elim}
 use mathlib.Core.Path.{_≡_, refl, sym, ap, subst, _∙_}
 use native.Mathlib.Omega.{arith}
 use lib.ListN.{length, getD}
-use lib.Dec.{T, leb, ltb, eqb, le→leb, ltb→lt}
-use lib.IntN.{ℤ, pos, negsuc, subℕ}
+use lib.Dec.{T, ltb, eqb, le→leb, ltb→lt}
+use lib.IntN.{pos, negsuc}
 use lib.Signed.{_≤ℤ_, leZ-yes}
 use Rattle.laws.specs.Lists.{sum, count}
-use Rattle.laws.proofs.Gates.{le-or-lt, ifle, ifeq, Each, mem-getD}
+use Rattle.laws.proofs.Gates.{ifle, ifeq, Each, mem-getD}
 use Rattle.rules.specs.declared.Set.{Set}
 use Rattle.rules.specs.declared.Stream.{Stream}
 use Rattle.rules.specs.declared.Message.{Message}
@@ -18,21 +17,19 @@ use Rattle.rules.specs.declared.State.{State}
 use Rattle.rules.specs.declared.StartResult.{StartResult}
 use Rattle.rules.specs.declared.PostResult.{PostResult}
 use Rattle.rules.specs.declared.UnitResult.{UnitResult}
-use Rattle.rules.specs.declared.Verdict.{Verdict}
-use Rattle.rules.specs.declared.Verdict.the-variants.{Accept, Refused as VerdictRefused}
-use Rattle.rules.specs.declared.Refusal.the-variants.{OutOfRule}
+use Rattle.rules.specs.declared.Verdict.the-variants.{Accept}
 use Rattle.rules.specs.Streams.{Placed, streamsOf, streamAt, valid}
 use Rattle.rules.specs.States.{noMessage, pending}
-use Rattle.rules.specs.Steps.{startOf, postOf, placeOf, messageAt, laxityOf, unitOf}
+use Rattle.rules.specs.Steps.{placeOf, laxityOf, unitOf}
 use Rattle.rules.specs.Load.{demand, VerdictIf, VerdictOf}
 use Rattle.rules.specs.Runs.{Call, posts, units, How, finished, cut, Accepted, Departure, Run, afterPost, afterUnit, stepOf, begin, runFrom, runOf, KeepsLimits, dueAt, AtCost, LeftInTime, Demand3}
 use Rattle.deadlines.specs.Model.{Keeps, Fits, Left}
 use Rattle.deadlines.specs.Machine.{Moment, outset, Reached, NoneDue, AllLeft, runs, Following}
 use Rattle.deadlines.proofs.Identity.{once, named, gone}
 use Rattle.deadlines.proofs.Machines.{moment, later, never-due as never-due-at, all-left}
-use Rattle.promise.specs.Kind.{Named, paired, pendingOf, CutAtCost, Tells}
+use Rattle.promise.specs.Kind.{paired, pendingOf, CutAtCost}
 use Rattle.promise.specs.Statements.{NeverDue, NotLate, NoLateAnswer, EachOnce, leftAs, waitsAs, CodeRun, started, posted, ran, Demand3OfCode}
-use Rattle.keeps.proofs.Cases.{Serving, chosenOf, UnitCase, stops, idles, finishes, cuts, runs as stays, unit-case, message-is}
+use Rattle.keeps.proofs.Cases.{Serving, chosenOf, UnitCase, stops, idles, finishes, cuts, runs as stays, unit-case}
 use Rattle.promise.proofs.Pairing.{name, pair-in, Has}
 use Rattle.promise.proofs.Base.{base, base-fits, base-keeps}
 use Rattle.promise.proofs.Moments.{Good, all-numbered, momentOf}

@@ -2,7 +2,7 @@
 use Prim.Native.Nat.{ℕ, suc, _+_, _-_, _≤_, _<_}
 use mathlib.Core.Bool.{true}
 use mathlib.Core.List.{List, [], _∷_, _++_, List·Memᴰ, append-nil}
-use mathlib.Core.Logic.{_⊎_, inr, _≢_, ⊎-elim}
+use mathlib.Core.Logic.{inr, _≢_, ⊎-elim}
 use mathlib.Core.Path.{_≡_, refl, sym, ap, subst, _∙_}
 use native.Mathlib.Numerals.{add-one}
 use native.Mathlib.Omega.{arith}
@@ -11,11 +11,10 @@ use lib.Seq.{length-take-le}
 use Rattle.laws.proofs.Gates.{le-or-lt, Each, mem-here}
 use Rattle.rules.specs.declared.Set.{Set}
 use Rattle.rules.specs.declared.Message.{Message}
-use Rattle.rules.specs.declared.State.{State}
 use Rattle.rules.specs.Streams.{Placed, streamAt, valid}
 use Rattle.rules.specs.States.{noMessage, pending, costOf}
-use Rattle.rules.specs.Steps.{never, placeOf, messageAt, gained, stayed, departed}
-use Rattle.rules.specs.Runs.{How, Accepted, Departure, Run, afterLeaving, afterStaying}
+use Rattle.rules.specs.Steps.{never, placeOf, gained, stayed, departed}
+use Rattle.rules.specs.Runs.{How, Departure, Run, afterLeaving, afterStaying}
 use Rattle.states.proofs.WellFormed.{well-formed}
 use Rattle.choosing.specs.Words.{Served}
 use Rattle.choosing.proofs.Choice.{choice}

@@ -1,10 +1,10 @@
 -- Demand 3 is not empty: document 01's trace of set B meets its conditions. In it the late message of stream 1 has started on task 0 when the urgent one of stream 0
 -- comes to the same task; it runs on, which the blocking of task 0 covers, and the urgent one leaves at its very deadline.
 -- Assumes nothing.
-use Prim.Native.Nat.{ℕ, zero, suc, _+_, _-_, _*_, _/_, _≤_, _<_}
-use mathlib.Core.Bool.{Bool, true, false, cond, _&&_}
-use mathlib.Core.List.{List, [], _∷_, List·Memᴰ}
-use mathlib.Core.Path.{_≡_, refl, sym, ap, subst, _∙_}
+use Prim.Native.Nat.{ℕ, zero, suc, _+_, _-_, _/_, _≤_, _<_}
+use mathlib.Core.Bool.{Bool, true, false, cond}
+use mathlib.Core.List.{List·Memᴰ}
+use mathlib.Core.Path.{_≡_, refl, subst}
 use native.Mathlib.Omega.{arith}
 use lib.Dec.{leb, le→leb}
 use Rattle.laws.specs.Lists.{within, sum, count}
@@ -14,7 +14,7 @@ use Rattle.rules.specs.declared.Verdict.the-variants.{Accept, Late, Overload, R
 use Rattle.rules.specs.Streams.{Placed, FourTuples, noStream, streamAt, events, limit}
 use Rattle.rules.specs.Load.{VerdictOf}
 use Rattle.rules.specs.Numbers.{verdictSays, accept}
-use Rattle.rules.specs.Runs.{Accepted, Departure, Run, runOf, inWindow, KeepsLimits, dueAt, LeftInTime, Demand3}
+use Rattle.rules.specs.Runs.{Accepted, Departure, Run, inWindow, KeepsLimits, dueAt, LeftInTime, Demand3}
 use Rattle.rules.proofs.Examples.{setB}
 use Rattle.rules.proofs.Yard.{Judges, yard-true}
 use Rattle.rules.proofs.Runs.{traceB, runB, set-B-run}

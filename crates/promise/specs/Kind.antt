@@ -1,15 +1,13 @@
 -- Document 01's messages as a kind of message of the deadline argument: each pending message with its number.
 -- Assumes nothing.
-use Prim.Native.Nat.{ℕ, suc, _+_, _-_, _≤_, _<_}
-use mathlib.Core.Bool.{Bool, cond}
+use Prim.Native.Nat.{ℕ, _+_, _-_, _<_}
+use mathlib.Core.Bool.{cond}
 use mathlib.Core.List.{List, [], _∷_}
 use mathlib.Core.Path.{_≡_}
 use lib.Dec.{T, ltb}
 use Rattle.laws.specs.Lists.{any, top}
 use Rattle.rules.specs.declared.Set.{Set}
-use Rattle.rules.specs.declared.Stream.{Stream}
 use Rattle.rules.specs.declared.Message.{Message}
-use Rattle.rules.specs.declared.State.{State}
 use Rattle.rules.specs.Streams.{streamAt, streamsOf}
 use Rattle.rules.specs.States.{pending, costOf}
 use Rattle.rules.specs.Load.{urgent, held}
