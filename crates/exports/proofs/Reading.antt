@@ -1,4 +1,4 @@
--- A set that is read stream by stream.
+-- A set that is read stream by stream, and the one row that a verdict leaves.
 -- Assumes nothing.
 use Prim.Native.Nat.{ℕ, zero, suc, _+_, _*_, _<_}
 use native.Mathlib.Numerals.{add-one}
@@ -9,7 +9,9 @@ use lib.ListN.{length, set, take}
 use lib.Seq.{take-suc-set, take-all}
 use Rattle.rules.specs.declared.Stream.{Stream}
 use Rattle.rules.specs.declared.Set.{Set}
-use Rattle.exports.specs.Rows.{at, streamIn, streamsIn, setIn}
+use Rattle.rules.specs.declared.Verdict.{Verdict}
+use Rattle.rules.proofs.Verdicts.{verdict-unique}
+use Rattle.exports.specs.Rows.{at, streamIn, streamsIn, setIn, told, Told}
 
 streams-more : (ns : List ℕ) (k n : ℕ) → streamsIn ns k (suc n) ≡ streamsIn ns k n ++ (streamIn ns (k + n * 12) ∷ [])
 streams-more ns k zero = let e : k ≡ k + 0 * 12 = omega arith in ap (λ (m : ℕ). streamIn ns m ∷ []) e
@@ -29,3 +31,8 @@ unfolding setIn
 read-all ns x k long e count inv =
     ap₂ (λ (n : ℕ) (l : List Stream). record { count = n; streams = l }) count
     (sym (take-all k (x .streams) (omega arith)) ∙ inv ∙ ap (streamsIn ns 1) e)
+
+-- two rows allowed to be left for one set and one lent row are the same
+pub told-unique : (ns before a b : List ℕ) → Told ns before a → Told ns before b → a ≡ b
+told-unique ns before a b p q =
+    p .written ∙ ap (λ (v : Verdict). told v before) (verdict-unique (setIn ns) (p .given) (q .given) (p .is-verdict) (q .is-verdict)) ∙ sym (q .written)

@@ -3,15 +3,18 @@
 -- Assumes nothing.
 use Prim.Native.Nat.{ℕ, zero, suc, _+_, _-_, _≤_, _<_, min}
 use mathlib.Core.Bool.{Bool, true, false, cond, _&&_, false≢true}
-use mathlib.Core.Logic.{_⊎_, inl, inr}
+use mathlib.Core.Logic.{_⊎_, inl, inr, ⊎-elim}
 use mathlib.Core.Path.{_≡_, refl, ap, sym, _∙_}
 use mathlib.Core.List.{List, [], _∷_, _++_, map}
 use native.Mathlib.Omega.{arith}
 use native.Mathlib.Numerals.{add-one}
-use lib.Dec.{ltb}
+use native.Mathlib.Nat.{eq-or-lt-of-le}
+use borrow.Author.Tests.{eqb-true, eqb-false, ltb-true, ltb-false, leb-true, leb-false, le-leb, lt-leb}
+use lib.Dec.{ltb, leb, eqb}
 use lib.ListN.{length, getD, take, drop, set, length-take, length-append, drop-of-length-le, length-map, List·getD-eq-default}
 use lib.Seq.{drop-cons, getD-take, take-all, take-append-le}
-use Rattle.laws.specs.Lists.{every, all, sum, find, scan, remove, firstLeast}
+use Rattle.laws.specs.Lists.{every, below, all, sum, count, find, scan, remove, firstLeast}
+use Rattle.laws.proofs.Sums.{by-test}
 
 -- ---- the places k to n of a list, shut, so that its arguments are found
 
@@ -199,3 +202,103 @@ unfolding firstLeast
 first-least-same f g zero h = refl
 first-least-same f g (suc n) h =
     rw (first-least-same f g n (λ k q. h k (omega arith)), h n (omega arith), h (firstLeast g n) (omega (arith, first-least-le g n)))
+
+-- ---- the numbers below n
+
+module _ (p : ℕ → Bool) where
+  pub below-all : (n : ℕ) → ((k : ℕ) → k < n → p k ≡ true) → all p (below n) ≡ true
+  unfolding all
+  below-all zero h = refl
+  below-all (suc n) h = rw (h n (omega arith), below-all n (λ k q. h k (omega arith)))
+
+  pub below-at : (n k : ℕ) → all p (below n) ≡ true → k < n → p k ≡ true
+  unfolding all
+  below-at zero k e h = absurd (let z : k < 0 = h in omega arith)
+  below-at (suc n) k e h =
+      by-test (eqb k n) (λ q. rw (eqb-true k n q) (both-first (p n) (all p (below n)) e))
+      (λ q. below-at n k (both-second (p n) (all p (below n)) e) (below-less k n h (eqb-false k n q)))
+    where
+      below-less : (a b : ℕ) → a < suc b → (a ≡ b → ⊥) → a < b
+      below-less a b l f = ⊎-elim (λ (x : a ≡ b). absurd (f x)) (λ (x : a < b). x) (eq-or-lt-of-le (omega arith))
+
+  pub below-no : (n k : ℕ) → k < n → p k ≡ false → false ≡ all p (below n)
+  below-no n k h e = by-test (all p (below n)) (λ t. absurd (false≢true (sym e ∙ below-at n k t h))) sym
+
+-- ---- counts
+
+module _ {A : Type 0} (p : A → Bool) where
+  pub count-cons : (x : A) (l : List A) → count p (x ∷ l) ≡ cond (p x) 1 0 + count p l
+  unfolding count sum
+  count-cons x l = refl
+
+  pub count-none : count p [] ≡ 0
+  unfolding count sum
+  count-none = refl
+
+-- ---- a bound moved to the other side
+
+pub leb-less : (d s c : ℕ) → leb (d - s) c ≡ leb d (c + s)
+leb-less d s c =
+    by-test (leb d (c + s)) (λ e. le-leb (d - s) c (omega (arith, leb-true d (c + s) e)) ∙ sym e)
+    (λ e. lt-leb (d - s) c (omega (arith, leb-false d (c + s) e)) ∙ sym e)
+
+-- ---- the first element that passes a test
+
+module _ {A : Type 0} (p : A → Bool) (d : A) where
+  pub find-le : (l : List A) → find p l ≤ length l
+  unfolding find
+  find-le [] = omega arith
+  find-le (x ∷ l) = by-test (p x) (λ e. rw e (omega arith)) (λ e. rw e (omega (arith, find-le l)))
+
+  -- it passes, if there is one
+  pub find-passes : (l : List A) → find p l < length l → p (getD l (find p l) d) ≡ true
+  unfolding find
+  find-passes [] h = absurd (let z : 0 < 0 = h in omega arith)
+  find-passes (x ∷ l) h = by-test (p x) (λ e. rw e e) (λ e. rw e (find-passes l (less e)))
+    where
+      less : p x ≡ false → find p l < length l
+      less e = let z : suc (find p l) < suc (length l) = rw e at h in omega arith
+
+  -- none before it does
+  pub find-before : (l : List A) (j : ℕ) → j < find p l → p (getD l j d) ≡ false
+  unfolding find
+  find-before [] j h = absurd (let z : j < 0 = h in omega arith)
+  find-before (x ∷ l) zero h = by-test (p x) (λ e. absurd (let z : 0 < 0 = rw e at h in omega arith)) (λ e. e)
+  find-before (x ∷ l) (suc j) h =
+      by-test (p x) (λ e. absurd (let z : suc j < 0 = rw e at h in omega arith)) (λ e. find-before l j (let z : suc j < suc (find p l) = rw e at h in omega arith))
+
+  -- there is one, if one passes
+  pub find-within : (l : List A) (j : ℕ) → j < length l → p (getD l j d) ≡ true → find p l < length l
+  unfolding find
+  find-within [] j h e = absurd (let z : j < 0 = h in omega arith)
+  find-within (x ∷ l) zero h e = rw e (omega arith)
+  find-within (x ∷ l) (suc j) h e = by-test (p x) (λ q. rw q (omega arith)) (λ q. rw q (omega (arith, find-within l j (omega arith) e)))
+
+-- ---- the first number at which f is least: it is below n, no other is less, and those before it are greater
+
+module _ (f : ℕ → ℕ) where
+  pub first-least-lt : (n : ℕ) → 0 < n → firstLeast f n < n
+  unfolding firstLeast
+  first-least-lt zero h = absurd (let z : 0 < 0 = h in omega arith)
+  first-least-lt (suc zero) h = by-test (ltb (f 0) (f 0)) (λ e. rw e (omega arith)) (λ e. rw e (omega arith))
+  first-least-lt (suc (suc n)) h =
+      by-test (ltb (f (suc n)) (f (firstLeast f (suc n)))) (λ e. rw e (omega arith)) (λ e. rw e (omega (arith, first-least-lt (suc n) (omega arith))))
+
+  pub first-least-least : (n k : ℕ) → k < n → f (firstLeast f n) ≤ f k
+  unfolding firstLeast
+  first-least-least zero k h = absurd (let z : k < 0 = h in omega arith)
+  first-least-least (suc n) k h =
+      by-test (ltb (f n) (f (firstLeast f n)))
+      (λ e. rw e (upto k h (λ x. omega (arith, ltb-true (f n) (f (firstLeast f n)) e, first-least-least n k x)) (omega arith)))
+      (λ e. rw e (upto k h (λ x. first-least-least n k x) (ltb-false (f n) (f (firstLeast f n)) e)))
+    where
+      upto : {v : ℕ} (k : ℕ) → k < suc n → (k < n → v ≤ f k) → v ≤ f n → v ≤ f k
+      upto {v} k h g q = ⊎-elim (λ (x : k ≡ n). rw x q) (λ (x : k < n). g x) (eq-or-lt-of-le (omega arith))
+
+  pub first-least-first : (n k : ℕ) → k < firstLeast f n → f (firstLeast f n) < f k
+  unfolding firstLeast
+  first-least-first zero k h = absurd (let z : k < 0 = h in omega arith)
+  first-least-first (suc n) k h =
+      by-test (ltb (f n) (f (firstLeast f n)))
+      (λ e. rw e (omega (arith, ltb-true (f n) (f (firstLeast f n)) e, first-least-least n k (let z : k < n = rw e at h in z))))
+      (λ e. rw e (first-least-first n k (let z : k < firstLeast f n = rw e at h in z)))

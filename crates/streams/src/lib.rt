@@ -153,14 +153,14 @@ pub fn is_valid(x: Set) -> bool
 
 // ---- places
 
-pub fn no_tuple() -> TuplePlace
+fn no_tuple() -> TuplePlace
     ensures { λ r. ⌜ r ≡ noTuple ⌝ }
 {
     let t = Tuple::Once(0);
     TuplePlace { tuple: t }
 }
 
-pub fn no_stream() -> Stream
+fn no_stream() -> Stream
     ensures { λ r. ⌜ r ≡ noStream ⌝ }
 {
     let ts = [no_tuple(); 4];
@@ -201,7 +201,7 @@ fn quotient(x: u64, z: u64) -> u64
 }
 
 // What one tuple adds to the event limit of a length.
-pub fn events_of(t: Tuple, i: u32) -> u64
+fn events_of(t: Tuple, i: u32) -> u64
     ensures { λ r. ⌜ r ≡ eventsOf t i ⌝ }
 {
     match t {
