@@ -12,7 +12,7 @@ use native.Mathlib.Nat.{eq-or-lt-of-le}
 use borrow.Author.Tests.{eqb-true, eqb-false, ltb-true, ltb-false, leb-true, leb-false, le-leb, lt-leb}
 use lib.Dec.{ltb, leb, eqb}
 use lib.ListN.{length, getD, take, drop, set, length-take, length-append, drop-of-length-le, length-map, List·getD-eq-default}
-use lib.Seq.{drop-cons, getD-take, take-all, take-append-le}
+use lib.Seq.{drop-cons, getD-take, take-all, take-append-le, drop-append-le}
 use Rattle.laws.specs.Lists.{every, below, all, sum, count, find, scan, remove, firstLeast}
 use Rattle.laws.proofs.Sums.{by-test}
 
@@ -302,3 +302,78 @@ module _ (f : ℕ → ℕ) where
       by-test (ltb (f n) (f (firstLeast f n)))
       (λ e. rw e (omega (arith, ltb-true (f n) (f (firstLeast f n)) e, first-least-least n k (let z : k < n = rw e at h in z))))
       (λ e. rw e (first-least-first n k (let z : k < firstLeast f n = rw e at h in z)))
+
+-- ---- a test of all, a scan and a count of longer, changed and shorter lists
+
+module _ {A : Type 0} (p : A → Bool) where
+  pub all-append : (l r : List A) → all p (l ++ r) ≡ (all p l && all p r)
+  unfolding all
+  all-append [] r = refl
+  all-append (x ∷ l) r = by-test (p x) (λ e. rw e (all-append l r)) (λ e. rw e)
+
+  pub all-drop-suc : (n : ℕ) (l : List A) → all p (drop n l) ≡ true → all p (drop (suc n) l) ≡ true
+  unfolding all
+  all-drop-suc zero [] e = refl
+  all-drop-suc zero (x ∷ l) e = both-second (p x) (all p l) e
+  all-drop-suc (suc n) [] e = refl
+  all-drop-suc (suc n) (x ∷ l) e = all-drop-suc n l e
+
+  pub count-append : (l r : List A) → count p (l ++ r) ≡ count p l + count p r
+  count-append [] r = omega (arith, count-none p)
+  count-append (x ∷ l) r = omega (arith, count-cons p x (l ++ r), count-cons p x l, count-append l r)
+
+  -- what one more and one less make of a count
+  pub count-set : (l : List A) (i : ℕ) (y d : A) → i < length l → count p (set l i y) + cond (p (getD l i d)) 1 0 ≡ count p l + cond (p y) 1 0
+  count-set [] i y d h = absurd (let z : i < 0 = h in omega arith)
+  count-set (x ∷ l) zero y d h = omega (arith, count-cons p y l, count-cons p x l)
+  count-set (x ∷ l) (suc i) y d h = omega (arith, count-cons p x (set l i y), count-cons p x l, count-set l i y d (omega arith))
+
+  pub count-out : (l : List A) (i : ℕ) → count p (take i l ++ drop (suc i) l) ≤ count p l
+  count-out [] zero = omega arith
+  count-out [] (suc i) = omega arith
+  count-out (x ∷ l) zero = omega (arith, count-cons p x l)
+  count-out (x ∷ l) (suc i) = omega (arith, count-cons p x (take i l ++ drop (suc i) l), count-cons p x l, count-out l i)
+
+  pub count-nobody : (l : List A) (d : A) → ((j : ℕ) → j < length l → p (getD l j d) ≡ false) → count p l ≡ 0
+  count-nobody [] d h = count-none p
+  count-nobody (x ∷ l) d h =
+      let e : p x ≡ false = h 0 (omega arith) in
+      count-cons p x l ∙ rw e (omega (arith, count-nobody l d (λ j q. h (suc j) (omega arith))))
+
+  pub count-some : (l : List A) (d : A) (j : ℕ) → j < length l → p (getD l j d) ≡ true → 1 ≤ count p l
+  count-some [] d j h e = absurd (let z : j < 0 = h in omega arith)
+  count-some (x ∷ l) d zero h e = rw (count-cons p x l, e) (omega arith)
+  count-some (x ∷ l) d (suc j) h e = omega (arith, count-cons p x l, count-some l d j (omega arith) e)
+
+  -- two that pass are two
+  pub count-two : (l : List A) (d : A) (j k : ℕ) → j < k → k < length l → p (getD l j d) ≡ true → p (getD l k d) ≡ true → 2 ≤ count p l
+  count-two [] d j k h g e q = absurd (let z : k < 0 = g in omega arith)
+  count-two (x ∷ l) d j zero h g e q = absurd (let z : j < 0 = h in omega arith)
+  count-two (x ∷ l) d zero (suc k) h g e q = rw (count-cons p x l, e) (omega (arith, count-some l d k (omega arith) q))
+  count-two (x ∷ l) d (suc j) (suc k) h g e q = omega (arith, count-cons p x l, count-two l d j k (omega arith) (omega arith) e q)
+
+module _ {A B : Type 0} (p : B → A → Bool) (f : A → B) where
+  -- what the next element would look back at
+  pub carried : B → List A → B
+  carried b [] = b
+  carried b (x ∷ l) = carried (f x) l
+
+  pub scan-append : (b : B) (l : List A) (x : A) → scan p f b l ≡ true → p (carried b l) x ≡ true → scan p f b (l ++ (x ∷ [])) ≡ true
+  unfolding scan carried
+  scan-append b [] x e q = rw q
+  scan-append b (y ∷ l) x e q = rw (both-first (p b y) (scan p f (f y) l) e) (scan-append (f y) l x (both-second (p b y) (scan p f (f y) l) e) q)
+
+  -- a bound that each element's value keeps, and the start, is kept by what is carried
+  pub carried-has : (P : B → Type 0) (b : B) (l : List A) → scan p f b l ≡ true → P b → ((b : B) (x : A) → p b x ≡ true → P (f x)) → P (carried b l)
+  unfolding scan carried
+  carried-has P b [] e h g = h
+  carried-has P b (x ∷ l) e h g = carried-has P (f x) l (both-second (p b x) (scan p f (f x) l) e) (g b x (both-first (p b x) (scan p f (f x) l) e)) g
+
+module _ {A : Type 0} (d : A) where
+  -- behind the place taken out all move up by one, and d comes in
+  pub drop-remove : (i n : ℕ) (l : List A) → i ≤ n → n < length l → drop n (remove d i l) ≡ drop (suc n) l ++ (d ∷ [])
+  unfolding remove
+  drop-remove i n [] h g = absurd (let z : n < 0 = g in omega arith)
+  drop-remove zero n (x ∷ l) h g = drop-append-le n l (d ∷ []) (omega arith)
+  drop-remove (suc i) zero (x ∷ l) h g = absurd (omega arith)
+  drop-remove (suc i) (suc n) (x ∷ l) h g = drop-remove i n l (omega arith) (omega arith)

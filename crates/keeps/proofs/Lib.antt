@@ -1,0 +1,5 @@
+pub mod Views
+pub mod Messages
+pub mod Kept
+pub mod Refusals
+pub mod Promises
