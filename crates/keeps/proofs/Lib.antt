@@ -4,4 +4,5 @@ pub mod Rows
 pub mod Started
 pub mod Kept
 pub mod Runs
-pub mod Twelve
+pub mod Refusals
+pub mod Steps

@@ -302,3 +302,18 @@ module _ (f : ℕ → ℕ) where
       by-test (ltb (f n) (f (firstLeast f n)))
       (λ e. rw e (omega (arith, ltb-true (f n) (f (firstLeast f n)) e, first-least-least n k (let z : k < n = rw e at h in z))))
       (λ e. rw e (first-least-first n k (let z : k < firstLeast f n = rw e at h in z)))
+
+-- ---- how many pass
+
+module _ {A : Type 0} (p : A → Bool) where
+  pub count-some : (l : List A) (d : A) (j : ℕ) → j < length l → p (getD l j d) ≡ true → 1 ≤ count p l
+  count-some [] d j h e = absurd (let z : j < 0 = h in omega arith)
+  count-some (x ∷ l) d zero h e = rw (count-cons p x l, e) (omega arith)
+  count-some (x ∷ l) d (suc j) h e = omega (arith, count-cons p x l, count-some l d j (omega arith) e)
+
+  -- two that pass are two
+  pub count-two : (l : List A) (d : A) (j k : ℕ) → j < k → k < length l → p (getD l j d) ≡ true → p (getD l k d) ≡ true → 2 ≤ count p l
+  count-two [] d j k h g e q = absurd (let z : k < 0 = g in omega arith)
+  count-two (x ∷ l) d j zero h g e q = absurd (let z : j < 0 = h in omega arith)
+  count-two (x ∷ l) d zero (suc k) h g e q = rw (count-cons p x l, e) (omega (arith, count-some l d k (omega arith) q))
+  count-two (x ∷ l) d (suc j) (suc k) h g e q = omega (arith, count-cons p x l, count-two l d j k (omega arith) (omega arith) e q)
