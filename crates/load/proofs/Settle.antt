@@ -37,10 +37,10 @@ pub verdict-overload : (x : Set) (h k w : ℕ) → valid x ≡ true → JoinedBy
 verdict-overload x h k w ok j e f heavy =
     verdict-is x Overload ok (overloads (streamsOf x) h (least-is-h (streamsOf x) h (j .0)) (j .1) (omega arith))
 
-pub goes-on : (x : Set) (h k w d o : ℕ) → valid x ≡ true → JoinedBy 1 (CommonOf (streamsOf x)) (Is h) → k ≡ h → w ≡ load (streamsOf x) h → w ≤ k
-    → d ≡ greatestDeadline (streamsOf x) → o ≡ greatestOffset (streamsOf x) → GoesOn x (h + d + o + 1)
+pub goes-on : (x : Set) (h k w d o e : ℕ) → valid x ≡ true → JoinedBy 1 (CommonOf (streamsOf x)) (Is h) → k ≡ h → w ≡ load (streamsOf x) h → w ≤ k
+    → d ≡ greatestDeadline (streamsOf x) → o ≡ greatestOffset (streamsOf x) → e ≡ h + d + o + 1 → GoesOn x e
 unfolding lastLength
-goes-on x h k w d o ok j e f light p q =
+goes-on x h k w d o e ok j i f light p q r =
     record {
       ok = ok;
       h = h;

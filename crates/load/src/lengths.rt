@@ -1,6 +1,6 @@
 // Which lengths there are to test, and the testing of a range of them.
 ghost use mathlib.Core.Path.{_≡_};
-ghost use Prim.Native.Nat.{_≤_, _<_};
+ghost use Prim.Native.Nat.{_+_, _≤_, _<_};
 ghost use Rattle.rules.proofs.Valid.{ValidStream, ValidSet};
 ghost use Rattle.rules.proofs.Finite.{greatestDeadline, streamOffset, greatestOffset};
 ghost use Rattle.rules.specs.Streams.{streamsOf};
@@ -68,8 +68,16 @@ fn greatest_offset(x: Set) -> u32
     most
 }
 
+// The end of the lengths to test: H, the greatest deadline and the greatest offset, and one more.
+fn end_after(h: u32, deadline: u32, offset: u32) -> u32
+    requires { ⌜ (h ≤ 1000000) × (deadline ≤ 200000) × (offset ≤ 100000) ⌝ }
+    ensures { λ r. ⌜ r ≡ h + deadline + offset + 1 ⌝ }
+{
+    h + deadline + offset + 1
+}
+
 // 7, 8 and overload stop a check before any length. Else the lengths to test are those from 1 up to the end.
-pub fn opening(x: Set) -> Opening
+pub(crate) fn opening(x: Set) -> Opening
     ensures { λ r. ⌜ OpeningOf x r ⌝ }
 {
     if !streams::is_valid(x) {
@@ -82,7 +90,7 @@ pub fn opening(x: Set) -> Opening
             if wide(h) < cycles::load_of(x, h) {
                 return Opening::Stops(Verdict::Overload);
             }
-            Opening::Until(h + greatest_deadline(x) + greatest_offset(x) + 1)
+            Opening::Until(end_after(h, greatest_deadline(x), greatest_offset(x)))
         }
     }
 }
@@ -116,7 +124,7 @@ fn test_span(t: Rows, blocked: u64, from: u32, stop: u32) -> Tested
 }
 
 // The lengths from `from` up to `end`, in order, from deadline to deadline.
-pub fn test_range(x: Set, from: u32, end: u32) -> Tested
+pub(crate) fn test_range(x: Set, from: u32, end: u32) -> Tested
     requires { ⌜ (ValidSet x) × (from ≤ end) ⌝ }
     ensures { λ r. ⌜ Ranged (streamsOf x) from end r ⌝ }
 {

@@ -5,10 +5,11 @@ use Prim.Native.Nat.{ℕ, _+_, _-_, _*_, _/_, _≤_, _<_, max}
 use mathlib.Core.Path.{_≡_, refl, ap, ap₂, subst, sym, _∙_}
 use borrow.Author.Tests.{not-true, not-false}
 use Rattle.rules.specs.Streams.{streamsOf}
-use Rattle.rules.proofs.Valid.{valid-set}
+use Rattle.rules.proofs.Valid.{ValidStream, valid-set}
 use Rattle.load.specs.Cycles.{CommonOf, JoinedBy}
 use Rattle.load.proofs.Bounds.{deadlines-fit, offsets-fit}
 use Rattle.load.proofs.Settle.{verdict-refused, verdict-long, verdict-overload, goes-on}
+use Rattle.laws.specs.Lists.{All}
 use Rattle.load.proofs.lengths.opening.Statement.{statement}
 use Rattle.load.proofs.lengths.opening.Tie as tie
 
@@ -41,38 +42,15 @@ returns-2 c =
 greatest-deadline-requires : tie.Need-greatest-deadline-requires
 greatest-deadline-requires c κs = valid-set (c .before .before .before .before .before .before .before .before .before .args .x) (sym (c .before .before .before .before .before .before .before .before .is-valid .ensures) ∙ not-false _ (c .before .before .before .before .before .before .before .if1 .left))
 
-add-t16 : tie.Need-add-t16
-add-t16 c =
-    omega (
-      arith,
-      c .greatest-deadline .ensures,
-      deadlines-fit (streamsOf (c .before .before .before .before .before .before .before .before .before .before .args .x)) (valid-set (c .before .before .before .before .before .before .before .before .before .before .args .x) (sym (c .before .before .before .before .before .before .before .before .before .is-valid .ensures) ∙ not-false _ (c .before .before .before .before .before .before .before .before .if1 .left)) .streams),
-      (subst (JoinedBy 1 (CommonOf (streamsOf (c .before .before .before .before .before .before .before .before .before .before .args .x)))) (c .before .before .before .before .before .joined .given .1) (c .before .before .before .before .before .before .before .join-all .ensures)) .1,
-    )
-
 greatest-offset-requires : tie.Need-greatest-offset-requires
 greatest-offset-requires c κs = valid-set (c .before .before .before .before .before .before .before .before .before .before .args .x) (sym (c .before .before .before .before .before .before .before .before .before .is-valid .ensures) ∙ not-false _ (c .before .before .before .before .before .before .before .before .if1 .left))
 
-add-t18 : tie.Need-add-t18
-add-t18 c =
-    omega (
-      arith,
-      c .before .greatest-deadline .ensures,
-      deadlines-fit (streamsOf (c .before .before .before .before .before .before .before .before .before .before .before .args .x)) (valid-set (c .before .before .before .before .before .before .before .before .before .before .before .args .x) (sym (c .before .before .before .before .before .before .before .before .before .before .is-valid .ensures) ∙ not-false _ (c .before .before .before .before .before .before .before .before .before .if1 .left)) .streams),
-      c .greatest-offset .ensures,
-      offsets-fit (streamsOf (c .before .before .before .before .before .before .before .before .before .before .before .args .x)) (valid-set (c .before .before .before .before .before .before .before .before .before .before .before .args .x) (sym (c .before .before .before .before .before .before .before .before .before .before .is-valid .ensures) ∙ not-false _ (c .before .before .before .before .before .before .before .before .before .if1 .left)) .streams),
+end-after-requires : tie.Need-end-after-requires
+end-after-requires c κs =
+    let v : All ValidStream (streamsOf (c .before .before .before .before .before .before .before .before .before .before .before .args .x)) = valid-set (c .before .before .before .before .before .before .before .before .before .before .before .args .x) (sym (c .before .before .before .before .before .before .before .before .before .before .is-valid .ensures) ∙ not-false _ (c .before .before .before .before .before .before .before .before .before .if1 .left)) .streams in (
       (subst (JoinedBy 1 (CommonOf (streamsOf (c .before .before .before .before .before .before .before .before .before .before .before .args .x)))) (c .before .before .before .before .before .before .joined .given .1) (c .before .before .before .before .before .before .before .before .join-all .ensures)) .1,
-    )
-
-add-t19 : tie.Need-add-t19
-add-t19 c =
-    omega (
-      arith,
-      c .before .greatest-deadline .ensures,
-      deadlines-fit (streamsOf (c .before .before .before .before .before .before .before .before .before .before .before .args .x)) (valid-set (c .before .before .before .before .before .before .before .before .before .before .before .args .x) (sym (c .before .before .before .before .before .before .before .before .before .before .is-valid .ensures) ∙ not-false _ (c .before .before .before .before .before .before .before .before .before .if1 .left)) .streams),
-      c .greatest-offset .ensures,
-      offsets-fit (streamsOf (c .before .before .before .before .before .before .before .before .before .before .before .args .x)) (valid-set (c .before .before .before .before .before .before .before .before .before .before .before .args .x) (sym (c .before .before .before .before .before .before .before .before .before .before .is-valid .ensures) ∙ not-false _ (c .before .before .before .before .before .before .before .before .before .if1 .left)) .streams),
-      (subst (JoinedBy 1 (CommonOf (streamsOf (c .before .before .before .before .before .before .before .before .before .before .before .args .x)))) (c .before .before .before .before .before .before .joined .given .1) (c .before .before .before .before .before .before .before .before .join-all .ensures)) .1,
+      omega (arith, c .before .greatest-deadline .ensures, deadlines-fit (streamsOf (c .before .before .before .before .before .before .before .before .before .before .before .args .x)) v),
+      omega (arith, c .greatest-offset .ensures, offsets-fit (streamsOf (c .before .before .before .before .before .before .before .before .before .before .before .args .x)) v),
     )
 
 returns-3 : tie.Need-returns-3
@@ -82,8 +60,8 @@ returns-3 c =
 
 returns-4 : tie.Need-returns-4
 returns-4 c =
-    goes-on (c .before .before .before .before .before .before .before .before .before .before .before .args .x) (c .before .before .before .before .before .before .joined .given .0 .0) (c .before .before .before .before .wide .result) (c .before .before .before .load-of .result) (c .before .greatest-deadline .result) (c .greatest-offset .result) (sym (c .before .before .before .before .before .before .before .before .before .before .is-valid .ensures) ∙ not-false _ (c .before .before .before .before .before .before .before .before .before .if1 .left))
-    (subst (JoinedBy 1 (CommonOf (streamsOf (c .before .before .before .before .before .before .before .before .before .before .before .args .x)))) (c .before .before .before .before .before .before .joined .given .1) (c .before .before .before .before .before .before .before .before .join-all .ensures)) (c .before .before .before .before .wide .ensures) (c .before .before .before .load-of .ensures) (omega arith) (c .before .greatest-deadline .ensures) (c .greatest-offset .ensures)
+    goes-on (c .before .before .before .before .before .before .before .before .before .before .before .before .args .x) (c .before .before .before .before .before .before .before .joined .given .0 .0) (c .before .before .before .before .before .wide .result) (c .before .before .before .before .load-of .result) (c .before .before .greatest-deadline .result) (c .before .greatest-offset .result) (c .end-after .result) (sym (c .before .before .before .before .before .before .before .before .before .before .before .is-valid .ensures) ∙ not-false _ (c .before .before .before .before .before .before .before .before .before .before .if1 .left))
+    (subst (JoinedBy 1 (CommonOf (streamsOf (c .before .before .before .before .before .before .before .before .before .before .before .before .args .x)))) (c .before .before .before .before .before .before .before .joined .given .1) (c .before .before .before .before .before .before .before .before .before .join-all .ensures)) (c .before .before .before .before .before .wide .ensures) (c .before .before .before .before .load-of .ensures) (omega arith) (c .before .before .greatest-deadline .ensures) (c .before .greatest-offset .ensures) (c .end-after .ensures)
 
 pub opening-spec : {M : Type 1} → statement M
 opening-spec =
@@ -98,9 +76,7 @@ opening-spec =
     load-of-requires
     returns-2
     greatest-deadline-requires
-    add-t16
     greatest-offset-requires
-    add-t18
-    add-t19
+    end-after-requires
     returns-3
     returns-4)
