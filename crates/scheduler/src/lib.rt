@@ -218,10 +218,10 @@ fn rest(s: State, done: bool) -> UnitResult
     requires { ⌜ s .clock < 4000000000 ⌝ }
     ensures { λ r. ⌜ r ≡ emptyUnit s done ⌝ }
 {
-    if done {
-        return answer(s, UnitAnswer::Refused(Refusal::NothingPending));
+    if !done {
+        return tick(s);
     }
-    tick(s)
+    answer(s, UnitAnswer::Refused(Refusal::NothingPending))
 }
 
 // A unit of running, or 12, 3 or 4.
@@ -232,10 +232,10 @@ pub fn unit(s: State, done: bool) -> UnitResult
     match found {
         Found::IllFormed => answer(s, UnitAnswer::Refused(Refusal::IllFormed)),
         Found::Nothing => {
-            if s.clock < 4000000000 {
-                return rest(s, done);
+            if 4000000000 <= s.clock {
+                return answer(s, UnitAnswer::Refused(Refusal::LastClock));
             }
-            answer(s, UnitAnswer::Refused(Refusal::LastClock))
+            rest(s, done)
         }
         Found::At(i) => {
             if s.clock < 4000000000 {
