@@ -19,14 +19,14 @@ answer-requires c κs = search needs
 enum-told-2 : tie.Need-enum-told-2
 enum-told-2 c = search needs
 
-rest-requires : tie.Need-rest-requires
-rest-requires c κs = search needs
-
-returns : tie.Need-returns
-returns c = unit-rests _ _ _ (rests _ _ (c .before .before .before .before .before .look .ensures) (c .before .before .before .enum-told2 .given .1)) (c .before .if1 .taken) (c .rest .ensures)
-
 answer-requires-2 : tie.Need-answer-requires-2
 answer-requires-2 c κs = search needs
+
+returns : tie.Need-returns
+returns c = c .answer2 .ensures ∙ unit-3 _ _ (rests _ _ (c .before .before .before .before .before .look .ensures) (c .before .before .before .enum-told2 .given .1) .formed) (c .before .if1 .taken)
+
+rest-requires : tie.Need-rest-requires
+rest-requires c κs = search needs
 
 enum-known-found : tie.Need-enum-known-found
 enum-known-found c = search needs
@@ -44,7 +44,7 @@ returns-3 : tie.Need-returns-3
 returns-3 c = c .answer .ensures ∙ unit-12 _ _ (ill _ _ (c .before .before .before .look .ensures) (c .before .enum-told .given .1))
 
 returns-4 : tie.Need-returns-4
-returns-4 c = c .answer2 .ensures ∙ unit-3 _ _ (rests _ _ (c .before .before .before .before .before .look .ensures) (c .before .before .before .enum-told2 .given .1) .formed) (c .before .if1 .left)
+returns-4 c = unit-rests _ _ _ (rests _ _ (c .before .before .before .before .before .look .ensures) (c .before .before .before .enum-told2 .given .1)) (c .before .if1 .left) (c .rest .ensures)
 
 returns-5 : tie.Need-returns-5
 returns-5 c = c .answer3 .ensures ∙ unit-3 _ _ ((serves (c .before .before .before .before .before .before .before .args .s) (c .before .before .before .before .before .before .look .result) (c .before .before .before .before .before .before .look .ensures) _ (c .before .before .before .before .found .given .1)) .formed) (c .before .if2 .left)
@@ -57,9 +57,9 @@ unit-spec =
     enum-told
     answer-requires
     enum-told-2
-    rest-requires
-    returns
     answer-requires-2
+    returns
+    rest-requires
     enum-known-found
     serve-requires
     returns-2
