@@ -70,10 +70,10 @@ abbrev place : Tuple → TuplePlace
 place t = record { tuple = t }
 
 -- what the definition does with an offset, and with a cycle
-abbrev offsetNext : ℕ → ℕ → ℕ → List TuplePlace → (List TuplePlace → List ℕ → ReadResult) → ℕ → ℕ → List ℕ → ReadResult
+abbrev pub offsetNext : ℕ → ℕ → ℕ → List TuplePlace → (List TuplePlace → List ℕ → ReadResult) → ℕ → ℕ → List ℕ → ReadResult
 offsetNext low high n ps next z a bs = inRule (within low a high) (readTuples n a 100000 (ps ++ (tupleOf z a ∷ [])) bs next)
 
-abbrev cycleNext : ℕ → ℕ → ℕ → List TuplePlace → (List TuplePlace → List ℕ → ReadResult) → ℕ → List ℕ → ReadResult
+abbrev pub cycleNext : ℕ → ℕ → ℕ → List TuplePlace → (List TuplePlace → List ℕ → ReadResult) → ℕ → List ℕ → ReadResult
 cycleNext low high n ps next z bs = inRule (leb z 1000000) (field 17 bs (offsetNext low high n ps next z))
 
 one-tuple : (t : Tuple) (low high n : ℕ) (ps : List TuplePlace) (rest : List ℕ) (next : List TuplePlace → List ℕ → ReadResult) → within low (offset t) high ≡ true → offset t ≤ 100000 → ValidCycle t
@@ -105,16 +105,16 @@ tuples-read (q ∷ qs) ps low high rest next c =
 -- ---- streams
 
 -- what the definition does with each field of a stream
-abbrev tuplesNext : (Stream → List ℕ → ReadResult) → ℕ → ℕ → ℕ → ℕ → List ℕ → ReadResult
+abbrev pub tuplesNext : (Stream → List ℕ → ReadResult) → ℕ → ℕ → ℕ → ℕ → List ℕ → ReadResult
 tuplesNext next task cost deadline n bs = readTuples (suc n) 0 0 [] bs (λ ts rest. next (streamOf task cost deadline ts) rest)
 
-abbrev deadlineNext : (Stream → List ℕ → ReadResult) → ℕ → ℕ → ℕ → List ℕ → ReadResult
+abbrev pub deadlineNext : (Stream → List ℕ → ReadResult) → ℕ → ℕ → ℕ → List ℕ → ReadResult
 deadlineNext next task cost deadline bs = inRule (within 1 deadline 200000) (field 2 bs (tuplesNext next task cost deadline))
 
-abbrev costNext : (Stream → List ℕ → ReadResult) → ℕ → ℕ → List ℕ → ReadResult
+abbrev pub costNext : (Stream → List ℕ → ReadResult) → ℕ → ℕ → List ℕ → ReadResult
 costNext next task cost bs = inRule (within 1 cost 65535) (field 18 bs (deadlineNext next task cost))
 
-abbrev taskNext : (Stream → List ℕ → ReadResult) → ℕ → List ℕ → ReadResult
+abbrev pub taskNext : (Stream → List ℕ → ReadResult) → ℕ → List ℕ → ReadResult
 taskNext next task bs = field 16 bs (costNext next task)
 
 stream-reads : (s : Stream) (rest : List ℕ) (next : Stream → List ℕ → ReadResult) → ValidStream s → FourTuples s → readStream (streamBits s ++ rest) next ≡ next s rest
@@ -156,24 +156,28 @@ unfolding readEnd
 end-reads ss k h = simp (lt-ltb (length (zeros k)) 8 (omega (arith, length-replicate {A = ℕ} k 0)), zeros-all k)
 
 -- what it does with the count and with the version
-abbrev countNext : ℕ → List ℕ → ReadResult
+abbrev pub countNext : ℕ → List ℕ → ReadResult
 countNext n bs = inRule (leb n 16) (readStreams n [] bs)
 
-abbrev versionNext : ℕ → List ℕ → ReadResult
+abbrev pub versionNext : ℕ → List ℕ → ReadResult
 versionNext v bs = cond (eqb v 1) (field 5 bs countNext) (noSet BadVersion)
 
-pub bits-read : (x : Set) (k : ℕ) → ValidSet x → Placed x → k < 8 → readBits (sheetBits x ++ zeros k) ≡ record { answer = Read; set = x }
+-- behind the fields of a valid set its end is judged
+pub fields-read : (x : Set) (rest : List ℕ) → ValidSet x → Placed x → readBits (sheetBits x ++ rest) ≡ readEnd (streamsOf x) rest
 unfolding readBits sheetBits
-bits-read x k v p h =
+fields-read x rest v p =
     let ss : List Stream = streamsOf x in
     ap readBits
-    (let e : (toBits 4 1 ++ (toBits 5 (x .count) ++ flat streamBits ss)) ++ zeros k ≡ toBits 4 1 ++ (toBits 5 (x .count) ++ (flat streamBits ss ++ zeros k)) = simp append-assoc in e)
+    (let e : (toBits 4 1 ++ (toBits 5 (x .count) ++ flat streamBits ss)) ++ rest ≡ toBits 4 1 ++ (toBits 5 (x .count) ++ (flat streamBits ss ++ rest)) = simp append-assoc in e)
     ∙ field-reads 4 1 _ versionNext (omega arith)
     ∙ field-reads 5 (x .count) _ countNext (omega (arith, v .count))
     ∙ passes (leb (x .count) 16) _ (le-leb (x .count) 16 (v .count))
-    ∙ ap (λ (n : ℕ). readStreams n [] (flat streamBits ss ++ zeros k)) (sym (set-holds x v p .used))
-    ∙ streams-read ss [] (zeros k) (v .streams) (all-take FourTuples (x .count) (x .streams) (p .four))
-    ∙ end-reads ss k h ∙ ap (λ (y : Set). record { answer = Read; set = y }) (whole-set x (set-holds x v p))
+    ∙ ap (λ (n : ℕ). readStreams n [] (flat streamBits ss ++ rest)) (sym (set-holds x v p .used))
+    ∙ streams-read ss [] rest (v .streams) (all-take FourTuples (x .count) (x .streams) (p .four))
+
+pub bits-read : (x : Set) (k : ℕ) → ValidSet x → Placed x → k < 8 → readBits (sheetBits x ++ zeros k) ≡ record { answer = Read; set = x }
+bits-read x k v p h =
+    fields-read x (zeros k) v p ∙ end-reads (streamsOf x) k h ∙ ap (λ (y : Set). record { answer = Read; set = y }) (whole-set x (set-holds x v p))
 
 -- the fields are bits
 flat-bits : {A : Type 0} (f : A → List ℕ) → ((a : A) → AreBits (f a)) → (l : List A) → AreBits (flat f l)

@@ -5,3 +5,6 @@ pub mod ByField
 pub mod Feeding
 pub mod Whole
 pub mod Back
+pub mod Accepted
+pub mod Rounds
+pub mod Writing
