@@ -7,7 +7,6 @@ use Rattle.sheet.proofs.no_set.Statement.{statement}
 use Rattle.sheet.proofs.no_set.Tie as tie
 use Rattle.sheet.proofs.no_set.Reads as reads
 use Rattle.sheet.proofs.no_set.Lts as lts
-use Rattle.sheet.proofs.empty_set.Reads as empty-set-reads
 
 -- src/lib.rt:428:14
 empty-set-requires : tie.Need-empty-set-requires

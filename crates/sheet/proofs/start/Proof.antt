@@ -9,7 +9,6 @@ use Rattle.sheet.proofs.start.Statement.{statement}
 use Rattle.sheet.proofs.start.Tie as tie
 use Rattle.sheet.proofs.start.Reads as reads
 use Rattle.sheet.proofs.start.Lts as lts
-use Rattle.sheet.proofs.empty_set.Reads as empty-set-reads
 use Rattle.sheet.proofs.fresh_head.Reads as fresh-head-reads
 
 -- src/lib.rt:357:19
