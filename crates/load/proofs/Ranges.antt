@@ -3,17 +3,12 @@
 use Prim.Native.Nat.{ℕ, _+_, _≤_, _<_}
 use native.Mathlib.Decide.{decLt}
 use native.Mathlib.Omega.{arith}
-use mathlib.Core.Path.{_≡_, refl, ap, subst, sym, _∙_}
+use mathlib.Core.Path.{_≡_, subst, sym, _∙_}
 use mathlib.Core.List.{List}
-use Rattle.laws.specs.Lists.{All}
 use Rattle.rules.specs.declared.Stream.{Stream}
-use Rattle.rules.specs.declared.Set.{Set}
-use Rattle.rules.specs.declared.Verdict.{Verdict}
 use Rattle.rules.specs.declared.Verdict.the-variants.{Accept, Late}
-use Rattle.rules.specs.Streams.{streamsOf}
 use Rattle.rules.specs.Load.{demand, JudgedByH}
-use Rattle.rules.proofs.Valid.{ValidStream}
-use Rattle.rules.proofs.Finite.{lastLength, demand-zero}
+use Rattle.rules.proofs.Finite.{lastLength}
 use Rattle.rules.proofs.Judge.{Fits, Opens, fits-one, accepts, is-late}
 use Rattle.load.specs.declared.Rows.{Rows}
 use Rattle.load.specs.declared.Tested.{Tested}

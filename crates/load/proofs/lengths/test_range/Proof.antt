@@ -1,11 +1,10 @@
 -- `load::lengths::test_range` meets its contract: no length passed is late. Assumes nothing.
 use native.Mathlib.Omega.{arith}
 use borrow.Author.Needs.{needs}
-use Prim.Native.Nat.{ℕ, _+_, _-_, _*_, _/_, _≤_, _<_, max}
-use mathlib.Core.Path.{_≡_, refl, ap, ap₂, subst, sym, _∙_}
+use Prim.Native.Nat.{_-_, _≤_}
+use mathlib.Core.Path.{subst}
 use Rattle.rules.specs.Streams.{streamsOf}
 use Rattle.rules.specs.Load.{demand}
-use Rattle.load.specs.declared.Tested.{Tested}
 use Rattle.load.specs.declared.Tested.the-variants.{Clear, Late}
 use Rattle.load.specs.Lengths.{NoneLate, Spanned}
 use Rattle.load.proofs.Bounds.{blockings-fit}
