@@ -1,9 +1,9 @@
 -- Greatest common divisors and least common multiples: Euclid's step, the least common multiple of two numbers, of what a list asks, and one that antt computes.
 -- Assumes nothing.
 use Prim.Native.Nat.{ℕ, zero, suc, _+_, _*_, _/_, _%_, _≤_, _<_, _∣_}
-use native.Mathlib.Nat.{le-refl, le-antisymm, dvd-refl, dvd-trans, dvd-zero, one-dvd, dvd-mod-iff, dvd-add-iff-right, div-add-mod, add-mul, mul-assoc, mul-comm, mul-one, dvd-mul-left, dvd-mul-right, dvd-mul-right-of-dvd, mul-div-cancel', div-mul-cancel, dvd-of-mul-dvd-mul-right, mul-dvd-mul-right, pos-of-dvd-of-pos, mul-pos, mod-lt, le-of-dvd, lt-of-lt-of-le, dvd-antisymm}
+use native.Mathlib.Nat.{le-refl, dvd-refl, dvd-trans, dvd-zero, dvd-mod-iff, dvd-add-iff-right, div-add-mod, add-mul, mul-assoc, mul-comm, mul-one, dvd-mul-left, dvd-mul-right, dvd-mul-right-of-dvd, mul-div-cancel', div-mul-cancel, dvd-of-mul-dvd-mul-right, mul-dvd-mul-right, pos-of-dvd-of-pos, mul-pos, mod-lt, le-of-dvd, lt-of-lt-of-le, dvd-antisymm}
 use native.Mathlib.Omega.{arith}
-use mathlib.Core.Path.{_≡_, refl, ap, subst, sym, _∙_}
+use mathlib.Core.Path.{_≡_, ap, subst, sym, _∙_}
 use mathlib.Core.List.{List, [], _∷_}
 use lib.ListN.{length, take, getD}
 use Rattle.laws.specs.Lists.{All}

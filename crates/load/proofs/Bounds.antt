@@ -1,14 +1,13 @@
 -- How large the numbers of a valid set are: load, blocking, greatest deadline and offset, and what rows add.
 -- Assumes nothing.
-use Prim.Native.Nat.{ℕ, _+_, _-_, _*_, _/_, _≤_, _<_}
-use native.Mathlib.Nat.{div-le-self, le-trans, mul-le-mul, mul-le-mul-right}
+use Prim.Native.Nat.{ℕ, _+_, _-_, _*_, _/_, _≤_}
+use native.Mathlib.Nat.{div-le-self, le-trans, mul-le-mul}
 use native.Mathlib.Omega.{arith}
-use mathlib.Core.Path.{_≡_}
 use mathlib.Core.List.{List, []}
 use mathlib.Core.Bool.{Bool, true, false, cond}
 use lib.Dec.{leb, eqb, lit≤}
-use lib.ListN.{length, getD, take, length-take}
-use Rattle.laws.specs.Lists.{below, any, sum, top, All}
+use lib.ListN.{getD, length-take}
+use Rattle.laws.specs.Lists.{below, any, top, All}
 use Rattle.laws.proofs.Sums.{all-map, all-each, all-below, length-below, sum-le, top-le, cond-le}
 use Rattle.rules.specs.declared.Tuple.{Tuple}
 use Rattle.rules.specs.declared.Tuple.the-variants.{Once, Every}

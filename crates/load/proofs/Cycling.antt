@@ -1,31 +1,28 @@
 -- Cycles that are joined one after the other, and H as an answer: it is one number or one refusal.
 -- Assumes nothing.
 use Prim.Native.Nat.{ℕ, _+_, _*_, _/_, _≤_, _<_, _∣_}
-use native.Mathlib.Nat.{one-dvd, dvd-refl}
+use native.Mathlib.Nat.{one-dvd}
 use native.Mathlib.Omega.{arith}
 use mathlib.Core.Path.{_≡_, refl, ap, subst, sym, _∙_}
-use mathlib.Core.List.{List, []}
+use mathlib.Core.List.{List}
 use mathlib.Core.Bool.{Bool, true, false}
 use lib.ListN.{length, getD, take}
 use Rattle.laws.specs.Lists.{All}
-use Rattle.laws.specs.Multiples.{IsGcd, IsLcm, LeastWith}
+use Rattle.laws.specs.Multiples.{IsGcd, LeastWith}
 use Rattle.laws.proofs.Divide.{lcm-of-gcd, with-none, with-more, with-above, least-above}
-use Rattle.rules.specs.declared.Tuple.{Tuple}
 use Rattle.rules.specs.declared.Tuple.the-variants.{Once, Every}
-use Rattle.rules.specs.declared.TuplePlace.{TuplePlace}
 use Rattle.rules.specs.declared.Stream.{Stream}
 use Rattle.rules.specs.declared.Set.{Set}
 use Rattle.rules.specs.declared.CountAnswer.{CountAnswer}
 use Rattle.rules.specs.declared.CountAnswer.the-variants.{Number, Refused}
 use Rattle.rules.specs.declared.Refusal.the-variants.{OutOfRule, LongCycles}
-use Rattle.rules.specs.Streams.{streamsOf, valid, tuplesOf}
-use Rattle.rules.specs.Load.{CycleIn, PlaceIn, CyclesIn, Common, IsH}
+use Rattle.rules.specs.Streams.{streamsOf, valid}
+use Rattle.rules.specs.Load.{IsH}
 use Rattle.rules.proofs.Valid.{Between, ValidStream, valid-set}
-use Rattle.rules.proofs.Cycles.{place-up, cycles-up, join-every, join-once, least-is-h, hOf, h-of}
+use Rattle.rules.proofs.Cycles.{join-every, join-once, least-is-h, hOf, h-of}
 use Rattle.rules.proofs.Verdicts.{h-unique}
-use Rattle.load.specs.declared.Joined.{Joined}
 use Rattle.load.specs.declared.Joined.the-variants.{Is, Above}
-use Rattle.load.specs.Cycles.{CycleOf, CyclesOf, CommonOf, JoinedBy, ShortH, LongH, HBy, HIf, HOf}
+use Rattle.load.specs.Cycles.{CycleOf, CommonOf, JoinedBy, ShortH, LongH, HBy, HIf, HOf}
 
 -- ---- one cycle more
 

@@ -3,17 +3,12 @@
 use Prim.Native.Nat.{ℕ, _+_, _≤_, _<_}
 use native.Mathlib.Decide.{decLt}
 use native.Mathlib.Omega.{arith}
-use mathlib.Core.Path.{_≡_, refl, ap, subst, sym, _∙_}
+use mathlib.Core.Path.{_≡_, subst, sym, _∙_}
 use mathlib.Core.List.{List}
-use Rattle.laws.specs.Lists.{All}
 use Rattle.rules.specs.declared.Stream.{Stream}
-use Rattle.rules.specs.declared.Set.{Set}
-use Rattle.rules.specs.declared.Verdict.{Verdict}
 use Rattle.rules.specs.declared.Verdict.the-variants.{Accept, Late}
-use Rattle.rules.specs.Streams.{streamsOf}
 use Rattle.rules.specs.Load.{demand, JudgedByH}
-use Rattle.rules.proofs.Valid.{ValidStream}
-use Rattle.rules.proofs.Finite.{lastLength, demand-zero}
+use Rattle.rules.proofs.Finite.{lastLength}
 use Rattle.rules.proofs.Judge.{Fits, Opens, fits-one, accepts, is-late}
 use Rattle.load.specs.declared.Rows.{Rows}
 use Rattle.load.specs.declared.Tested.{Tested}
@@ -37,8 +32,8 @@ module _ (f : ℕ → ℕ) (a : ℕ) where
   pub none-join : (i e : ℕ) → NoneLate f a i → NoneLate f i e → NoneLate f a e
   none-join i e n m j x y = elim (decLt j i) [ yes z ↦ n j x z | no g ↦ m j (omega arith) y ]
 
-  pub late-join : (i e e′ k w : ℕ) → a ≤ i → e ≤ e′ → NoneLate f a i → FirstLate f i e k w → FirstLate f a e′ k w
-  late-join i e e′ k w p q n l =
+  pub late-join : {i e e′ k w : ℕ} → NoneLate f a i → FirstLate f i e k w → a ≤ i → e ≤ e′ → FirstLate f a e′ k w
+  late-join {i} {e} {e′} {k} {w} n l p q =
       record { from = omega (arith, l .from); before = omega (arith, l .before); that = l .that; above = l .above; first = none-join i k n (l .first) }
 
 -- the length i is late, with nothing late before it
@@ -57,11 +52,12 @@ tested-same f g a e s (FoundLate i w) l =
       first = λ j p q. omega (arith, l .first j p q, s j p (omega (arith, l .before)));
     }
 
--- a span from one deadline to the next
-pub span-range : (ss : List Stream) (t : Rows) (b i e stop : ℕ) (r : Tested) → RowsOf ss t → NextDeadline ss i e stop → b ≡ blockingsOf ss i → e ≤ 4294967295
-    → Spanned t b i stop r → Ranged ss i stop r
-span-range ss t b i e stop r rows n eb h s =
-    tested-same (rowsWith t b) (demand ss) i stop (λ j p q. same-demand i j stop p q ss t b (n .apart) rows eb (omega (arith, n .near))) r s
+-- a span from one deadline to the next; what was found, f, is r
+pub span-range : {ss : List Stream} {t : Rows} {b i e stop : ℕ} {f : Tested} (r : Tested) → RowsOf ss t → NextDeadline ss i e stop → b ≡ blockingsOf ss i
+    → Spanned t b i stop f → f ≡ r → e ≤ 4294967295 → Ranged ss i stop r
+span-range {ss} {t} {b} {i} {e} {stop} r rows n eb s q h =
+    tested-same (rowsWith t b) (demand ss) i stop (λ j p q. same-demand i j stop p q ss t b (n .apart) rows eb (omega (arith, n .near))) r
+    (subst (Spanned t b i stop) q s)
 
 -- ---- from the lengths to the verdict
 

@@ -1,25 +1,23 @@
 -- Rows that are put one behind the other say what is due of the tuples, and of the streams, that they were made from.
 -- Assumes nothing.
-use Prim.Native.Nat.{ℕ, zero, suc, _+_, _-_, _*_, _/_, _≤_, _<_}
+use Prim.Native.Nat.{ℕ, _+_, _-_, _*_, _/_, _≤_, _<_}
 use native.Mathlib.Nat.{mul-zero, div-eq-of-lt}
 use native.Mathlib.Decide.{decLe, decLt}
 use native.Mathlib.Omega.{arith}
-use mathlib.Core.Path.{_≡_, refl, ap, ap₂, subst, sym, _∙_}
-use mathlib.Core.List.{List, [], _∷_}
-use mathlib.Core.Bool.{Bool, true, false, cond}
+use mathlib.Core.Path.{_≡_, ap, subst, sym, _∙_}
+use mathlib.Core.List.{List, []}
+use mathlib.Core.Bool.{cond}
 use lib.Dec.{leb}
 use lib.ListN.{length, getD, set, take}
 use lib.Seq.{getD-set-same, getD-set-other}
-use borrow.Author.Tests.{le-leb, lt-leb, leb-true, leb-false}
+use borrow.Author.Tests.{le-leb, lt-leb}
 use Rattle.laws.specs.Lists.{below, sum}
 use Rattle.laws.proofs.Sums.{sum-below, sum-eq, sum-take, sum-none, sum-mul, sum-zero, all-below, all-each}
-use Rattle.rules.specs.declared.Tuple.{Tuple}
 use Rattle.rules.specs.declared.Tuple.the-variants.{Once, Every}
 use Rattle.rules.specs.declared.TuplePlace.{TuplePlace}
 use Rattle.rules.specs.declared.Stream.{Stream}
-use Rattle.rules.specs.Streams.{tuplesOf, eventsOf, events, limit}
+use Rattle.rules.specs.Streams.{tuplesOf, events, limit}
 use Rattle.rules.specs.Load.{due}
-use Rattle.rules.proofs.Valid.{ValidStream}
 use Rattle.load.specs.declared.Rows.{Rows}
 use Rattle.load.specs.Dues.{rowDue, dueAt, duesBelow, rowsDue, tupleDue, streamDue, Sound, Grows, RowsOf}
 

@@ -3,14 +3,14 @@
 use Prim.Native.Nat.{ℕ, _+_, _≤_, _<_}
 use native.Mathlib.Nat.{one-dvd}
 use native.Mathlib.Omega.{arith}
-use mathlib.Core.Path.{_≡_, refl, sym}
+use mathlib.Core.Path.{_≡_, refl}
 use mathlib.Core.Bool.{true, false}
 use Rattle.rules.specs.declared.Set.{Set}
 use Rattle.rules.specs.declared.Refusal.the-variants.{OutOfRule, LongCycles}
 use Rattle.rules.specs.declared.Verdict.{Verdict}
 use Rattle.rules.specs.declared.Verdict.the-variants.{Accept, Late, Overload, Refused}
 use Rattle.rules.specs.Streams.{streamsOf, valid}
-use Rattle.rules.specs.Load.{load, IsH, JudgedByH, VerdictOf}
+use Rattle.rules.specs.Load.{load, JudgedByH, VerdictOf}
 use Rattle.rules.proofs.Valid.{valid-set}
 use Rattle.rules.proofs.Finite.{greatestDeadline, greatestOffset, lastLength}
 use Rattle.rules.proofs.Cycles.{least-is-h}

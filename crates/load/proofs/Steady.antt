@@ -1,26 +1,25 @@
 -- Between two deadlines the blocking stays the same, so that rows with one blocking give the demand of every length there.
 -- Assumes nothing.
 use Prim.Native.Nat.{ℕ, _+_, _≤_, _<_}
-use native.Mathlib.Nat.{le-trans}
 use native.Mathlib.Omega.{arith}
-use mathlib.Core.Path.{_≡_, refl, ap, ap₂, sym, _∙_}
-use mathlib.Core.List.{List, [], _∷_}
+use mathlib.Core.Path.{_≡_, ap, ap₂, sym, _∙_}
+use mathlib.Core.List.{List, []}
 use mathlib.Core.Bool.{Bool, true, false, cond, _&&_}
-use mathlib.Core.Logic.{_⊎_, inl, inr, ⊎-elim}
+use mathlib.Core.Logic.{inl, inr}
 use lib.Dec.{leb, eqb}
 use lib.ListN.{length, getD, take}
 use borrow.Author.Tests.{le-leb, lt-leb}
-use Rattle.laws.specs.Lists.{below, any, sum, top, All}
+use Rattle.laws.specs.Lists.{below, any, top, All}
 use Rattle.laws.proofs.Sums.{all-map, all-each, all-take-more, any-eq, top-eq, sum-eq}
 use Rattle.rules.specs.declared.Stream.{Stream}
 use Rattle.rules.specs.declared.Set.{Set}
 use Rattle.rules.specs.declared.Refusal.the-variants.{OutOfRule}
 use Rattle.rules.specs.declared.CountAnswer.the-variants.{Number, Refused}
 use Rattle.rules.specs.Streams.{streamsOf, valid}
-use Rattle.rules.specs.Load.{due, urgent, held, blocking, demand, demandOf}
+use Rattle.rules.specs.Load.{urgent, held, blocking, demand, demandOf}
 use Rattle.load.specs.declared.Rows.{Rows}
 use Rattle.load.specs.Dues.{rowsDue, RowsOf}
-use Rattle.load.specs.Held.{blockingsOf, Apart, ApartFrom, Nearer, NextDeadline}
+use Rattle.load.specs.Held.{blockingsOf, Apart, ApartFrom, Nearer}
 use Rattle.load.specs.Lengths.{rowsWith}
 
 -- ---- looking for the next deadline

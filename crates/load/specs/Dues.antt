@@ -8,7 +8,6 @@ use lib.Dec.{leb}
 use lib.ListN.{getD}
 use Rattle.laws.specs.Lists.{below, sum}
 use Rattle.rules.specs.declared.Tuple.{Tuple}
-use Rattle.rules.specs.declared.TuplePlace.{TuplePlace}
 use Rattle.rules.specs.declared.Stream.{Stream}
 use Rattle.rules.specs.Streams.{eventsOf}
 use Rattle.rules.specs.Load.{due}

@@ -6,7 +6,6 @@ use mathlib.Core.List.{List}
 use mathlib.Core.Path.{_≡_}
 use Rattle.rules.specs.declared.Stream.{Stream}
 use Rattle.rules.specs.declared.Set.{Set}
-use Rattle.rules.specs.declared.Verdict.{Verdict}
 use Rattle.rules.specs.Streams.{streamsOf, valid}
 use Rattle.rules.specs.Load.{demand, VerdictOf}
 use Rattle.rules.proofs.Finite.{lastLength}

@@ -1,9 +1,9 @@
 -- H from the cycles, one tuple and one stream after the other: every list of valid streams has its H, and antt computes it.
 -- Assumes nothing.
-use Prim.Native.Nat.{ℕ, _+_, _*_, _/_, _≤_, _<_, _∣_}
+use Prim.Native.Nat.{ℕ, _*_, _/_, _<_, _∣_}
 use native.Mathlib.Nat.{dvd-refl, dvd-trans, le-of-dvd, one-dvd}
 use native.Mathlib.Omega.{arith}
-use mathlib.Core.List.{List, [], _∷_}
+use mathlib.Core.List.{List}
 use Rattle.laws.specs.Lists.{All}
 use Rattle.laws.specs.Multiples.{IsLcm, LeastWith, joined}
 use Rattle.laws.proofs.Sums.{all-map}

@@ -2,9 +2,9 @@
 -- Assumes nothing.
 use Prim.Native.Nat.{ℕ, zero, suc, _+_, _≤_, _<_}
 use native.Mathlib.Omega.{arith}
-use native.Mathlib.Decide.{decLe, decLt}
-use mathlib.Core.Path.{_≡_, refl, ap, subst, sym}
-use mathlib.Core.List.{List, [], _∷_}
+use native.Mathlib.Decide.{decLt}
+use mathlib.Core.Path.{_≡_, refl, ap, subst}
+use mathlib.Core.List.{List}
 use mathlib.Core.Bool.{Bool, true, false, cond}
 use lib.Dec.{leb}
 use borrow.Author.Tests.{leb-true, leb-false}
@@ -15,8 +15,8 @@ use Rattle.rules.specs.declared.Refusal.the-variants.{OutOfRule, LongCyc
 use Rattle.rules.specs.declared.Verdict.{Verdict}
 use Rattle.rules.specs.declared.Verdict.the-variants.{Accept, Late, Overload, Refused}
 use Rattle.rules.specs.Streams.{streamsOf, valid}
-use Rattle.rules.specs.Load.{Common, IsH, load, demand, Accepts, IsLate, Overloads, TooLong, Judged, JudgedByH, VerdictIf, VerdictOf}
-use Rattle.rules.proofs.Valid.{ValidStream, ValidSet, valid-set}
+use Rattle.rules.specs.Load.{Common, IsH, load, demand, JudgedByH, VerdictIf, VerdictOf}
+use Rattle.rules.proofs.Valid.{ValidStream, valid-set}
 use Rattle.rules.proofs.Finite.{lastLength, demand-zero, finite}
 use Rattle.rules.proofs.Cycles.{hOf, h-of}
 

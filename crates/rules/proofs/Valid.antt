@@ -1,10 +1,10 @@
 -- What the test of a valid set says of its streams and their tuples, as propositions.
 -- Assumes nothing.
-use Prim.Native.Nat.{ℕ, zero, suc, _≤_, _<_}
+use Prim.Native.Nat.{ℕ, zero, suc, _≤_}
 use native.Mathlib.Omega.{arith}
 use mathlib.Core.Path.{_≡_}
 use mathlib.Core.List.{List, [], _∷_}
-use mathlib.Core.Bool.{Bool, true, false, _&&_}
+use mathlib.Core.Bool.{Bool, true}
 use lib.Dec.{leb, eqb}
 use lib.ListN.{length, getD, take, drop, length-take}
 use borrow.Author.Tests.{leb-true, eqb-true}

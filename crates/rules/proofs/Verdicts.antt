@@ -12,7 +12,7 @@ use Rattle.rules.specs.declared.Set.{Set}
 use Rattle.rules.specs.declared.Verdict.{Verdict}
 use Rattle.rules.specs.declared.Verdict.the-variants.{Accept, Late, Overload, Refused}
 use Rattle.rules.specs.Streams.{streamsOf, valid}
-use Rattle.rules.specs.Load.{demand, load, IsH, Judged, VerdictIf, VerdictOf, JudgedByH}
+use Rattle.rules.specs.Load.{demand, IsH, Judged, VerdictIf, VerdictOf, JudgedByH}
 
 -- A contract that says `r ≡ f x` allows one result: so it is of every public function but the verdict, whose theorem is below.
 pub one-answer {ℓ} : {A : Type ℓ} {r s f : A} → r ≡ f → s ≡ f → r ≡ s

@@ -1,6 +1,6 @@
 -- `exports::crane_verdict` meets its contract. Assumes nothing.
 use borrow.Author.Needs.{needs}
-use mathlib.Core.Path.{_≡_, refl, ap, ap₂, subst, sym, _∙_}
+use mathlib.Core.Path.{subst}
 use Rattle.rules.specs.declared.Set.{Set}
 use Rattle.rules.specs.Load.{VerdictOf}
 use Rattle.exports.proofs.crane_verdict.Statement.{statement}

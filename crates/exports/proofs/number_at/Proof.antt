@@ -1,7 +1,6 @@
 -- `exports::number_at` meets its contract. Assumes nothing.
 use native.Mathlib.Omega.{arith}
 use borrow.Author.Needs.{needs}
-use mathlib.Core.Path.{_≡_, refl, ap, ap₂, subst, sym, _∙_}
 use Rattle.laws.proofs.Parts.{past}
 use Rattle.exports.proofs.number_at.Statement.{statement}
 use Rattle.exports.proofs.number_at.Tie as tie

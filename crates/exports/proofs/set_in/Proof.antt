@@ -1,9 +1,9 @@
 -- `exports::set_in` meets its contract: the first k streams are read. Assumes nothing.
 use native.Mathlib.Omega.{arith}
 use borrow.Author.Needs.{needs}
-use Prim.Native.Nat.{ℕ, _+_, _-_, _*_, _≤_, _<_}
-use mathlib.Core.Path.{_≡_, refl, ap, ap₂, subst, sym, _∙_}
-use lib.ListN.{length, set, take, length-set}
+use Prim.Native.Nat.{_-_, _≤_}
+use mathlib.Core.Path.{_≡_, refl, ap}
+use lib.ListN.{length, take, length-set}
 use Rattle.rules.specs.declared.Set.{Set}
 use Rattle.exports.specs.Rows.{at, streamsIn}
 use Rattle.exports.proofs.Reading.{read-more, read-all}

@@ -1,6 +1,5 @@
 -- `exports::stream_in` meets its contract. Assumes nothing.
 use borrow.Author.Needs.{needs}
-use mathlib.Core.Path.{_≡_, refl, ap, ap₂, subst, sym, _∙_}
 use Rattle.exports.specs.Rows.{streamIn}
 use Rattle.exports.proofs.stream_in.Statement.{statement}
 use Rattle.exports.proofs.stream_in.Tie as tie

@@ -1,8 +1,7 @@
 -- `exports::tell` meets its contract. Assumes nothing.
 use native.Mathlib.Omega.{arith}
 use borrow.Author.Needs.{needs}
-use mathlib.Core.Path.{_≡_, refl, ap, ap₂, subst, sym, _∙_}
-use lib.ListN.{length, length-set}
+use lib.ListN.{length-set}
 use borrow.Author.Tests.{le-leb, lt-leb}
 use Rattle.exports.specs.Rows.{told}
 use Rattle.exports.proofs.tell.Statement.{statement}

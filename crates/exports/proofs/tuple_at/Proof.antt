@@ -1,6 +1,6 @@
 -- `exports::tuple_at` meets its contract. Assumes nothing.
 use borrow.Author.Needs.{needs}
-use mathlib.Core.Path.{_≡_, refl, ap, ap₂, subst, sym, _∙_}
+use mathlib.Core.Path.{sym}
 use borrow.Author.Tests.{eq-eqb, ne-eqb}
 use Rattle.exports.specs.Rows.{tupleAt}
 use Rattle.exports.proofs.tuple_at.Statement.{statement}

@@ -1,7 +1,7 @@
 -- `load::h_of` meets its contract. Assumes nothing.
 use borrow.Author.Needs.{needs}
-use Prim.Native.Nat.{ℕ, _+_, _-_, _*_, _/_, _≤_, _<_, max}
-use mathlib.Core.Path.{_≡_, refl, ap, ap₂, subst, sym, _∙_}
+use Prim.Native.Nat.{_-_}
+use mathlib.Core.Path.{subst, sym, _∙_}
 use Rattle.rules.specs.Streams.{streamsOf}
 use Rattle.rules.proofs.Valid.{valid-set}
 use Rattle.load.specs.Cycles.{CommonOf, JoinedBy}

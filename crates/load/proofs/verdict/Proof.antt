@@ -1,11 +1,10 @@
 -- `load::verdict` meets its contract. Assumes nothing.
 use native.Mathlib.Omega.{arith}
 use borrow.Author.Needs.{needs}
-use Prim.Native.Nat.{ℕ, _+_, _-_, _*_, _/_, _≤_, _<_, max}
-use mathlib.Core.Path.{_≡_, refl, ap, ap₂, subst, sym, _∙_}
+use Prim.Native.Nat.{_-_}
+use mathlib.Core.Path.{subst}
 use Rattle.rules.specs.Streams.{streamsOf}
 use Rattle.rules.proofs.Valid.{valid-set}
-use Rattle.load.specs.declared.Tested.the-variants.{Clear, Late}
 use Rattle.load.specs.Lengths.{OpeningOf, GoesOn, Ranged}
 use Rattle.load.proofs.Settle.{verdict-clear, verdict-late}
 use Rattle.load.proofs.verdict.Statement.{statement}

@@ -1,8 +1,8 @@
 -- `load::cycles::join_cycle` meets its contract: the product of one number and the other over their greatest common divisor. Assumes nothing.
 use native.Mathlib.Omega.{arith}
 use borrow.Author.Needs.{needs}
-use Prim.Native.Nat.{ℕ, _+_, _-_, _*_, _/_, _≤_, _<_, max}
-use mathlib.Core.Path.{_≡_, refl, ap, ap₂, subst, sym, _∙_}
+use Prim.Native.Nat.{_-_, _*_}
+use mathlib.Core.Path.{ap₂}
 use native.Mathlib.Nat.{div-le-self}
 use Rattle.laws.proofs.Divide.{gcd-positive}
 use Rattle.load.proofs.Bounds.{product-fits}

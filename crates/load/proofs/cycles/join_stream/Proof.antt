@@ -1,16 +1,15 @@
 -- `load::cycles::join_stream` meets its contract. Assumes nothing.
 use native.Mathlib.Omega.{arith}
 use borrow.Author.Needs.{needs}
-use Prim.Native.Nat.{ℕ, _+_, _-_, _*_, _/_, _≤_, _<_, max}
-use mathlib.Core.Path.{_≡_, refl, ap, ap₂, subst, sym, _∙_}
-use lib.ListN.{length, getD, take}
+use Prim.Native.Nat.{_-_, _≤_}
+use mathlib.Core.Path.{_≡_, subst}
+use lib.ListN.{length, getD}
 use Rattle.laws.proofs.Parts.{sized}
 use Rattle.laws.proofs.Sums.{all-take-at}
 use Rattle.rules.specs.Streams.{noTuple}
 use Rattle.rules.specs.Load.{PlaceIn}
 use Rattle.rules.proofs.Valid.{ValidPlace}
 use Rattle.rules.proofs.Cycles.{place-up}
-use Rattle.load.specs.declared.Joined.{Joined}
 use Rattle.load.specs.Cycles.{CycleOf, JoinedBy}
 use Rattle.load.proofs.Cycling.{SoFar, so-far, so-far-more, so-far-above, so-far-end}
 use Rattle.load.proofs.cycles.join_stream.Statement.{statement}

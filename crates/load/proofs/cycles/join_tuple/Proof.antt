@@ -1,10 +1,8 @@
 -- `load::cycles::join_tuple` meets its contract. Assumes nothing.
 use borrow.Author.Needs.{needs}
-use Prim.Native.Nat.{ℕ, _+_, _-_, _*_, _/_, _≤_, _<_, max}
-use mathlib.Core.Path.{_≡_, refl, ap, ap₂, subst, sym, _∙_}
-use Rattle.rules.specs.declared.Tuple.{Tuple}
+use Prim.Native.Nat.{_-_}
+use mathlib.Core.Path.{subst}
 use Rattle.rules.proofs.Valid.{ValidCycle}
-use Rattle.load.specs.Cycles.{CycleOf, JoinedBy}
 use Rattle.load.proofs.Cycling.{once-is}
 use Rattle.load.proofs.cycles.join_tuple.Statement.{statement}
 use Rattle.load.proofs.cycles.join_tuple.Tie as tie

@@ -1,11 +1,10 @@
 -- `load::cycles::tuple_load` meets its contract. Assumes nothing.
 use native.Mathlib.Omega.{arith}
 use borrow.Author.Needs.{needs}
-use Prim.Native.Nat.{ℕ, _+_, _-_, _*_, _/_, _≤_, _<_, max}
-use mathlib.Core.Path.{_≡_, refl, ap, ap₂, subst, sym, _∙_}
+use Prim.Native.Nat.{_-_, _*_}
+use mathlib.Core.Path.{ap₂, subst, sym}
 use native.Mathlib.Nat.{mul-zero, div-le-self}
 use Rattle.rules.proofs.Valid.{ValidCycle}
-use Rattle.rules.specs.Load.{rateOf}
 use Rattle.load.proofs.Bounds.{product-fits}
 use Rattle.load.proofs.cycles.tuple_load.Statement.{statement}
 use Rattle.load.proofs.cycles.tuple_load.Tie as tie

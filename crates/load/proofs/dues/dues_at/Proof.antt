@@ -1,8 +1,8 @@
 -- `load::dues::dues_at` meets its contract. Assumes nothing.
 use native.Mathlib.Omega.{arith}
-use Prim.Native.Nat.{ℕ, _+_, _-_, _*_, _/_, _≤_, _<_, max}
-use mathlib.Core.Path.{_≡_, refl, ap, ap₂, subst, sym, _∙_}
-use lib.ListN.{length, getD, take}
+use Prim.Native.Nat.{ℕ, _-_, _*_, _≤_}
+use mathlib.Core.Path.{_≡_, ap, sym, _∙_}
+use lib.ListN.{getD}
 use Rattle.laws.specs.Lists.{below, sum}
 use Rattle.laws.proofs.Sums.{sum-none, sum-below}
 use Rattle.load.specs.Dues.{dueAt, duesBelow}

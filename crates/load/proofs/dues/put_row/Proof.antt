@@ -1,6 +1,5 @@
 -- `load::dues::put_row` meets its contract. Assumes nothing.
 use borrow.Author.Needs.{needs}
-use mathlib.Core.Path.{_≡_, refl, ap, ap₂, subst, sym, _∙_}
 use Rattle.laws.proofs.Parts.{sized}
 use Rattle.load.proofs.RowLaws.{grows-row}
 use Rattle.load.proofs.dues.put_row.Statement.{statement}

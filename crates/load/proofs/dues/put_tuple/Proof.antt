@@ -1,8 +1,8 @@
 -- `load::dues::put_tuple` meets its contract. Assumes nothing.
 use native.Mathlib.Omega.{arith}
 use borrow.Author.Needs.{needs}
-use Prim.Native.Nat.{ℕ, _+_, _-_, _*_, _/_, _≤_, _<_, max}
-use mathlib.Core.Path.{_≡_, refl, ap, ap₂, subst, sym, _∙_}
+use Prim.Native.Nat.{_-_, _≤_}
+use mathlib.Core.Path.{subst}
 use Rattle.load.proofs.RowLaws.{grows-as, every-row, once-row}
 use Rattle.rules.specs.declared.Tuple.{Tuple}
 use Rattle.rules.specs.Streams.{offset}

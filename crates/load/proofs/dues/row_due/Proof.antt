@@ -1,8 +1,8 @@
 -- `load::dues::row_due` meets its contract. Assumes nothing.
 use native.Mathlib.Omega.{arith}
 use borrow.Author.Needs.{needs}
-use Prim.Native.Nat.{ℕ, _+_, _-_, _*_, _/_, _≤_, _<_, max}
-use mathlib.Core.Path.{_≡_, refl, ap, ap₂, subst, sym, _∙_}
+use Prim.Native.Nat.{ℕ, _+_, _-_, _*_}
+use mathlib.Core.Path.{ap₂}
 use native.Mathlib.Nat.{div-le-self}
 use borrow.Author.Tests.{le-leb, lt-leb}
 use Rattle.load.specs.Dues.{rowDue}

@@ -1,9 +1,9 @@
 -- `load::dues::rows_of` meets its contract: after k streams the rows say what is due of those. Assumes nothing.
 use native.Mathlib.Omega.{arith}
 use borrow.Author.Needs.{needs}
-use Prim.Native.Nat.{ℕ, _+_, _-_, _*_, _/_, _≤_, _<_, max}
-use mathlib.Core.Path.{_≡_, refl, ap, ap₂, subst, sym, _∙_}
-use lib.ListN.{length, getD, take}
+use Prim.Native.Nat.{ℕ, _-_, _*_, _≤_}
+use mathlib.Core.Path.{_≡_, subst}
+use lib.ListN.{length, take}
 use Rattle.laws.proofs.Parts.{sized}
 use Rattle.laws.proofs.Sums.{all-take-at}
 use Rattle.rules.proofs.Valid.{ValidStream}

@@ -1,6 +1,5 @@
 -- `load::held::held_by` meets its contract. Assumes nothing.
 use borrow.Author.Needs.{needs}
-use mathlib.Core.Path.{_≡_, refl, ap, ap₂, subst, sym, _∙_}
 use borrow.Author.Tests.{eq-eqb, ne-eqb, le-leb, lt-leb}
 use Rattle.load.proofs.held.held_by.Statement.{statement}
 use Rattle.load.proofs.held.held_by.Tie as tie

@@ -1,13 +1,13 @@
 -- `load::held::next_deadline` meets its contract: no deadline passed lies after i and before the nearest so far. Assumes nothing.
 use native.Mathlib.Omega.{arith}
 use borrow.Author.Needs.{needs}
-use Prim.Native.Nat.{ℕ, _+_, _-_, _*_, _/_, _≤_, _<_, max}
-use mathlib.Core.Path.{_≡_, refl, ap, ap₂, subst, sym, _∙_}
-use lib.ListN.{length, getD, take}
+use Prim.Native.Nat.{ℕ, _-_, _≤_, _<_}
+use mathlib.Core.Path.{_≡_, subst}
+use lib.ListN.{length, take}
 use Rattle.laws.proofs.Parts.{sized}
 use Rattle.laws.specs.Lists.{All}
 use Rattle.load.specs.Held.{ApartFrom}
-use Rattle.load.proofs.Steady.{apart-none, apart-more}
+use Rattle.load.proofs.Steady.{apart-more}
 use Rattle.load.proofs.held.next_deadline.Statement.{statement}
 use Rattle.load.proofs.held.next_deadline.Tie as tie
 

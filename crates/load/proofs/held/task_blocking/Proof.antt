@@ -1,14 +1,14 @@
 -- `load::held::task_blocking` meets its contract. Assumes nothing.
 use native.Mathlib.Omega.{arith}
 use borrow.Author.Needs.{needs}
-use Prim.Native.Nat.{ℕ, _+_, _-_, _*_, _/_, _≤_, _<_, max}
-use mathlib.Core.Path.{_≡_, refl, ap, ap₂, subst, sym, _∙_}
-use lib.ListN.{length, getD, take}
-use mathlib.Core.Bool.{Bool, true, false, cond, _||_}
+use Prim.Native.Nat.{_-_, _≤_}
+use mathlib.Core.Path.{_≡_, refl, ap₂, sym, _∙_}
+use lib.ListN.{length, take}
+use mathlib.Core.Bool.{true, false, _||_}
 use Rattle.laws.proofs.Parts.{sized}
 use Rattle.laws.specs.Lists.{any as some, top}
 use Rattle.laws.proofs.Sums.{top-none, top-take, any-take}
-use Rattle.rules.specs.Load.{urgent, held, blocking}
+use Rattle.rules.specs.Load.{urgent, held}
 use Rattle.load.proofs.Bounds.{blank}
 use Rattle.load.proofs.Steady.{blocking-by}
 use Rattle.load.proofs.held.task_blocking.Statement.{statement}

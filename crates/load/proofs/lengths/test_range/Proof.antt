@@ -43,11 +43,10 @@ enum-known-found c = search needs
 
 returns : tie.Need-returns Inv-loop μ-loop
 returns c =
-    late-join (demand (streamsOf (c .before .before .before .before .before .before .before .before .before .args .x))) (c .before .before .before .before .before .before .before .before .before .args .from) (c .before .before .before .before .before .before .before .loop .i) (c .before .before .before .before .before .next-deadline .result) (c .before .before .before .before .before .before .before .before .before .args .end) (c .before .found .given .0 .0) (c .before .found .given .0 .1 .0)
-    (omega arith) (c .before .before .before .before .before .next-deadline .ensures .near) (c .before .before .before .before .before .before .before .loop .inv .2)
-    (span-range (streamsOf (c .before .before .before .before .before .before .before .before .before .args .x)) (c .before .before .before .before .before .before .before .before .rows-of .result) (c .before .before .before .before .blockings .result) (c .before .before .before .before .before .before .before .loop .i) (c .before .before .before .before .before .before .before .before .before .args .end) (c .before .before .before .before .before .next-deadline .result)
-    (Late (c .before .found .given .0 .0) (c .before .found .given .0 .1 .0)) (c .before .before .before .before .before .before .before .before .rows-of .ensures) (c .before .before .before .before .before .next-deadline .ensures) (c .before .before .before .before .blockings .ensures) (omega arith)
-    (subst (Spanned (c .before .before .before .before .before .before .before .before .rows-of .result) (c .before .before .before .before .blockings .result) (c .before .before .before .before .before .before .before .loop .i) (c .before .before .before .before .before .next-deadline .result)) (c .before .found .given .1) (c .before .before .before .test-span .ensures)))
+    late-join _ _ (c .before .before .before .before .before .before .before .loop .inv .2)
+    (span-range (Late (c .before .found .given .0 .0) (c .before .found .given .0 .1 .0)) (c .before .before .before .before .before .before .before .before .rows-of .ensures) (c .before .before .before .before .before .next-deadline .ensures) (c .before .before .before .before .blockings .ensures)
+    (c .before .before .before .test-span .ensures) (c .before .found .given .1) (omega arith))
+    (omega arith) (c .before .before .before .before .before .next-deadline .ensures .near)
 
 enum-told : tie.Need-enum-told Inv-loop μ-loop
 enum-told c = search needs
@@ -59,10 +58,8 @@ loop-again : tie.Need-loop-again Inv-loop μ-loop
 loop-again c = (
   omega (arith, c .before .before .before .before .next-deadline .ensures .after),
   c .before .before .before .before .next-deadline .ensures .near,
-  none-join (demand (streamsOf (c .before .before .before .before .before .before .before .before .args .x))) (c .before .before .before .before .before .before .before .before .args .from) (c .before .before .before .before .before .before .loop .i) (c .before .before .before .before .next-deadline .result) (c .before .before .before .before .before .before .loop .inv .2)
-      (span-range (streamsOf (c .before .before .before .before .before .before .before .before .args .x)) (c .before .before .before .before .before .before .before .rows-of .result) (c .before .before .before .blockings .result) (c .before .before .before .before .before .before .loop .i) (c .before .before .before .before .before .before .before .before .args .end) (c .before .before .before .before .next-deadline .result)
-      Clear (c .before .before .before .before .before .before .before .rows-of .ensures) (c .before .before .before .before .next-deadline .ensures) (c .before .before .before .blockings .ensures) (omega arith)
-      (subst (Spanned (c .before .before .before .before .before .before .before .rows-of .result) (c .before .before .before .blockings .result) (c .before .before .before .before .before .before .loop .i) (c .before .before .before .before .next-deadline .result)) (c .enum-told .given .1) (c .before .before .test-span .ensures))),
+  none-join _ _ _ _ (c .before .before .before .before .before .before .loop .inv .2)
+      (span-range Clear (c .before .before .before .before .before .before .before .rows-of .ensures) (c .before .before .before .before .next-deadline .ensures) (c .before .before .before .blockings .ensures) (c .before .before .test-span .ensures) (c .enum-told .given .1) (omega arith)),
 )
 
 returns-2 : tie.Need-returns-2 Inv-loop μ-loop

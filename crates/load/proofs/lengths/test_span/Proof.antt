@@ -1,8 +1,8 @@
 -- `load::lengths::test_span` meets its contract: no length passed is late. Assumes nothing.
 use native.Mathlib.Omega.{arith}
 use borrow.Author.Needs.{needs}
-use Prim.Native.Nat.{ℕ, _+_, _-_, _*_, _/_, _≤_, _<_, max}
-use mathlib.Core.Path.{_≡_, refl, ap, ap₂, subst, sym, _∙_}
+use Prim.Native.Nat.{ℕ, _+_, _-_, _≤_}
+use mathlib.Core.Path.{ap}
 use Rattle.load.specs.Dues.{duesBelow, rowsDue}
 use Rattle.load.specs.Lengths.{NoneLate, rowsWith}
 use Rattle.load.proofs.Bounds.{dues-fit}
