@@ -58,7 +58,12 @@ fn row(name: &[u8], bytes: &[u8]) {
     }
 }
 
-// The sheet of W12 written to a part of a buffer, and the first bytes of the buffer then.
+fn byte(b: u8) {
+    number(b as usize);
+    io::write_all(1, b" ");
+}
+
+// The sheet of W12 written to a part of a buffer, and the buffer's bytes 0, 10, 11 and 15 then.
 fn lent(room: usize) {
     if 16 < room {
         return;
@@ -69,12 +74,10 @@ fn lent(room: usize) {
     number(room);
     io::write_all(1, b" bytes: ");
     wrote(sheet::write(set, &mut buf[..room]));
-    let mut i: usize = 0;
-    while i < 16 {
-        number(buf[i] as usize);
-        io::write_all(1, b" ");
-        i += 1;
-    }
+    byte(buf[0]);
+    byte(buf[10]);
+    byte(buf[11]);
+    byte(buf[15]);
     io::write_all(1, b"\n");
 }
 
