@@ -1,0 +1,14 @@
+// Runs the steps at their edges and prints what they answer: the places, states that are not well formed, and ways a cab has gone wrong.
+mod broken;
+mod places;
+mod say;
+mod wrongs;
+mod yard;
+
+fn main() {
+    places::full();
+    places::at_cost();
+    places::last_clock();
+    broken::each();
+    wrongs::each();
+}
