@@ -3,6 +3,7 @@ ghost use mathlib.Core.Path.{_≡_};
 ghost use mathlib.Core.List.{_++_, _∷_, []};
 ghost use lib.IntN.{natAbs};
 ghost use Rattle.text.specs.Decimal.{digitsOf, decimalOf, signedOf, spaced};
+ghost use Rattle.text.specs.Hex.{isHex, hexOf};
 ghost use Rattle.text.specs.Held.{holding, putOf, puts};
 
 // A line: its bytes stand in the first len of 128 places, which are more than any answer takes.
@@ -111,4 +112,25 @@ pub fn two(l: Line, w: &[u8], a: u64, b: u64) -> Line
     ensures { λ r. ⌜ r ≡ puts l (now (w .entry) ++ spaced (decimalOf a) ++ spaced (decimalOf b)) ⌝ }
 {
     number(one(l, w, a), b)
+}
+
+// Whether a byte is a lower-case hex digit, and its value; 0 to 15 for any byte.
+pub fn is_hex(b: u8) -> bool
+    ensures { λ r. ⌜ r ≡ isHex b ⌝ }
+{
+    ((48 <= b) & (b <= 57)) | ((97 <= b) & (b <= 102))
+}
+
+pub fn hex_of(b: u8) -> u8
+    ensures { λ r. ⌜ r ≡ hexOf b ⌝ }
+{
+    if b < 48 {
+        0
+    } else if b <= 57 {
+        (b - 48) % 16
+    } else if b < 87 {
+        0
+    } else {
+        (b - 87) % 16
+    }
 }
