@@ -45,7 +45,11 @@ fn after_p(b: u8) -> Heard
 pub fn hear(waiting: bool, b: u8) -> Heard
     ensures { λ r. ⌜ r ≡ heardOf waiting b ⌝ }
 {
-    if waiting { after_p(b) } else { between_steps(b) }
+    if waiting {
+        after_p(b)
+    } else {
+        between_steps(b)
+    }
 }
 
 // The end of a trace.
