@@ -1,1 +1,304 @@
--- Laws of lists and numbers. Assumes nothing.
+-- Parts of lists as loops pass over them: the places k to n, and what `all`, `scan`, `sum`, `find` and `firstLeast` are of what is left; tests that passed;
+-- a place taken out of a list.
+-- Assumes nothing.
+use Prim.Native.Nat.{ℕ, zero, suc, _+_, _-_, _≤_, _<_, min}
+use mathlib.Core.Bool.{Bool, true, false, cond, _&&_, false≢true}
+use mathlib.Core.Logic.{_⊎_, inl, inr, ⊎-elim}
+use mathlib.Core.Path.{_≡_, refl, ap, sym, _∙_}
+use mathlib.Core.List.{List, [], _∷_, _++_, map}
+use native.Mathlib.Omega.{arith}
+use native.Mathlib.Numerals.{add-one}
+use native.Mathlib.Nat.{eq-or-lt-of-le}
+use borrow.Author.Tests.{eqb-true, eqb-false, ltb-true, ltb-false, leb-true, leb-false, le-leb, lt-leb}
+use lib.Dec.{ltb, leb, eqb}
+use lib.ListN.{length, getD, take, drop, set, length-take, length-append, drop-of-length-le, length-map, List·getD-eq-default}
+use lib.Seq.{drop-cons, getD-take, take-all, take-append-le}
+use Rattle.laws.specs.Lists.{every, below, all, sum, count, find, scan, remove, firstLeast}
+use Rattle.laws.proofs.Sums.{by-test}
+
+-- ---- the places k to n of a list, shut, so that its arguments are found
+
+unfoldable pub part : {A : Type 0} → ℕ → ℕ → List A → List A
+part k n l = drop k (take n l)
+
+module _ {A : Type 0} where
+  pub part-cons : (l : List A) (n k : ℕ) (d : A) → k < n → k < length l → part k n l ≡ getD l k d ∷ part (k + 1) n l
+  unfolding part
+  part-cons l n k d h g =
+      let m : k < length (take n l) = simp length-take (omega arith) in
+      rw (add-one, drop-cons (take n l) k d m, getD-take n l k d h)
+
+  -- past the end of the part or of the list there is nothing
+  pub part-nil : (l : List A) (n k : ℕ) → (n ≤ k) ⊎ (length l ≤ k) → part k n l ≡ []
+  unfolding part
+  part-nil l n k (inl h) = drop-of-length-le (take n l) {i = k} (simp length-take (omega arith))
+  part-nil l n k (inr h) = drop-of-length-le (take n l) {i = k} (simp length-take (omega arith))
+
+  pub part-all : (l : List A) (n : ℕ) → part 0 n l ≡ take n l
+  unfolding part
+  part-all l n = refl
+
+  -- what is left of the whole list
+  pub part-rest : (l : List A) (n k : ℕ) → length l ≤ n → part k n l ≡ drop k l
+  unfolding part
+  part-rest l n k h = rw (take-all n l h)
+
+  -- within the list the default does not matter
+  pub getD-any : (l : List A) (k : ℕ) (d e : A) → k < length l → getD l k d ≡ getD l k e
+  getD-any [] k d e h = absurd (let z : k < 0 = h in omega arith)
+  getD-any (x ∷ l) zero d e h = refl
+  getD-any (x ∷ l) (suc k) d e h = getD-any l k d e (omega arith)
+
+  pub past : (l : List A) (k : ℕ) (d : A) → length l ≤ k → d ≡ getD l k d
+  past l k d h = sym (List·getD-eq-default l d {n = k} h)
+
+-- what owning an array tells of its list
+pub sized : {A B : Type 0} (f : A → B) (l : List A) (n : ℕ) → length (map f l) ≡ n → length l ≡ n
+sized f l n e = sym (length-map l f) ∙ e
+
+-- ---- a loop over the places, whose result is z: it goes on, it stops at an element, it comes to the end
+
+module _ {A : Type 0} (p : A → Bool) where
+  pub all-go : (l : List A) (n k : ℕ) (z : Bool) (d x : A) → all p (part k n l) ≡ z → x ≡ getD l k d → p x ≡ true → k < n → k < length l → all p (part (k + 1) n l) ≡ z
+  unfolding all
+  all-go l n k z d x inv e t h g = rw (part-cons l n k d h g, ← e, t) at inv
+
+  pub all-no : (l : List A) (n k : ℕ) (z : Bool) (d x : A) → all p (part k n l) ≡ z → x ≡ getD l k d → p x ≡ false → k < n → k < length l → false ≡ z
+  unfolding all
+  all-no l n k z d x inv e t h g = rw (part-cons l n k d h g, ← e, t) at inv
+
+  pub all-end : (l : List A) (n k : ℕ) (z : Bool) → all p (part k n l) ≡ z → (n ≤ k) ⊎ (length l ≤ k) → true ≡ z
+  unfolding all
+  all-end l n k z inv h = rw (part-nil l n k h) at inv
+
+module _ {A B : Type 0} (p : B → A → Bool) (f : A → B) where
+  pub scan-go : (l : List A) (n k : ℕ) (b b′ : B) (z : Bool) (d x : A) → scan p f b (part k n l) ≡ z → x ≡ getD l k d → b′ ≡ f x → p b x ≡ true → k < n → k < length l → scan p f b′ (part (k + 1) n l) ≡ z
+  unfolding scan
+  scan-go l n k b b′ z d x inv e e′ t h g = rw e′ (rw (part-cons l n k d h g, ← e, t) at inv)
+
+  pub scan-no : (l : List A) (n k : ℕ) (b : B) (z : Bool) (d x : A) → scan p f b (part k n l) ≡ z → x ≡ getD l k d → p b x ≡ false → k < n → k < length l → false ≡ z
+  unfolding scan
+  scan-no l n k b z d x inv e t h g = rw (part-cons l n k d h g, ← e, t) at inv
+
+  pub scan-end : (l : List A) (n k : ℕ) (b : B) (z : Bool) → scan p f b (part k n l) ≡ z → (n ≤ k) ⊎ (length l ≤ k) → true ≡ z
+  unfolding scan
+  scan-end l n k b z inv h = rw (part-nil l n k h) at inv
+
+-- the sum so far is a, the whole sum is z
+module _ {A : Type 0} (f : A → ℕ) where
+  pub sum-go : (l : List A) (n k a z : ℕ) (d x : A) → a + sum f (part k n l) ≡ z → x ≡ getD l k d → k < n → k < length l → a + f x + sum f (part (k + 1) n l) ≡ z
+  unfolding sum
+  sum-go l n k a z d x inv e h g = rw e (omega (arith, ap (sum f) (part-cons l n k d h g)))
+
+  pub sum-end : (l : List A) (n k a z : ℕ) → a + sum f (part k n l) ≡ z → (n ≤ k) ⊎ (length l ≤ k) → a ≡ z
+  unfolding sum
+  sum-end l n k a z inv h = omega (arith, ap (sum f) (part-nil l n k h))
+
+-- the place of the first element that passes is z
+module _ {A : Type 0} (p : A → Bool) where
+  pub find-go : (l : List A) (n k z : ℕ) (d x : A) → k + find p (part k n l) ≡ z → x ≡ getD l k d → p x ≡ false → k < n → k < length l → k + 1 + find p (part (k + 1) n l) ≡ z
+  unfolding find
+  find-go l n k z d x inv e t h g =
+      let u : find p (part k n l) ≡ suc (find p (part (k + 1) n l)) = rw (part-cons l n k d h g, ← e, t) in
+      omega arith
+
+  pub find-is : (l : List A) (n k z : ℕ) (d x : A) → k + find p (part k n l) ≡ z → x ≡ getD l k d → p x ≡ true → k < n → k < length l → k ≡ z
+  unfolding find
+  find-is l n k z d x inv e t h g =
+      let u : find p (part k n l) ≡ 0 = rw (part-cons l n k d h g, ← e, t) in
+      omega arith
+
+  pub find-end : (l : List A) (n k z : ℕ) → k + find p (part k n l) ≡ z → (n ≤ k) ⊎ (length l ≤ k) → k ≡ z
+  unfolding find
+  find-end l n k z inv h =
+      let u : find p (part k n l) ≡ 0 = rw (part-nil l n k h) in
+      omega arith
+
+-- ---- what passed tests say
+
+pub both-first : (a b : Bool) → (a && b) ≡ true → a ≡ true
+both-first true b e = refl
+both-first false b e = absurd (false≢true e)
+
+pub both-second : (a b : Bool) → (a && b) ≡ true → b ≡ true
+both-second true b e = e
+both-second false b e = absurd (false≢true e)
+
+-- the test at k, or true past the end
+pub every-at : (ts : List Bool) (k : ℕ) → every ts ≡ true → getD ts k true ≡ true
+every-at [] k e = List·getD-eq-default [] true {n = k} (omega arith)
+every-at (t ∷ []) zero e = e
+every-at (t ∷ []) (suc k) e = List·getD-eq-default [] true {n = k} (omega arith)
+every-at (t ∷ (u ∷ ts)) zero e = both-first t (every (u ∷ ts)) e
+every-at (t ∷ (u ∷ ts)) (suc k) e = every-at (u ∷ ts) k (both-second t (every (u ∷ ts)) e)
+
+module _ {A : Type 0} (p : A → Bool) where
+  pub all-at : (l : List A) (k : ℕ) (d : A) → all p l ≡ true → k < length l → p (getD l k d) ≡ true
+  unfolding all
+  all-at [] k d e h = absurd (let z : k < 0 = h in omega arith)
+  all-at (x ∷ l) zero d e h = both-first (p x) (all p l) e
+  all-at (x ∷ l) (suc k) d e h = all-at l k d (both-second (p x) (all p l) e) (omega arith)
+
+  pub all-within : (l : List A) (n k : ℕ) (d : A) → all p (take n l) ≡ true → k < n → k < length l → p (getD l k d) ≡ true
+  all-within l n k d e h g = rw (getD-take n l k d h) at (all-at (take n l) k d e (simp length-take (omega arith)))
+
+-- a test that looks back is passed by each element at some value of what it looks at
+pub scan-at : {A B : Type 0} (p : B → A → Bool) (f : A → B) (b : B) (l : List A) (k : ℕ) (d : A) → scan p f b l ≡ true → k < length l → (b′ : B) × (p b′ (getD l k d) ≡ true)
+unfolding scan
+scan-at p f b [] k d e h = absurd (let z : k < 0 = h in omega arith)
+scan-at p f b (x ∷ l) zero d e h = (b, both-first (p b x) (scan p f (f x) l) e)
+scan-at p f b (x ∷ l) (suc k) d e h = scan-at p f (f x) l k d (both-second (p b x) (scan p f (f x) l) e) (omega arith)
+
+-- ---- a place is taken out of a list, and d comes in at the end
+
+module _ {A : Type 0} (d : A) where
+  -- the place after k is copied to k, and then taken out in its stead
+  remove-suc : (k : ℕ) (l : List A) → suc k < length l → remove d (suc k) (set l k (getD l (suc k) d)) ≡ remove d k l
+  unfolding remove
+  remove-suc k [] h = refl
+  remove-suc zero (x ∷ []) h = absurd (let z : 1 < 1 = h in omega arith)
+  remove-suc zero (x ∷ (y ∷ l)) h = refl
+  remove-suc (suc k) (x ∷ l) h = ap (λ (xs : List A). x ∷ xs) (remove-suc k l (omega arith))
+
+  pub remove-step : (k : ℕ) (l : List A) → k + 1 < length l → remove d (k + 1) (set l k (getD l (k + 1) d)) ≡ remove d k l
+  remove-step k l h = rw add-one (remove-suc k l (rw add-one at h))
+
+  -- at the last place d is put
+  pub remove-last : (k : ℕ) (l : List A) → length l ≡ suc k → remove d k l ≡ set l k d
+  unfolding remove
+  remove-last k [] e = refl
+  remove-last zero (x ∷ []) e = refl
+  remove-last zero (x ∷ (y ∷ l)) e = absurd (let z : suc (suc (length l)) ≡ 1 = e in omega arith)
+  remove-last (suc k) (x ∷ l) e = ap (λ (xs : List A). x ∷ xs) (remove-last k l (omega arith))
+
+  pub length-remove : (i : ℕ) (l : List A) → length (remove d i l) ≡ length l
+  unfolding remove
+  length-remove i [] = refl
+  length-remove zero (x ∷ l) = length-append l (d ∷ []) ∙ omega arith
+  length-remove (suc i) (x ∷ l) = ap suc (length-remove i l)
+
+  -- the order of the rest is kept
+  pub take-remove : (i n : ℕ) (l : List A) → i ≤ n → n < length l → take n (remove d i l) ≡ take i l ++ drop (suc i) (take (suc n) l)
+  unfolding remove
+  take-remove i n [] h g = absurd (let z : n < 0 = g in omega arith)
+  take-remove zero n (x ∷ l) h g = take-append-le n l (d ∷ []) (omega arith)
+  take-remove (suc i) zero (x ∷ l) h g = absurd (omega arith)
+  take-remove (suc i) (suc n) (x ∷ l) h g = ap (λ (xs : List A). x ∷ xs) (take-remove i n l (omega arith) (omega arith))
+
+-- ---- the first number at which f is least
+
+pick-le : (b : Bool) (m n : ℕ) → m ≤ n → cond b n m ≤ suc n
+pick-le true m n h = omega arith
+pick-le false m n h = omega arith
+
+pub first-least-le : (f : ℕ → ℕ) (n : ℕ) → firstLeast f n ≤ n
+unfolding firstLeast
+first-least-le f zero = omega arith
+first-least-le f (suc n) = pick-le (ltb (f n) (f (firstLeast f n))) (firstLeast f n) n (first-least-le f n)
+
+-- only the values below n matter
+pub first-least-same : (f g : ℕ → ℕ) (n : ℕ) → ((k : ℕ) → k < n → f k ≡ g k) → firstLeast f n ≡ firstLeast g n
+unfolding firstLeast
+first-least-same f g zero h = refl
+first-least-same f g (suc n) h =
+    rw (first-least-same f g n (λ k q. h k (omega arith)), h n (omega arith), h (firstLeast g n) (omega (arith, first-least-le g n)))
+
+-- ---- the numbers below n
+
+module _ (p : ℕ → Bool) where
+  pub below-all : (n : ℕ) → ((k : ℕ) → k < n → p k ≡ true) → all p (below n) ≡ true
+  unfolding all
+  below-all zero h = refl
+  below-all (suc n) h = rw (h n (omega arith), below-all n (λ k q. h k (omega arith)))
+
+  pub below-at : (n k : ℕ) → all p (below n) ≡ true → k < n → p k ≡ true
+  unfolding all
+  below-at zero k e h = absurd (let z : k < 0 = h in omega arith)
+  below-at (suc n) k e h =
+      by-test (eqb k n) (λ q. rw (eqb-true k n q) (both-first (p n) (all p (below n)) e))
+      (λ q. below-at n k (both-second (p n) (all p (below n)) e) (below-less k n h (eqb-false k n q)))
+    where
+      below-less : (a b : ℕ) → a < suc b → (a ≡ b → ⊥) → a < b
+      below-less a b l f = ⊎-elim (λ (x : a ≡ b). absurd (f x)) (λ (x : a < b). x) (eq-or-lt-of-le (omega arith))
+
+  pub below-no : (n k : ℕ) → k < n → p k ≡ false → false ≡ all p (below n)
+  below-no n k h e = by-test (all p (below n)) (λ t. absurd (false≢true (sym e ∙ below-at n k t h))) sym
+
+-- ---- counts
+
+module _ {A : Type 0} (p : A → Bool) where
+  pub count-cons : (x : A) (l : List A) → count p (x ∷ l) ≡ cond (p x) 1 0 + count p l
+  unfolding count sum
+  count-cons x l = refl
+
+  pub count-none : count p [] ≡ 0
+  unfolding count sum
+  count-none = refl
+
+-- ---- a bound moved to the other side
+
+pub leb-less : (d s c : ℕ) → leb (d - s) c ≡ leb d (c + s)
+leb-less d s c =
+    by-test (leb d (c + s)) (λ e. le-leb (d - s) c (omega (arith, leb-true d (c + s) e)) ∙ sym e)
+    (λ e. lt-leb (d - s) c (omega (arith, leb-false d (c + s) e)) ∙ sym e)
+
+-- ---- the first element that passes a test
+
+module _ {A : Type 0} (p : A → Bool) (d : A) where
+  pub find-le : (l : List A) → find p l ≤ length l
+  unfolding find
+  find-le [] = omega arith
+  find-le (x ∷ l) = by-test (p x) (λ e. rw e (omega arith)) (λ e. rw e (omega (arith, find-le l)))
+
+  -- it passes, if there is one
+  pub find-passes : (l : List A) → find p l < length l → p (getD l (find p l) d) ≡ true
+  unfolding find
+  find-passes [] h = absurd (let z : 0 < 0 = h in omega arith)
+  find-passes (x ∷ l) h = by-test (p x) (λ e. rw e e) (λ e. rw e (find-passes l (less e)))
+    where
+      less : p x ≡ false → find p l < length l
+      less e = let z : suc (find p l) < suc (length l) = rw e at h in omega arith
+
+  -- none before it does
+  pub find-before : (l : List A) (j : ℕ) → j < find p l → p (getD l j d) ≡ false
+  unfolding find
+  find-before [] j h = absurd (let z : j < 0 = h in omega arith)
+  find-before (x ∷ l) zero h = by-test (p x) (λ e. absurd (let z : 0 < 0 = rw e at h in omega arith)) (λ e. e)
+  find-before (x ∷ l) (suc j) h =
+      by-test (p x) (λ e. absurd (let z : suc j < 0 = rw e at h in omega arith)) (λ e. find-before l j (let z : suc j < suc (find p l) = rw e at h in omega arith))
+
+  -- there is one, if one passes
+  pub find-within : (l : List A) (j : ℕ) → j < length l → p (getD l j d) ≡ true → find p l < length l
+  unfolding find
+  find-within [] j h e = absurd (let z : j < 0 = h in omega arith)
+  find-within (x ∷ l) zero h e = rw e (omega arith)
+  find-within (x ∷ l) (suc j) h e = by-test (p x) (λ q. rw q (omega arith)) (λ q. rw q (omega (arith, find-within l j (omega arith) e)))
+
+-- ---- the first number at which f is least: it is below n, no other is less, and those before it are greater
+
+module _ (f : ℕ → ℕ) where
+  pub first-least-lt : (n : ℕ) → 0 < n → firstLeast f n < n
+  unfolding firstLeast
+  first-least-lt zero h = absurd (let z : 0 < 0 = h in omega arith)
+  first-least-lt (suc zero) h = by-test (ltb (f 0) (f 0)) (λ e. rw e (omega arith)) (λ e. rw e (omega arith))
+  first-least-lt (suc (suc n)) h =
+      by-test (ltb (f (suc n)) (f (firstLeast f (suc n)))) (λ e. rw e (omega arith)) (λ e. rw e (omega (arith, first-least-lt (suc n) (omega arith))))
+
+  pub first-least-least : (n k : ℕ) → k < n → f (firstLeast f n) ≤ f k
+  unfolding firstLeast
+  first-least-least zero k h = absurd (let z : k < 0 = h in omega arith)
+  first-least-least (suc n) k h =
+      by-test (ltb (f n) (f (firstLeast f n)))
+      (λ e. rw e (upto k h (λ x. omega (arith, ltb-true (f n) (f (firstLeast f n)) e, first-least-least n k x)) (omega arith)))
+      (λ e. rw e (upto k h (λ x. first-least-least n k x) (ltb-false (f n) (f (firstLeast f n)) e)))
+    where
+      upto : {v : ℕ} (k : ℕ) → k < suc n → (k < n → v ≤ f k) → v ≤ f n → v ≤ f k
+      upto {v} k h g q = ⊎-elim (λ (x : k ≡ n). rw x q) (λ (x : k < n). g x) (eq-or-lt-of-le (omega arith))
+
+  pub first-least-first : (n k : ℕ) → k < firstLeast f n → f (firstLeast f n) < f k
+  unfolding firstLeast
+  first-least-first zero k h = absurd (let z : k < 0 = h in omega arith)
+  first-least-first (suc n) k h =
+      by-test (ltb (f n) (f (firstLeast f n)))
+      (λ e. rw e (omega (arith, ltb-true (f n) (f (firstLeast f n)) e, first-least-least n k (let z : k < n = rw e at h in z))))
+      (λ e. rw e (first-least-first n k (let z : k < firstLeast f n = rw e at h in z)))

@@ -1,5 +1,11 @@
-pub mod Verdicts
+-- Theorems about the definitions. Assumes nothing.
+pub mod Examples
+pub mod Valid
 pub mod Finite
+pub mod Cycles
+pub mod Judge
+pub mod Verdicts
 pub mod Yard
 pub mod Runs
 pub mod Refusals
+pub mod Ways

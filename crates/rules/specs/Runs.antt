@@ -18,6 +18,7 @@ use Rattle.rules.specs.declared.Verdict.the-variants.{Accept}
 use Rattle.rules.specs.Streams.{Placed, streamAt, limit}
 use Rattle.rules.specs.Steps.{startOf, postOf, placeOf, messageAt, unitOf}
 use Rattle.rules.specs.Load.{VerdictOf}
+use Rattle.rules.specs.Numbers.{Says, postSays, unitSays}
 
 -- a call: a post to a stream, or a unit, with done or without
 pub data Call : Type 0 where
@@ -84,6 +85,11 @@ unfoldable pub stepOf : Run → Call → Run
 stepOf r (posts k) = afterPost r k (postOf (r .state) k .state) (postOf (r .state) k .answer)
 stepOf r (units done) = afterUnit r (unitOf (r .state) done .state) (unitOf (r .state) done .answer)
 
+-- what the cab says to a call
+abbrev pub saysTo : State → Call → Says
+saysTo s (posts k) = postSays (postOf s k .answer)
+saysTo s (units done) = unitSays (unitOf s done .answer)
+
 -- a fresh start, and a list of calls made one after the other, the first first
 unfoldable pub begin : Set → Run
 begin x = record { state = startOf x .state; names = []; accepted = []; departures = [] }
@@ -94,6 +100,14 @@ runFrom r (c ∷ cs) = runFrom (stepOf r c) cs
 
 unfoldable pub runOf : Set → List Call → Run
 runOf x calls = runFrom (begin x) calls
+
+-- the answers to the calls, in order
+unfoldable pub answersFrom : Run → List Call → List Says
+answersFrom r [] = []
+answersFrom r (c ∷ cs) = saysTo (r .state) c ∷ answersFrom (stepOf r c) cs
+
+unfoldable pub answersOf : Set → List Call → List Says
+answersOf x calls = answersFrom (begin x) calls
 
 -- ---- "A run keeps the limit if, for every x and I of 0 or more, the accepted posts at clocks x to x + I, both ends counted, are at most E(I)."
 

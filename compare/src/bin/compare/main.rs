@@ -1,0 +1,67 @@
+//! Compares the first program with the second one on random cases made from a seed.
+
+#![forbid(unsafe_code)]
+
+mod batch_mode;
+mod cases;
+mod console_mode;
+mod ontime_mode;
+mod plays;
+mod programs;
+mod random;
+mod scripts;
+mod sets;
+mod sheets;
+mod trace_mode;
+mod traces;
+
+use std::io;
+use std::path::Path;
+use std::process::ExitCode;
+
+use programs::Program;
+
+const USAGE: &str = "\
+compare trace BIN CASES SEED    the trace program BIN against the library
+compare console BIN LINES SEED  the console program BIN against the library
+compare batch CASES SEED DIR    writes DIR/cases.bin and DIR/expected.txt
+compare ontime CASES SEED       that accepted sets run on time";
+
+/// Exit status 0 if nothing differs, 1 if something does, 2 if it could not be compared.
+fn main() -> ExitCode {
+    let arguments: Vec<String> = std::env::args().skip(1).collect();
+    let arguments: Vec<&str> = arguments.iter().map(String::as_str).collect();
+    match run(&arguments) {
+        Some(Ok(true)) => ExitCode::SUCCESS,
+        Some(Ok(false)) => ExitCode::from(1),
+        Some(Err(error)) => {
+            eprintln!("compare: {error}");
+            ExitCode::from(2)
+        }
+        None => {
+            eprintln!("{USAGE}");
+            ExitCode::from(2)
+        }
+    }
+}
+
+/// Does what the arguments say; none if they say nothing that can be done.
+fn run(arguments: &[&str]) -> Option<io::Result<bool>> {
+    let number = |word: &str| word.parse::<u64>().ok();
+    match arguments {
+        ["trace", program, cases, seed] => {
+            let (cases, seed) = (number(cases)?, number(seed)?);
+            Some(Program::at(program).and_then(|p| trace_mode::compare(&p, cases, seed)))
+        }
+        ["console", program, lines, seed] => {
+            let (lines, seed) = (number(lines)?, number(seed)?);
+            Some(Program::at(program).and_then(|p| console_mode::compare(&p, lines, seed)))
+        }
+        ["batch", cases, seed, folder] => {
+            let (cases, seed) = (number(cases)?, number(seed)?);
+            Some(batch_mode::write(cases, seed, Path::new(folder)).map(|()| true))
+        }
+        ["ontime", cases, seed] => Some(ontime_mode::check(number(cases)?, number(seed)?)),
+        _ => None,
+    }
+}

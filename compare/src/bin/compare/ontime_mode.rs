@@ -1,0 +1,118 @@
+//! `compare ontime CASES SEED`: no run of an accepted set that keeps every event limit misses a
+//! deadline. Here only the library runs.
+
+use std::io;
+
+use second::load::{self, Verdict};
+use second::set::Set;
+
+use crate::plays::{Plan, Play};
+use crate::programs;
+use crate::random::Random;
+use crate::sets;
+use crate::sheets;
+
+const RUNS_OF_ACCEPTED_SET: u32 = 12;
+const RUNS_OF_LATE_SET: u32 = 24;
+/// A run is followed up to this clock.
+const LAST_CLOCK: u32 = 400;
+
+#[derive(Default)]
+struct Counts {
+    accepted_sets: u64,
+    runs: u64,
+    posts: u64,
+    units: u64,
+    late_sets: u64,
+    late_sets_that_miss: u64,
+}
+
+/// Tries; whether no accepted set missed. A case is a random set whose costs were raised as far as
+/// it is accepted, and, where there was one, the last of the late sets met on the way.
+pub fn check(cases: u64, seed: u64) -> io::Result<bool> {
+    let mut counts = Counts::default();
+    for number in 0..cases {
+        let mut random = Random::for_case(seed, number);
+        let tight = loop {
+            let set = sets::to_run_on_time(&mut random);
+            if let Some(tight) = sets::tight(&mut random, set) {
+                break tight;
+            }
+        };
+        if let Some(trace) = accepted_set_that_misses(&mut random, &tight.accepted, &mut counts) {
+            report(seed, number, &tight.accepted, &trace)?;
+            print(number + 1, &counts, 1);
+            return Ok(false);
+        }
+        if let Some(late) = tight.late {
+            counts.late_sets += 1;
+            counts.late_sets_that_miss += u64::from(late_set_misses(&mut random, &late));
+        }
+    }
+    print(cases, &counts, 0);
+    Ok(true)
+}
+
+/// Runs an accepted set in many ways. The trace of a run that misses, which there must not be.
+fn accepted_set_that_misses(random: &mut Random, set: &Set, counts: &mut Counts) -> Option<String> {
+    counts.accepted_sets += 1;
+    for run in 0..RUNS_OF_ACCEPTED_SET {
+        let plan = match run {
+            0 => Plan::early(),
+            _ => Plan::any(random, set),
+        };
+        let mut play = Play::new(set);
+        play.follow(random, &plan, LAST_CLOCK);
+        counts.runs += 1;
+        counts.posts += play.post_count;
+        counts.units += play.unit_count;
+        if play.missed {
+            return Some(play.trace);
+        }
+    }
+    None
+}
+
+/// Looks for a run of a late set that misses. There need not be one: "Late is about what could
+/// happen, so a set judged late may still run on time."
+fn late_set_misses(random: &mut Random, set: &Set) -> bool {
+    let Verdict::Late { length, .. } = load::verdict(set) else {
+        return false;
+    };
+    (0..RUNS_OF_LATE_SET).any(|run| {
+        let plan = match run {
+            0 => Plan::critical(set, length),
+            1 => Plan::early(),
+            _ => Plan::any(random, set),
+        };
+        let mut play = Play::new(set);
+        play.follow(random, &plan, LAST_CLOCK);
+        play.missed
+    })
+}
+
+fn report(seed: u64, number: u64, set: &Set, trace: &str) -> io::Result<()> {
+    let folder = programs::write_out(
+        &format!("ontime-seed-{seed}-case-{number}"),
+        &[
+            ("set.bin", &sheets::of_set(set)),
+            ("trace", trace.as_bytes()),
+        ],
+    )?;
+    println!(
+        "the accepted set of case {number} of seed {seed} misses a deadline, written to {}",
+        folder.display()
+    );
+    Ok(())
+}
+
+fn print(cases: u64, counts: &Counts, missed: u64) {
+    println!(
+        "{cases} cases, {} accepted sets, {} runs, {} posts, {} units, {missed} missed",
+        counts.accepted_sets, counts.runs, counts.posts, counts.units
+    );
+    println!(
+        "{} late sets, {} with a run that misses",
+        counts.late_sets, counts.late_sets_that_miss
+    );
+}

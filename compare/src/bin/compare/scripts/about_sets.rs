@@ -1,0 +1,290 @@
+//! Scenes about the console's set.
+
+use second::set::{
+    Set, Stream, Tuple, GREATEST_COST, GREATEST_CYCLE, GREATEST_DEADLINE, GREATEST_OFFSET,
+    GREATEST_TASK, STREAM_PLACES, TUPLE_PLACES,
+};
+
+use super::{around, near_limit, read_line, Script};
+use crate::sets;
+use crate::sheets;
+
+impl Script<'_> {
+    /// Puts a set in rule into the console's set, field by field.
+    fn put_set(&mut self, set: &Set) {
+        // Seldom what was in the unused places stays there.
+        if !self.random.one_in(20) {
+            self.say("read 1000");
+        }
+        let mut puts = vec![format!("streams {}", set.count)];
+        for (place, stream) in set.used_streams().iter().enumerate() {
+            puts.push(stream_line(place, stream));
+            for (tuple_place, tuple) in stream.used_tuples().iter().enumerate() {
+                puts.push(tuple_line(place, tuple_place, *tuple));
+            }
+        }
+        self.random.shuffle(&mut puts);
+        for put in puts {
+            self.say(put);
+        }
+    }
+
+    pub(super) fn set_put_together(&mut self) {
+        let set = sets::any(self.random);
+        self.put_set(&set);
+        self.questions_about_set();
+        if self.random.one_in(2) {
+            self.say("start");
+            self.say("state");
+        }
+    }
+
+    /// A set in rule in which one number is then put at, just below or just above its limit.
+    pub(super) fn set_with_one_fault(&mut self) {
+        let set = if self.random.one_in(2) {
+            sets::small(self.random)
+        } else {
+            sets::any(self.random)
+        };
+        self.put_set(&set);
+        if self.random.one_in(4) {
+            self.say("start");
+        }
+        for _ in 0..self.random.between(1, 4) {
+            let before = *self.set();
+            let fault = self.set_fault();
+            self.say(fault);
+            self.say("valid");
+            self.questions_about_set();
+            if self.random.one_in(4) {
+                self.say("start");
+                self.say("formed");
+            }
+            self.put_back(&before);
+        }
+    }
+
+    /// A line that puts one number of the set at, just below or just above its limit.
+    fn set_fault(&mut self) -> String {
+        let set = *self.set();
+        let count = (set.count as usize).min(STREAM_PLACES);
+        // The places of the set, and the first that is not.
+        let place = self.random.index((count + 1).min(STREAM_PLACES));
+        let mut stream = set.streams[place];
+        let tuples = (stream.tuple_count as usize).min(TUPLE_PLACES);
+        match self.random.below(10) {
+            0 => {
+                let count = around(self.random, &[0, set.count, STREAM_PLACES as u32]);
+                format!("streams {count}")
+            }
+            1 => {
+                stream.task = around(self.random, &[0, GREATEST_TASK]);
+                stream_line(place, &stream)
+            }
+            2 => {
+                stream.cost = around(self.random, &[0, 1, GREATEST_COST]);
+                stream_line(place, &stream)
+            }
+            3 => {
+                stream.deadline = around(self.random, &[0, 1, GREATEST_DEADLINE]);
+                stream_line(place, &stream)
+            }
+            4 => {
+                let limits = [0, stream.tuple_count, TUPLE_PLACES as u32];
+                stream.tuple_count = around(self.random, &limits);
+                stream_line(place, &stream)
+            }
+            5 => {
+                // The first unused tuple or a later one.
+                let tuple_place = self.random.index(TUPLE_PLACES).max(tuples.min(3));
+                let tuple = self.random.pick(&[
+                    Tuple::Once { offset: 0 },
+                    Tuple::Once { offset: 1 },
+                    Tuple::Every {
+                        cycle: 0,
+                        offset: 0,
+                    },
+                    Tuple::Every {
+                        cycle: 1,
+                        offset: 0,
+                    },
+                    Tuple::Every {
+                        cycle: 0,
+                        offset: 1,
+                    },
+                ]);
+                tuple_line(place, tuple_place, tuple)
+            }
+            6 => {
+                // A number in the last places, which few sets use.
+                let mut stream = set.streams[STREAM_PLACES - 1];
+                let field = self.random.pick(&[0, 1, 2, 3]);
+                let value = around(self.random, &[0, 1]);
+                match field {
+                    0 => stream.task = value,
+                    1 => stream.cost = value,
+                    2 => stream.deadline = value,
+                    _ => stream.tuple_count = value,
+                }
+                stream_line(STREAM_PLACES - 1, &stream)
+            }
+            7 => {
+                let tuple_place = self.random.index(tuples.max(1));
+                let cycle = around(self.random, &[0, 1, GREATEST_CYCLE]);
+                let offset = stream.tuples[tuple_place].offset();
+                tuple_line(place, tuple_place, Tuple::Every { cycle, offset })
+            }
+            _ => {
+                let tuple_place = match self.random.below(2) {
+                    0 => self.random.index(tuples.max(1)),
+                    _ => tuples.max(1) - 1,
+                };
+                let mut limits = vec![0, GREATEST_OFFSET, GREATEST_OFFSET];
+                limits.extend(stream.tuples[..tuples].iter().map(|tuple| tuple.offset()));
+                let offset = around(self.random, &limits);
+                let tuple = match stream.tuples[tuple_place].cycle() {
+                    Some(cycle) => Tuple::Every { cycle, offset },
+                    None => Tuple::Once { offset },
+                };
+                tuple_line(place, tuple_place, tuple)
+            }
+        }
+    }
+
+    /// Puts the numbers back that differ from an earlier set.
+    fn put_back(&mut self, before: &Set) {
+        let now = *self.set();
+        if now.count != before.count {
+            self.say(format!("streams {}", before.count));
+        }
+        for place in 0..STREAM_PLACES {
+            let (now, before) = (&now.streams[place], &before.streams[place]);
+            if stream_line(place, now) != stream_line(place, before) {
+                self.say(stream_line(place, before));
+            }
+            for tuple_place in 0..TUPLE_PLACES {
+                if now.tuples[tuple_place] != before.tuples[tuple_place] {
+                    self.say(tuple_line(place, tuple_place, before.tuples[tuple_place]));
+                }
+            }
+        }
+    }
+
+    pub(super) fn sheet_read(&mut self) {
+        for _ in 0..self.random.between(1, 6) {
+            let set = sets::any(self.random);
+            let sheet = if self.random.one_in(3) {
+                sheets::of_set(&set)
+            } else {
+                sheets::damaged(self.random, &set)
+            };
+            self.say(read_line(&sheet));
+            match self.random.below(4) {
+                0 => self.say("valid"),
+                1 => self.say("verdict"),
+                2 => self.say(format!("write {}", sheet.len().min(1_024))),
+                _ => self.questions_about_set(),
+            }
+        }
+        if self.random.one_in(3) {
+            self.say("start");
+        }
+    }
+
+    /// Some of the questions that do not change the set.
+    pub(super) fn questions_about_set(&mut self) {
+        for _ in 0..self.random.between(1, 6) {
+            match self.random.below(9) {
+                0 => self.say("valid"),
+                1..=3 => self.say("verdict"),
+                4..=5 => {
+                    let length = self.length();
+                    self.say(format!("demand {length}"));
+                }
+                6..=7 => {
+                    let count = self.set().count.min(STREAM_PLACES as u32);
+                    let stream = match self.random.below(8) {
+                        0 => count,
+                        1 => near_limit(self.random),
+                        _ => self.random.between(0, count.saturating_sub(1)),
+                    };
+                    let length = self.length();
+                    self.say(format!("limit {stream} {length}"));
+                }
+                _ => {
+                    let sheet = self.sheet_length();
+                    let length = match self.random.below(8) {
+                        0 => 0,
+                        1 => 1_024,
+                        2 => 1_025,
+                        3 => self.random.between(0, 400),
+                        4 => sheet.saturating_sub(1),
+                        5 => sheet + 1,
+                        _ => sheet,
+                    };
+                    self.say(format!("write {length}"));
+                }
+            }
+        }
+    }
+
+    fn sheet_length(&self) -> u32 {
+        if self.set().valid() {
+            sheets::of_set(self.set()).len() as u32
+        } else {
+            2
+        }
+    }
+
+    /// A length to ask about: next to where some stream's limit or the demand rises, or any.
+    fn length(&mut self) -> u32 {
+        let set = *self.set();
+        if self.random.one_in(4) {
+            return near_limit(self.random);
+        }
+        let stream = set.streams[self
+            .random
+            .index((set.count as usize).clamp(1, STREAM_PLACES))];
+        let tuple = stream.tuples[self.random.index(TUPLE_PLACES)];
+        let cycles = self.random.between(0, 5);
+        let deadline = self.random.pick(&[0, stream.deadline]);
+        let rise = u64::from(tuple.offset())
+            + u64::from(deadline)
+            + u64::from(cycles) * u64::from(tuple.cycle().unwrap_or(0));
+        let length = (rise + 1).saturating_sub(self.random.below(3));
+        u32::try_from(length).unwrap_or(u32::MAX)
+    }
+
+    pub(super) fn jittered_cycles(&mut self) {
+        for _ in 0..self.random.between(1, 6) {
+            let cycle = match self.random.below(3) {
+                0 => self.random.between(0, GREATEST_CYCLE + 1),
+                1 => around(
+                    self.random,
+                    &[0, 1, GREATEST_OFFSET, 2 * GREATEST_OFFSET, GREATEST_CYCLE],
+                ),
+                _ => near_limit(self.random),
+            };
+            let limits = [0, cycle, cycle.saturating_sub(GREATEST_OFFSET)];
+            let jitter = match self.random.below(4) {
+                0 => self.random.between(0, cycle),
+                _ => around(self.random, &limits),
+            };
+            self.say(format!("jitter {cycle} {jitter}"));
+        }
+    }
+}
+
+fn stream_line(place: usize, stream: &Stream) -> String {
+    format!(
+        "stream {place} {} {} {} {}",
+        stream.task, stream.cost, stream.deadline, stream.tuple_count
+    )
+}
+
+fn tuple_line(place: usize, tuple_place: usize, tuple: Tuple) -> String {
+    match tuple {
+        Tuple::Once { offset } => format!("once {place} {tuple_place} {offset}"),
+        Tuple::Every { cycle, offset } => format!("every {place} {tuple_place} {cycle} {offset}"),
+    }
+}

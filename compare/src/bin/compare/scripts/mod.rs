@@ -1,0 +1,193 @@
+//! Random console scripts.
+//!
+//! A script is made line by line while the library's console takes the same lines, so that a
+//! scene knows the set and the state it has in hand. Scenes never look at what the first program
+//! answers.
+
+mod about_sets;
+mod about_states;
+mod odd_lines;
+
+use second::console::Console;
+use second::set::{Set, GREATEST_COST, GREATEST_CYCLE, GREATEST_DEADLINE, GREATEST_OFFSET};
+use second::state::{State, LAST_CLOCK};
+
+use crate::random::Random;
+use crate::sets;
+
+/// A line of a script, without its newline, and all that it prints.
+pub struct Line {
+    pub text: Vec<u8>,
+    pub answer: String,
+}
+
+/// A script of at least so many lines.
+pub fn make(random: &mut Random, at_least: usize) -> Vec<Line> {
+    let mut script = Script {
+        random,
+        console: Console::default(),
+        lines: Vec::new(),
+    };
+    while script.lines.len() < at_least {
+        script.scene();
+    }
+    script.lines
+}
+
+struct Script<'a> {
+    random: &'a mut Random,
+    console: Console,
+    lines: Vec<Line>,
+}
+
+impl Script<'_> {
+    /// Adds a line. A `verdict` that would take long is mostly left out.
+    fn say(&mut self, text: impl AsRef<[u8]>) {
+        let text = text.as_ref().to_vec();
+        if text == b"verdict" && !sets::worth_judging(self.random, &self.console.set) {
+            return;
+        }
+        let answer = self.console.line(&text);
+        self.lines.push(Line { text, answer });
+    }
+
+    fn set(&self) -> &Set {
+        &self.console.set
+    }
+
+    fn state(&self) -> &State {
+        &self.console.state
+    }
+
+    /// Several lines about one thing.
+    fn scene(&mut self) {
+        match self.random.below(40) {
+            0..=2 => self.set_put_together(),
+            3..=9 => self.set_with_one_fault(),
+            10..=13 => self.sheet_read(),
+            14..=16 => self.jittered_cycles(),
+            17..=18 => self.steps(),
+            19 => self.full_table(),
+            20 => self.last_clock(),
+            21..=22 => self.state_put_together(),
+            23..=26 => self.state_with_one_fault(),
+            27 => self.long_run(),
+            28..=36 => self.lines_that_are_no_commands(),
+            37 => self.questions_about_set(),
+            _ => self.any_commands(),
+        }
+    }
+}
+
+/// The numbers of document 01 and of the console, and those next to them.
+fn near_limit(random: &mut Random) -> u32 {
+    let limit: u32 = random.pick(&[
+        0,
+        1,
+        4,
+        15,
+        16,
+        63,
+        64,
+        378,
+        1_024,
+        GREATEST_COST,
+        GREATEST_OFFSET,
+        GREATEST_DEADLINE,
+        GREATEST_CYCLE,
+        LAST_CLOCK,
+        LAST_CLOCK + GREATEST_DEADLINE,
+        u32::MAX,
+    ]);
+    match random.below(8) {
+        0 => limit.saturating_sub(1),
+        1 => limit.saturating_add(1),
+        2 => random.between(0, 20),
+        3 => random.number(),
+        _ => limit,
+    }
+}
+
+/// One of the limits, or the number just below or just above it.
+fn around(random: &mut Random, limits: &[u32]) -> u32 {
+    let limit = random.pick(limits);
+    match random.below(8) {
+        0..=2 => limit.saturating_sub(1),
+        3..=4 => limit,
+        5..=6 => limit.saturating_add(1),
+        _ => near_limit(random),
+    }
+}
+
+fn read_line(bytes: &[u8]) -> String {
+    let mut line = "read".to_string();
+    for (place, byte) in bytes.iter().enumerate() {
+        if place == 0 {
+            line.push(' ');
+        }
+        line += &format!("{byte:02x}");
+    }
+    line
+}
+
+#[cfg(test)]
+mod tests {
+    use super::*;
+
+    #[test]
+    fn every_answer_comes_up() {
+        let mut random = Random::new(1);
+        let mut answers = String::from("\n");
+        for _ in 0..60 {
+            for line in make(&mut random, 500) {
+                answers += &line.answer;
+            }
+        }
+        for answer in [
+            "\nset ",
+            "\nwrote ",
+            "\nput\n",
+            "\nvalid\n",
+            "\ninvalid\n",
+            "\nrefused 7 0\n",
+            "\nonce 0 every ",
+            "\naccept\n",
+            "\nlate ",
+            "\noverload\n",
+            "\nrefused 5\n",
+            "\nrefused 6\n",
+            "\nrefused 7\n",
+            "\nrefused 8\n",
+            "\nrefused 10\n",
+            "\nrefused 11\n",
+            "\nrefused 12\n",
+            "\nstarted\n",
+            " posted ",
+            " ran ",
+            " done ",
+            " cut ",
+            " idle\n",
+            " refused 1\n",
+            " refused 2\n",
+            " refused 3\n",
+            " refused 4\n",
+            " refused 12\n",
+            "\nnone\n",
+            "\ntask ",
+            "\nwell formed\n",
+            "\nmessage 63 ",
+            "\n?\n",
+        ] {
+            let count = answers.matches(answer).count();
+            assert!(count >= 10, "{answer:?} came up {count} times");
+        }
+    }
+
+    #[test]
+    fn no_line_has_a_newline_in_it() {
+        let mut random = Random::new(2);
+        for line in make(&mut random, 20_000) {
+            assert!(!line.text.contains(&b'\n'));
+        }
+    }
+}

@@ -1,0 +1,269 @@
+//! Scenes of lines with any numbers, and of lines that are no commands.
+
+use second::console::LONGEST_LINE;
+use second::set::{STREAM_PLACES, TUPLE_PLACES};
+use second::state::MESSAGE_PLACES;
+
+use super::{around, near_limit, read_line, Script};
+use crate::sets;
+use crate::sheets;
+
+/// Lines that look a little like commands.
+const ODD_LINES: &[&[u8]] = &[
+    b"",
+    b" ",
+    b"  ",
+    b"?",
+    b"\r",
+    b"\t",
+    b"\0",
+    b"\xff\xfe",
+    b"help",
+    b"exit",
+    b"quit",
+    b"READ",
+    b"Unit",
+    b"units",
+    b"unitdone",
+    b"set",
+    b"put",
+    b"p0",
+    b"u",
+    b"d",
+    b"read ",
+    b"valid ",
+    b" valid",
+    b"read  10",
+    b"read 10 00",
+    b"unit 1",
+    b"state 0",
+    b"start 1",
+    b"write",
+    b"write ",
+    b"limit",
+    b"limit 0",
+    b"limit 0 0 0",
+    b"demand",
+    b"jitter 1",
+    b"once 0 0",
+    b"every 0 0 1",
+    b"stream 0 0 1 1",
+    b"message 0 0 1",
+    b"clock",
+    b"pending",
+    b"post",
+    b"choose 0",
+    b"formed 0",
+    b"verdict 0",
+    b"#",
+    b"// unit",
+];
+
+impl Script<'_> {
+    /// A line of any command with numbers that may be anything.
+    fn any_command(&mut self) -> String {
+        let (name, numbers) = self.random.pick(&[
+            ("read", 0),
+            ("write", 1),
+            ("streams", 1),
+            ("stream", 5),
+            ("once", 3),
+            ("every", 4),
+            ("valid", 0),
+            ("limit", 2),
+            ("demand", 1),
+            ("jitter", 2),
+            ("verdict", 0),
+            ("start", 0),
+            ("clock", 1),
+            ("pending", 1),
+            ("message", 4),
+            ("post", 1),
+            ("unit", 0),
+            ("done", 0),
+            ("choose", 0),
+            ("state", 0),
+            ("formed", 0),
+        ]);
+        let mut line = name.to_string();
+        for place in 0..numbers {
+            // The first is often an index.
+            let number = if place == 0 && self.random.one_in(2) {
+                self.random.between(0, 16)
+            } else {
+                near_limit(self.random)
+            };
+            line += &format!(" {number}");
+        }
+        line
+    }
+
+    pub(super) fn any_commands(&mut self) {
+        for _ in 0..self.random.between(1, 20) {
+            let line = self.any_command();
+            self.say(line);
+        }
+        // What they put would make every set and state after them invalid.
+        self.say("read 1000");
+        self.say("start");
+    }
+
+    pub(super) fn lines_that_are_no_commands(&mut self) {
+        for _ in 0..self.random.between(1, 8) {
+            let line = match self.random.below(8) {
+                0 => self.odd_line(),
+                1 => self.long_line(),
+                2 => self.line_with_odd_number(),
+                3 => self.line_with_odd_hex(),
+                4 => self.index_out_of_place().into_bytes(),
+                _ => self.spoiled_command(),
+            };
+            self.say(line);
+            if self.random.one_in(4) {
+                self.say("state");
+                self.say("valid");
+                self.say("write 20");
+            }
+        }
+    }
+
+    fn odd_line(&mut self) -> Vec<u8> {
+        self.random.pick(ODD_LINES).to_vec()
+    }
+
+    /// A line about as long as the longest, or much longer.
+    fn long_line(&mut self) -> Vec<u8> {
+        let length = self.random.pick(&[
+            LONGEST_LINE - 2,
+            LONGEST_LINE - 1,
+            LONGEST_LINE,
+            LONGEST_LINE + 1,
+            LONGEST_LINE + 2,
+            2 * LONGEST_LINE,
+            20_000,
+        ]);
+        let start = self
+            .random
+            .pick(&["read 1000", "read 20", "read ", "unit ", "unit", ""]);
+        let fill = self.random.pick(b"00000 \r1a");
+        let mut line = start.as_bytes().to_vec();
+        line.resize(length, fill);
+        line
+    }
+
+    /// A command with one number written in another way.
+    fn line_with_odd_number(&mut self) -> Vec<u8> {
+        let number = self.random.pick(&[
+            "0",
+            "00",
+            "0000000000",
+            "0000000001",
+            "00000000000",
+            "00000000001",
+            "4294967295",
+            "4294967296",
+            "04294967295",
+            "9999999999",
+            "18446744073709551616",
+            "4294967299",
+            "42949672950",
+            "+1",
+            "-1",
+            "1.0",
+            "0x1",
+            "1e0",
+            "a",
+            "1a",
+            "",
+            "1_000",
+            "1,000",
+            "\u{0661}",
+        ]);
+        let line = self.random.pick(&[
+            "write N",
+            "streams N",
+            "demand N",
+            "clock N",
+            "pending N",
+            "post N",
+            "limit N 5",
+            "limit 0 N",
+            "jitter N 0",
+            "jitter 5 N",
+            "stream N 0 1 1 1",
+            "stream 0 N 1 1 1",
+            "stream 0 0 1 1 N",
+            "once N 0 0",
+            "once 0 N 0",
+            "every 0 0 N 0",
+            "message N 0 0 0",
+            "message 0 0 0 N",
+        ]);
+        line.replace('N', number).into_bytes()
+    }
+
+    fn line_with_odd_hex(&mut self) -> Vec<u8> {
+        let set = sets::small(self.random);
+        let mut line = read_line(&sheets::of_set(&set)).into_bytes();
+        let digits = line.len() - 5;
+        let place = 5 + self.random.index(digits);
+        match self.random.below(5) {
+            0 => line.make_ascii_uppercase(),
+            1 => line[5..].make_ascii_uppercase(),
+            2 => line.truncate(place),
+            3 => line[place] = self.random.pick(b"ABCDEFGgx /:@`\r\t-"),
+            _ => line.insert(place, self.random.pick(b"0f ")),
+        }
+        line
+    }
+
+    /// An index at, just below or just above its range.
+    fn index_out_of_place(&mut self) -> String {
+        match self.random.below(4) {
+            0 => {
+                let place = around(self.random, &[STREAM_PLACES as u32 - 1]);
+                format!("stream {place} 0 0 0 0")
+            }
+            1 => {
+                let place = around(self.random, &[STREAM_PLACES as u32 - 1]);
+                let tuple_place = around(self.random, &[0, TUPLE_PLACES as u32 - 1]);
+                format!("once {place} {tuple_place} 0")
+            }
+            2 => {
+                let place = around(self.random, &[0, STREAM_PLACES as u32 - 1]);
+                let tuple_place = around(self.random, &[TUPLE_PLACES as u32 - 1]);
+                format!("every {place} {tuple_place} 0 0")
+            }
+            _ => {
+                let place = around(self.random, &[MESSAGE_PLACES as u32 - 1]);
+                format!("message {place} 0 0 0")
+            }
+        }
+    }
+
+    /// A command in which one byte or one word is put, taken or changed.
+    fn spoiled_command(&mut self) -> Vec<u8> {
+        let mut line = self.any_command().into_bytes();
+        let place = self.random.index(line.len());
+        match self.random.below(8) {
+            0 => line.insert(place, b' '),
+            1 => line.push(b' '),
+            2 => line.push(b'\r'),
+            3 => line.insert(0, b' '),
+            4 => line.extend(b" 0"),
+            5 => {
+                if let Some(space) = line.iter().rposition(|&byte| byte == b' ') {
+                    line.truncate(space);
+                }
+            }
+            6 => {
+                let byte = self.random.byte();
+                line[place] = if byte == b'\n' { b'\t' } else { byte };
+            }
+            _ => {
+                line.remove(place);
+            }
+        }
+        line
+    }
+}

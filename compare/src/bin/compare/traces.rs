@@ -1,0 +1,232 @@
+//! Random traces for a set.
+
+use second::set::Set;
+
+use crate::random::Random;
+
+const HEX_DIGITS: &[u8; 16] = b"0123456789abcdef";
+
+/// How long the traces are.
+pub struct Lengths {
+    /// At least about so many steps, up to twice as many.
+    pub usual: u32,
+    /// The same of a long one.
+    pub long: u32,
+    /// One trace in so many is a long one.
+    pub long_one_in: u64,
+    /// One part of a trace in so many fills the table.
+    pub full_one_in: u64,
+}
+
+/// A trace: parts that each post, run or both, and now and then a byte that is not allowed.
+pub fn make(random: &mut Random, set: &Set, lengths: &Lengths) -> Vec<u8> {
+    let at_least = if random.one_in(lengths.long_one_in) {
+        lengths.long
+    } else {
+        lengths.usual
+    };
+    let wanted = random.index(2 * at_least as usize + 1);
+    let mut steps = Steps {
+        random,
+        set,
+        steps: Vec::new(),
+    };
+    while steps.steps.len() < wanted {
+        steps.part(lengths.full_one_in);
+    }
+    let steps = steps.steps;
+    let mut trace = spaced(random, &steps);
+    if random.one_in(4) {
+        damage(random, &mut trace);
+    }
+    trace
+}
+
+/// The steps of a trace while it is being made, each one or two bytes.
+struct Steps<'a> {
+    random: &'a mut Random,
+    set: &'a Set,
+    steps: Vec<Vec<u8>>,
+}
+
+impl Steps<'_> {
+    fn part(&mut self, full_one_in: u64) {
+        if self.random.one_in(full_one_in) {
+            return self.fill_table();
+        }
+        match self.random.below(12) {
+            0..=2 => self.burst(),
+            3..=4 => self.run(),
+            5..=7 => self.mixed(),
+            8..=10 => self.urgent_after_start(),
+            _ => self.run_until_idle(),
+        }
+    }
+
+    fn post(&mut self, stream: usize) {
+        self.steps.push(vec![b'p', HEX_DIGITS[stream]]);
+    }
+
+    /// A unit, with done once in so many times; never with 0.
+    fn unit(&mut self, done_one_in: u64) {
+        let done = done_one_in > 0 && self.random.one_in(done_one_in);
+        self.steps.push(vec![if done { b'd' } else { b'u' }]);
+    }
+
+    /// A stream of the set, seldom one that is not in it.
+    fn stream(&mut self) -> usize {
+        let count = self.set.count as usize;
+        if count == 0 || self.random.one_in(25) {
+            self.random.index(16)
+        } else {
+            self.random.index(count)
+        }
+    }
+
+    fn burst(&mut self) {
+        let same = self.random.one_in(3);
+        let mut stream = self.stream();
+        for _ in 0..self.random.between(1, 8) {
+            self.post(stream);
+            if !same {
+                stream = self.stream();
+            }
+        }
+    }
+
+    fn run(&mut self) {
+        let done_one_in = self.random.pick(&[0, 0, 3, 10]);
+        for _ in 0..self.random.between(1, 10) {
+            self.unit(done_one_in);
+        }
+    }
+
+    fn mixed(&mut self) {
+        for _ in 0..self.random.between(2, 24) {
+            if self.random.one_in(2) {
+                let stream = self.stream();
+                self.post(stream);
+            } else {
+                self.unit(6);
+            }
+        }
+    }
+
+    /// More posts than the table has places, with a few units between or after them.
+    fn fill_table(&mut self) {
+        let one_stream = self.stream();
+        let same = self.random.one_in(2);
+        for _ in 0..self.random.between(64, 76) {
+            let stream = if same { one_stream } else { self.stream() };
+            self.post(stream);
+            if self.random.one_in(12) {
+                self.unit(3);
+            }
+        }
+        self.run();
+    }
+
+    /// A message is started, and then a more urgent one comes, of the same task if there is one.
+    fn urgent_after_start(&mut self) {
+        let slow = self.stream();
+        let streams = &self.set.streams;
+        let more_urgent: Vec<usize> = (0..self.set.count as usize)
+            .filter(|&place| streams[place].deadline < streams[slow].deadline)
+            .collect();
+        self.post(slow);
+        self.unit(0);
+        for stream in more_urgent.into_iter().take(4) {
+            self.post(stream);
+            if self.random.one_in(3) {
+                self.unit(0);
+            }
+        }
+        self.run();
+    }
+
+    fn run_until_idle(&mut self) {
+        for _ in 0..self.random.between(10, 40) {
+            self.unit(5);
+        }
+    }
+}
+
+/// The steps one after the other, with spaces and newlines between them in one of several styles.
+fn spaced(random: &mut Random, steps: &[Vec<u8>]) -> Vec<u8> {
+    let style = random.below(4);
+    let mut trace = Vec::new();
+    for step in steps {
+        trace.extend(step);
+        match style {
+            0 | 1 => {}
+            2 => trace.push(b'\n'),
+            _ => {
+                for _ in 0..random.below(3) {
+                    trace.push(random.pick(b" \n"));
+                }
+            }
+        }
+    }
+    trace
+}
+
+/// What is not a step.
+const FAULTS: &[&[u8]] = &[
+    b"p", b"p ", b"p\n", b"p 1", b"p\n0", b"pA", b"pF", b"pg", b"pu", b"pp1", b"P0", b"U", b"D",
+    b"\t", b"\r", b"\r\n", b"\0", b"\xff", b"0", b"x", b"p\r", b"p\t0", b"p/", b"p:", b"p`", b"-",
+    b"#",
+];
+
+/// Puts something into the trace that is not a step, at its end or anywhere.
+fn damage(random: &mut Random, trace: &mut Vec<u8>) {
+    let fault = random.pick(FAULTS);
+    let place = if random.one_in(2) {
+        trace.len()
+    } else {
+        random.index(trace.len() + 1)
+    };
+    trace.splice(place..place, fault.iter().copied());
+    if random.one_in(10) {
+        let byte = random.byte();
+        let place = random.index(trace.len());
+        trace[place] = byte;
+    }
+}
+
+#[cfg(test)]
+mod tests {
+    use super::*;
+    use crate::sets;
+    use crate::sheets;
+
+    #[test]
+    fn every_answer_comes_up() {
+        let mut random = Random::new(1);
+        let lengths = Lengths {
+            usual: 100,
+            long: 400,
+            long_one_in: 10,
+            full_one_in: 20,
+        };
+        let mut output = String::new();
+        for _ in 0..500 {
+            let set = sets::small(&mut random);
+            let trace = make(&mut random, &set, &lengths);
+            output += &second::trace::run(&sheets::of_set(&set), &trace).output;
+        }
+        for answer in [
+            " posted ",
+            " ran ",
+            " done ",
+            " cut ",
+            " idle\n",
+            " refused 1\n",
+            " refused 2\n",
+            " refused 4\n",
+            "\nrefused 9\n",
+        ] {
+            assert!(output.matches(answer).count() > 50, "{answer}");
+        }
+        assert!(output.contains(" -"), "a negative laxity");
+    }
+}

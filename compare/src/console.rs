@@ -1,0 +1,278 @@
+//! The console: every public function from the keyboard, as its document describes it.
+
+use std::fmt::Write;
+
+use crate::load;
+use crate::refusal::Refusal;
+use crate::set::{self, Set, Tuple, STREAM_PLACES, TUPLE_PLACES};
+use crate::sheet;
+use crate::state::{Message, State, MESSAGE_PLACES};
+use crate::trace::{take, Step};
+
+/// "Lines are at most 4,096 bytes; a longer one prints `?`."
+pub const LONGEST_LINE: usize = 4_096;
+/// "a buffer of LEN bytes (at most 1024, else `?`)"
+pub const LONGEST_BUFFER: u32 = 1_024;
+/// "each 170 before"
+const BUFFER_BYTE: u8 = 170;
+
+/// "The console holds a set (at first the empty set) and a state (at first the start of the empty
+/// set)."
+#[derive(Clone, Debug, PartialEq, Eq)]
+pub struct Console {
+    /// The set.
+    pub set: Set,
+    /// The state.
+    pub state: State,
+}
+
+impl Default for Console {
+    fn default() -> Self {
+        Console {
+            set: Set::EMPTY,
+            state: State::EMPTY,
+        }
+    }
+}
+
+/// The lines of the input, without their newlines. "The last line may lack its newline."
+pub fn lines(input: &[u8]) -> impl Iterator<Item = &[u8]> {
+    input
+        .split_inclusive(|&byte| byte == b'\n')
+        .map(|line| line.strip_suffix(b"\n").unwrap_or(line))
+}
+
+impl Console {
+    /// Does what a line says and gives all it prints. The line comes without its newline.
+    ///
+    /// "A line that is not one of those below, or has a number or index that is out of the
+    /// place's range where one is named, prints `?` and changes nothing. An empty line prints
+    /// nothing. Lines are at most 4,096 bytes; a longer one prints `?`."
+    pub fn line(&mut self, line: &[u8]) -> String {
+        if line.is_empty() {
+            return String::new();
+        }
+        if line.len() > LONGEST_LINE {
+            return "?\n".to_string();
+        }
+        match self.command(line) {
+            Some(answer) => answer + "\n",
+            None => "?\n".to_string(),
+        }
+    }
+
+    /// "A line is words with one space between them." What a command prints, without the last
+    /// newline, or none if the line is not a command.
+    fn command(&mut self, line: &[u8]) -> Option<String> {
+        let words: Vec<&[u8]> = line.split(|&byte| byte == b' ').collect();
+        let (name, rest) = words.split_first()?;
+        if *name == b"read" {
+            return self.read(rest);
+        }
+        let numbers: Vec<u32> = rest
+            .iter()
+            .map(|word| number(word))
+            .collect::<Option<_>>()?;
+        match (*name, numbers.as_slice()) {
+            (b"write", &[length]) if length <= LONGEST_BUFFER => Some(self.write(length)),
+            (b"streams", &[count]) => {
+                self.set.count = count;
+                put()
+            }
+            (b"stream", &[place, task, cost, deadline, tuple_count]) => {
+                let stream = &mut self.set.streams[index(place, STREAM_PLACES)?];
+                stream.task = task;
+                stream.cost = cost;
+                stream.deadline = deadline;
+                stream.tuple_count = tuple_count;
+                put()
+            }
+            (b"once", &[place, tuple, offset]) => {
+                self.put_tuple(place, tuple, Tuple::Once { offset })
+            }
+            (b"every", &[place, tuple, cycle, offset]) => {
+                self.put_tuple(place, tuple, Tuple::Every { cycle, offset })
+            }
+            (b"valid", []) => Some(if self.set.valid() { "valid" } else { "invalid" }.to_string()),
+            (b"limit", &[stream, length]) => {
+                Some(match set::event_limit(&self.set, stream, length) {
+                    Ok(limit) => limit.to_string(),
+                    Err(refusal) => format!("{refusal} 0"),
+                })
+            }
+            (b"demand", &[length]) => Some(match load::demand(&self.set, length) {
+                Ok(demand) => demand.to_string(),
+                Err(refusal) => format!("{refusal} 0"),
+            }),
+            (b"jitter", &[cycle, jitter]) => Some(jitter_answer(cycle, jitter)),
+            (b"verdict", []) => Some(load::verdict(&self.set).to_string()),
+            (b"start", []) => {
+                let (state, result) = State::start(&self.set);
+                self.state = state;
+                Some(match result {
+                    Ok(()) => "started".to_string(),
+                    Err(refusal) => refusal.to_string(),
+                })
+            }
+            (b"clock", &[clock]) => {
+                self.state.clock = clock;
+                put()
+            }
+            (b"pending", &[pending]) => {
+                self.state.pending = pending;
+                put()
+            }
+            (b"message", &[place, stream, deadline, used]) => {
+                self.state.messages[index(place, MESSAGE_PLACES)?] = Message {
+                    stream,
+                    deadline,
+                    used,
+                };
+                put()
+            }
+            (b"post", &[stream]) => Some(take(&mut self.state, Step::Post(stream))),
+            (b"unit", []) => Some(take(&mut self.state, Step::Unit)),
+            (b"done", []) => Some(take(&mut self.state, Step::Done)),
+            (b"choose", []) => Some(self.choose()),
+            (b"state", []) => Some(self.show_state()),
+            (b"formed", []) => Some(self.formed()),
+            _ => None,
+        }
+    }
+
+    /// "`read HEX`: reads the bytes as a sheet. Prints `set N` with the number of streams, and the
+    /// set becomes the one read; or `refused N`, and the set becomes the empty set." "an empty HEX
+    /// leaves its space out as well (`read`)".
+    fn read(&mut self, words: &[&[u8]]) -> Option<String> {
+        let bytes = match words {
+            [] => Vec::new(),
+            [hex] => bytes_of_hex(hex)?,
+            _ => return None,
+        };
+        Some(match sheet::read(&bytes) {
+            Ok(set) => {
+                self.set = set;
+                format!("set {}", set.count)
+            }
+            Err(refusal) => {
+                self.set = Set::EMPTY;
+                refusal.to_string()
+            }
+        })
+    }
+
+    /// "`write LEN`: writes the set's sheet into a buffer of LEN bytes [...], each 170 before.
+    /// Prints `wrote N` with the bytes written, or `refused N`; then a line with the whole buffer
+    /// in hex (an empty line for LEN 0)."
+    fn write(&self, length: u32) -> String {
+        let mut buffer = vec![BUFFER_BYTE; length as usize];
+        let mut answer = match sheet::write(&self.set, &mut buffer) {
+            Ok(written) => format!("wrote {written}"),
+            Err(refusal) => refusal.to_string(),
+        };
+        answer.push('\n');
+        for byte in buffer {
+            write!(answer, "{byte:02x}").expect("a string takes all that is written to it");
+        }
+        answer
+    }
+
+    fn put_tuple(&mut self, place: u32, tuple_place: u32, tuple: Tuple) -> Option<String> {
+        let stream = &mut self.set.streams[index(place, STREAM_PLACES)?];
+        stream.tuples[index(tuple_place, TUPLE_PLACES)?] = tuple;
+        put()
+    }
+
+    /// "`choose`: prints `none`, `task T stream S`, or `refused 12`."
+    fn choose(&self) -> String {
+        match self.state.choose() {
+            Ok(None) => "none".to_string(),
+            Ok(Some(choice)) => format!("task {} stream {}", choice.task, choice.stream),
+            Err(refusal) => refusal.to_string(),
+        }
+    }
+
+    /// "`formed`: prints `well formed` or `refused 12`."
+    fn formed(&self) -> String {
+        if self.state.well_formed() {
+            "well formed".to_string()
+        } else {
+            Refusal::NotWellFormed.to_string()
+        }
+    }
+
+    /// "`state`: prints `clock N`, then `pending N`, then a line `message I STREAM DEADLINE USED`
+    /// for each of the 64 places that is not all zero, in order."
+    fn show_state(&self) -> String {
+        let mut answer = format!("clock {}\npending {}", self.state.clock, self.state.pending);
+        for (place, message) in self.state.messages.iter().enumerate() {
+            if *message != Message::UNUSED {
+                let Message {
+                    stream,
+                    deadline,
+                    used,
+                } = message;
+                write!(answer, "\nmessage {place} {stream} {deadline} {used}")
+                    .expect("a string takes all that is written to it");
+            }
+        }
+        answer
+    }
+}
+
+/// "Print `put`."
+fn put() -> Option<String> {
+    Some("put".to_string())
+}
+
+/// "`jitter Z J`: prints the tuples as `once 0 every Z A`, or `refused 7`."
+fn jitter_answer(cycle: u32, jitter: u32) -> String {
+    let words = |tuple: &Tuple| match tuple {
+        Tuple::Once { offset } => format!("once {offset}"),
+        Tuple::Every { cycle, offset } => format!("every {cycle} {offset}"),
+    };
+    match set::jittered_cycle(cycle, jitter) {
+        Ok(tuples) => tuples.iter().map(words).collect::<Vec<_>>().join(" "),
+        Err(refusal) => refusal.to_string(),
+    }
+}
+
+/// The index, if it is one of the given number of places.
+fn index(number: u32, places: usize) -> Option<usize> {
+    let index = number as usize;
+    (index < places).then_some(index)
+}
+
+/// "A number is 1 to 10 decimal digits, at most 4294967295."
+fn number(word: &[u8]) -> Option<u32> {
+    if word.is_empty() || word.len() > 10 {
+        return None;
+    }
+    let mut value: u64 = 0;
+    for byte in word {
+        if !byte.is_ascii_digit() {
+            return None;
+        }
+        value = value * 10 + u64::from(byte - b'0');
+    }
+    u32::try_from(value).ok()
+}
+
+/// "HEX is an even number of lower-case hex digits". A word has at least one byte, as "an empty
+/// HEX leaves its space out as well".
+fn bytes_of_hex(word: &[u8]) -> Option<Vec<u8>> {
+    if word.is_empty() || !word.len().is_multiple_of(2) {
+        return None;
+    }
+    word.chunks(2)
+        .map(|pair| Some(hex_digit(pair[0])? << 4 | hex_digit(pair[1])?))
+        .collect()
+}
+
+fn hex_digit(byte: u8) -> Option<u8> {
+    match byte {
+        b'0'..=b'9' => Some(byte - b'0'),
+        b'a'..=b'f' => Some(byte - b'a' + 10),
+        _ => None,
+    }
+}

@@ -1,0 +1,354 @@
+//! "State and steps": the state, when it is well formed, and the calls start, post, choose, unit.
+//!
+//! A state here can hold any number in any place, so that states no call can leave can be put.
+
+use std::fmt;
+
+use crate::refusal::Refusal;
+use crate::set::{Set, Stream, GREATEST_TASK};
+
+/// "up to 64 pending messages"
+pub const MESSAGE_PLACES: usize = 64;
+/// "the clock is at most 4,000,000,000"
+pub const LAST_CLOCK: u32 = 4_000_000_000;
+
+/// A message: "each with stream, absolute deadline and units used".
+#[derive(Clone, Copy, Debug, PartialEq, Eq)]
+pub struct Message {
+    /// The number of its stream.
+    pub stream: u32,
+    /// The absolute deadline.
+    pub deadline: u32,
+    /// The units used.
+    pub used: u32,
+}
+
+impl Message {
+    /// "unused places are zero"
+    pub const UNUSED: Message = Message {
+        stream: 0,
+        deadline: 0,
+        used: 0,
+    };
+
+    fn started(&self) -> bool {
+        self.used > 0
+    }
+}
+
+/// "The state holds a set, the clock and up to 64 pending messages in posting order".
+#[derive(Clone, Copy, Debug, PartialEq, Eq)]
+pub struct State {
+    /// The set.
+    pub set: Set,
+    /// The clock.
+    pub clock: u32,
+    /// How many of the message places are used.
+    pub pending: u32,
+    /// The message places.
+    pub messages: [Message; MESSAGE_PLACES],
+}
+
+/// What a step answers.
+#[derive(Clone, Copy, Debug, PartialEq, Eq)]
+pub enum Answer {
+    /// The message was posted.
+    Posted {
+        /// Its stream.
+        stream: u32,
+        /// Its absolute deadline.
+        deadline: u32,
+    },
+    /// "Otherwise it stays as ran."
+    Ran {
+        /// The task that ran.
+        task: u32,
+        /// The stream of its message.
+        stream: u32,
+    },
+    /// "If done, it leaves as finished."
+    Finished {
+        /// The task that ran.
+        task: u32,
+        /// The stream of its message.
+        stream: u32,
+        /// The deadline minus the clock after the unit.
+        laxity: i64,
+    },
+    /// "If not done and its used units now equal c, it leaves as cut."
+    Cut {
+        /// The task that ran.
+        task: u32,
+        /// The stream of its message.
+        stream: u32,
+        /// The deadline minus the clock after the unit.
+        laxity: i64,
+    },
+    /// "With nothing pending and not done, the answer is idle".
+    Idle,
+    /// A refusal; the state is unchanged.
+    Refused(Refusal),
+}
+
+impl fmt::Display for Answer {
+    /// "(posted stream deadline; ran task stream; done or cut task stream laxity; idle;
+    /// refused N)"
+    fn fmt(&self, out: &mut fmt::Formatter) -> fmt::Result {
+        match self {
+            Answer::Posted { stream, deadline } => write!(out, "posted {stream} {deadline}"),
+            Answer::Ran { task, stream } => write!(out, "ran {task} {stream}"),
+            Answer::Finished {
+                task,
+                stream,
+                laxity,
+            } => write!(out, "done {task} {stream} {laxity}"),
+            Answer::Cut {
+                task,
+                stream,
+                laxity,
+            } => write!(out, "cut {task} {stream} {laxity}"),
+            Answer::Idle => write!(out, "idle"),
+            Answer::Refused(refusal) => write!(out, "{refusal}"),
+        }
+    }
+}
+
+/// The task that is chosen and the stream of the message it serves.
+#[derive(Clone, Copy, Debug, PartialEq, Eq)]
+pub struct Choice {
+    /// The task.
+    pub task: u32,
+    /// The stream of the message it serves.
+    pub stream: u32,
+}
+
+impl State {
+    /// The start of the empty set.
+    pub const EMPTY: State = State {
+        set: Set::EMPTY,
+        clock: 0,
+        pending: 0,
+        messages: [Message::UNUSED; MESSAGE_PLACES],
+    };
+
+    /// "Start. A valid set gives the clock at 0 and no message. An invalid one gives 7 and the
+    /// start of the empty set."
+    pub fn start(set: &Set) -> (State, Result<(), Refusal>) {
+        if !set.valid() {
+            return (State::EMPTY, Err(Refusal::OutOfRule));
+        }
+        let state = State {
+            set: *set,
+            ..State::EMPTY
+        };
+        (state, Ok(()))
+    }
+
+    /// The pending messages of a state with at most 64, in posting order.
+    pub fn pending_messages(&self) -> &[Message] {
+        &self.messages[..self.pending as usize]
+    }
+
+    /// The stream a message of a well formed state names.
+    pub fn stream_of(&self, message: &Message) -> &Stream {
+        &self.set.streams[message.stream as usize]
+    }
+
+    /// "It is well formed if the set is valid; there are at most 64 messages; the clock is at most
+    /// 4,000,000,000; each message names a stream of the set, has used less than c, and has a
+    /// deadline from d to clock + d; deadline less d never falls along the order; each task has at
+    /// most one message with a used unit; unused places are zero."
+    pub fn well_formed(&self) -> bool {
+        self.set.valid()
+            && self.pending as usize <= MESSAGE_PLACES
+            && self.clock <= LAST_CLOCK
+            && self
+                .pending_messages()
+                .iter()
+                .all(|message| self.message_in_rule(message))
+            && self.in_posting_order()
+            && self.one_started_for_each_task()
+            && self.messages[self.pending as usize..]
+                .iter()
+                .all(|message| *message == Message::UNUSED)
+    }
+
+    /// "each message names a stream of the set, has used less than c, and has a deadline from d to
+    /// clock + d"
+    fn message_in_rule(&self, message: &Message) -> bool {
+        if message.stream >= self.set.count {
+            return false;
+        }
+        let stream = self.stream_of(message);
+        let least = u64::from(stream.deadline);
+        let greatest = u64::from(self.clock) + u64::from(stream.deadline);
+        message.used < stream.cost && (least..=greatest).contains(&u64::from(message.deadline))
+    }
+
+    /// "deadline less d never falls along the order"
+    fn in_posting_order(&self) -> bool {
+        let posted_at = |message: &Message| message.deadline - self.stream_of(message).deadline;
+        self.pending_messages()
+            .windows(2)
+            .all(|pair| posted_at(&pair[0]) <= posted_at(&pair[1]))
+    }
+
+    /// "each task has at most one message with a used unit"
+    fn one_started_for_each_task(&self) -> bool {
+        (0..=GREATEST_TASK).all(|task| {
+            self.messages_of_task(task)
+                .filter(|(_, message)| message.started())
+                .count()
+                <= 1
+        })
+    }
+
+    /// The pending messages of a task with their places, in posting order.
+    fn messages_of_task(&self, task: u32) -> impl Iterator<Item = (usize, &Message)> + '_ {
+        self.pending_messages()
+            .iter()
+            .enumerate()
+            .filter(move |(_, message)| self.stream_of(message).task == task)
+    }
+
+    /// "Post. A message with deadline clock + d and 0 used goes last." Refusals: "post 12, 1, 2".
+    /// "Posting at the last clock is allowed."
+    pub fn post(&mut self, stream: u32) -> Answer {
+        if !self.well_formed() {
+            return Answer::Refused(Refusal::NotWellFormed);
+        }
+        if stream >= self.set.count {
+            return Answer::Refused(Refusal::NoSuchStream);
+        }
+        if self.pending as usize == MESSAGE_PLACES {
+            return Answer::Refused(Refusal::Full);
+        }
+        let deadline = self.clock + self.set.streams[stream as usize].deadline;
+        self.messages[self.pending as usize] = Message {
+            stream,
+            deadline,
+            used: 0,
+        };
+        self.pending += 1;
+        Answer::Posted { stream, deadline }
+    }
+
+    /// "A task's deadline is the least deadline of its pending messages, the started one included.
+    /// This is the inheritance of 5.3.3."
+    fn task_deadline(&self, task: u32) -> Option<u32> {
+        self.messages_of_task(task)
+            .map(|(_, message)| message.deadline)
+            .min()
+    }
+
+    /// "The task with the least deadline runs; on a tie, the lowest task number." "With nothing
+    /// pending the answer is none."
+    fn chosen_task(&self) -> Option<u32> {
+        let mut best: Option<(u32, u32)> = None;
+        for task in 0..=GREATEST_TASK {
+            if let Some(deadline) = self.task_deadline(task) {
+                if best.is_none_or(|(_, least)| deadline < least) {
+                    best = Some((task, deadline));
+                }
+            }
+        }
+        best.map(|(task, _)| task)
+    }
+
+    /// "It serves its started message if there is one, else its message of least deadline, on a
+    /// tie the earliest posted." The place of that message.
+    fn served_place(&self, task: u32) -> Option<usize> {
+        let started = self
+            .messages_of_task(task)
+            .find(|(_, message)| message.started());
+        if let Some((place, _)) = started {
+            return Some(place);
+        }
+        let mut best: Option<(usize, u32)> = None;
+        for (place, message) in self.messages_of_task(task) {
+            if best.is_none_or(|(_, least)| message.deadline < least) {
+                best = Some((place, message.deadline));
+            }
+        }
+        best.map(|(place, _)| place)
+    }
+
+    /// The place of the chosen message of a well formed state, none with nothing pending.
+    fn chosen_place(&self) -> Option<usize> {
+        self.chosen_task().and_then(|task| self.served_place(task))
+    }
+
+    /// The task and stream of the message at a place.
+    fn names(&self, place: usize) -> Choice {
+        let message = &self.messages[place];
+        Choice {
+            task: self.stream_of(message).task,
+            stream: message.stream,
+        }
+    }
+
+    /// "Choose." The state is unchanged; 12 when it is not well formed, with "no task named".
+    pub fn choose(&self) -> Result<Option<Choice>, Refusal> {
+        if !self.well_formed() {
+            return Err(Refusal::NotWellFormed);
+        }
+        Ok(self.chosen_place().map(|place| self.names(place)))
+    }
+
+    /// "Unit(done)." Refusals: "Unit 12, 3, 4."
+    pub fn unit(&mut self, done: bool) -> Answer {
+        if !self.well_formed() {
+            return Answer::Refused(Refusal::NotWellFormed);
+        }
+        if self.clock == LAST_CLOCK {
+            return Answer::Refused(Refusal::LastClock);
+        }
+        match self.chosen_place() {
+            Some(place) => self.run_message(place, done),
+            None if done => Answer::Refused(Refusal::NothingPending),
+            None => {
+                // "the answer is idle and only the clock moves"
+                self.clock += 1;
+                Answer::Idle
+            }
+        }
+    }
+
+    /// "The chosen message gains one used unit and the clock one. If done, it leaves as finished.
+    /// If not done and its used units now equal c, it leaves as cut. Otherwise it stays as ran."
+    /// "Each answer names task and stream; a leaving one also has the laxity, its deadline minus
+    /// the clock after the unit, which is negative when late."
+    fn run_message(&mut self, place: usize, done: bool) -> Answer {
+        let Choice { task, stream } = self.names(place);
+        let cost = self.set.streams[stream as usize].cost;
+        self.messages[place].used += 1;
+        self.clock += 1;
+        let message = self.messages[place];
+        let laxity = i64::from(message.deadline) - i64::from(self.clock);
+        if done {
+            self.remove(place);
+            Answer::Finished {
+                task,
+                stream,
+                laxity,
+            }
+        } else if message.used == cost {
+            self.remove(place);
+            Answer::Cut {
+                task,
+                stream,
+                laxity,
+            }
+        } else {
+            Answer::Ran { task, stream }
+        }
+    }
+
+    /// "The order of the rest is kept." "unused places are zero"
+    fn remove(&mut self, place: usize) {
+        let last = self.pending as usize - 1;
+        self.messages.copy_within(place + 1..last + 1, place);
+        self.messages[last] = Message::UNUSED;
+        self.pending -= 1;
+    }
+}

@@ -1,0 +1,106 @@
+-- A law for each way out of taking and putting a field.
+-- Assumes nothing.
+use Prim.Native.Nat.{ℕ, _+_, _*_, _^_, _<_, _≤_, _-_}
+use mathlib.Core.Path.{_≡_, refl, sym, ap, ap₂, _∙_}
+use mathlib.Core.List.{List}
+use native.Mathlib.Omega.{arith}
+use lib.ListN.{length}
+use lib.Seq.{paste, paste-zero}
+use lib.Pow.{pow-mono}
+use borrow.Author.Tests.{le-leb, lt-leb}
+use Rattle.laws.specs.Bits.{bits, toBits}
+use Rattle.bits.specs.declared.Gathered.{Gathered}
+use Rattle.bits.specs.declared.Taken.the-variants.{Field, Missing, TooWide}
+use Rattle.bits.specs.declared.Placing.{Placing}
+use Rattle.bits.specs.declared.Placing.the-variants.{Done, NoRoom, TooWide as PutTooWide}
+use Rattle.bits.specs.Places.{behind, fieldAt, gatherOf, gotOf, putBits, putBy, putOf, takeOf}
+use Rattle.bits.proofs.Words.{field-joined, field-lt, field-none}
+
+-- ---- gathering
+
+pub gather-is : (s : List ℕ) (at w v got : ℕ) → got ≡ gotOf (length s) at w → v ≡ fieldAt s at got → record { value = v; got = got } ≡ gatherOf s at w
+unfolding gatherOf
+gather-is s at w v got e h = ap₂ (λ (x n : ℕ). record { value = x; got = n }) (h ∙ ap (fieldAt s at) e) e
+
+pub gather-none : (s : List ℕ) (at w got : ℕ) → got ≡ gotOf (length s) at w → got ≡ 0 → record { value = 0; got = 0 } ≡ gatherOf s at w
+gather-none s at w got e z = gather-is s at w 0 0 (sym z ∙ e) (field-none s at)
+
+pub gather-one : (s : List ℕ) (at w v got p : ℕ) → got ≡ gotOf (length s) at w → v ≡ fieldAt s p got → p ≡ at → record { value = v; got = got } ≡ gatherOf s at w
+gather-one s at w v got p e h q = gather-is s at w v got e (h ∙ ap (λ (x : ℕ). fieldAt s x got) q)
+
+module _ (s : List ℕ) (at w got high low p q : ℕ) (e : got ≡ gotOf (length s) at w) (long : 32 < got) (hh : high ≡ fieldAt s p (got - 32)) (hp : p ≡ at) (hl : low ≡ fieldAt s q 32) (hq : q ≡ at + (got - 32)) where
+  high-is : high ≡ fieldAt s at (got - 32)
+  high-is = hh ∙ ap (λ (x : ℕ). fieldAt s x (got - 32)) hp
+
+  low-is : low ≡ fieldAt s (at + (got - 32)) 32
+  low-is = hl ∙ ap (λ (x : ℕ). fieldAt s x 32) hq
+
+  high-lt : high < 4294967296
+  high-lt = omega (arith, high-is, field-lt s at (got - 32) (omega arith), pow-mono {i = got - 32} {j = 32} (omega arith))
+
+  low-lt : low < 4294967296
+  low-lt = omega (arith, low-is, field-lt s (at + (got - 32)) 32 (omega arith))
+
+  pub high-fits : high * 4294967296 < 18446744073709551616
+  high-fits = omega (arith, high-lt)
+
+  pub both-fit : high * 4294967296 + low < 18446744073709551616
+  both-fit = omega (arith, high-lt, low-lt)
+
+  pub gather-two : record { value = high * 4294967296 + low; got = got } ≡ gatherOf s at w
+  gather-two =
+      gather-is s at w (high * 4294967296 + low) got e
+      (ap₂ (λ (x y : ℕ). x * 4294967296 + y) high-is low-is
+      ∙ sym (field-joined s at (got - 32) 32 (omega arith)) ∙ ap (fieldAt s at) (let h : got - 32 + 32 ≡ got = omega arith in h))
+
+-- ---- taking
+
+pub take-wide : (s : List ℕ) (at w : ℕ) → 64 < w → TooWide ≡ takeOf s at w
+unfolding takeOf
+take-wide s at w h = simp (lt-leb w 64 h)
+
+module _ (s : List ℕ) (at w : ℕ) (g : Gathered) (k : w ≤ 64) (e : g ≡ gatherOf s at w) where
+  got-is : g .got ≡ gotOf (length s) at w
+  unfolding gatherOf
+  got-is = ap (λ (x : Gathered). x .got) e
+
+  pub take-all : g .got ≡ w → Field (g .value) ≡ takeOf s at w
+  unfolding takeOf gatherOf
+  take-all h =
+      simp (le-leb w 64 k, le-leb w (behind (length s) at) (omega (arith, got-is)))
+      (ap Field (ap (λ (x : Gathered). x .value) e ∙ ap (fieldAt s at) (sym got-is ∙ h)))
+
+  pub take-none : (g .got ≡ w → ⊥) → Missing ≡ takeOf s at w
+  unfolding takeOf
+  take-none h = simp (le-leb w 64 k, lt-leb w (behind (length s) at) (omega (arith, got-is, h)))
+
+-- ---- putting
+
+-- what is put, and the bits afterwards
+abbrev pub Putting : Placing → List ℕ → ℕ → ℕ → ℕ → List ℕ → Type 0
+Putting r s at w v after = (r ≡ putOf (length s) at w) × (after ≡ putBits s at w v)
+
+by-answer : (r : Placing) (s : List ℕ) (at w v : ℕ) (after : List ℕ) → r ≡ putOf (length s) at w → after ≡ putBy r (bits s) at w v → Putting r s at w v after
+unfolding putBits
+by-answer r s at w v after e h = (e, h ∙ ap (λ (x : Placing). putBy x (bits s) at w v) e)
+
+pub put-wide : (s : List ℕ) (at w v : ℕ) → 64 < w → Putting PutTooWide s at w v (bits s)
+unfolding putOf
+put-wide s at w v h = by-answer PutTooWide s at w v (bits s) (simp (lt-leb w 64 h)) refl
+
+pub put-full : (s : List ℕ) (at w v : ℕ) → w ≤ 64 → behind (length s) at < w → Putting NoRoom s at w v (bits s)
+unfolding putOf
+put-full s at w v k h = by-answer NoRoom s at w v (bits s) (simp (le-leb w 64 k, lt-leb w (behind (length s) at) h)) refl
+
+done : (s : List ℕ) (at w : ℕ) → w ≤ 64 → w ≤ behind (length s) at → Done ≡ putOf (length s) at w
+unfolding putOf
+done s at w k h = simp (le-leb w 64 k, le-leb w (behind (length s) at) h)
+
+pub put-nothing : (s : List ℕ) (at w v : ℕ) → w ≡ 0 → Putting Done s at w v (bits s)
+put-nothing s at w v z =
+    by-answer Done s at w v (bits s) (done s at w (omega arith) (omega arith))
+    (paste-zero (bits s) at (toBits w v) ∙ ap (paste (bits s) at (toBits w v)) (sym z))
+
+pub put-done : (s : List ℕ) (at w v p : ℕ) (after : List ℕ) → w ≤ 64 → w ≤ behind (length s) at → p ≡ at → after ≡ paste (bits s) p (toBits w v) w → Putting Done s at w v after
+put-done s at w v p after k h q e =
+    by-answer Done s at w v after (done s at w k h) (e ∙ ap (λ (x : ℕ). paste (bits s) x (toBits w v) w) q)

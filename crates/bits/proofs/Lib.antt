@@ -1,0 +1,3 @@
+pub mod Words
+pub mod Setting
+pub mod Answers

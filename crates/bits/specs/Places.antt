@@ -1,0 +1,46 @@
+-- What taking a field from a string of bytes, and putting one into it, finds and leaves. A place is counted in bits from the front.
+-- Assumes nothing.
+use Prim.Native.Nat.{ℕ, _+_, _-_, _*_, min}
+use mathlib.Core.List.{List}
+use mathlib.Core.Bool.{Bool, cond}
+use lib.ListN.{length, take, drop}
+use lib.Seq.{paste}
+use lib.Dec.{leb}
+use Rattle.laws.specs.Bits.{bits, toBits, value}
+use Rattle.bits.specs.declared.Gathered.{Gathered}
+use Rattle.bits.specs.declared.Taken.{Taken}
+use Rattle.bits.specs.declared.Taken.the-variants.{Field, Missing, TooWide}
+use Rattle.bits.specs.declared.Placing.{Placing}
+use Rattle.bits.specs.declared.Placing.the-variants.{Done, NoRoom, TooWide as PutTooWide}
+
+-- the value of the w bits at a place
+unfoldable pub fieldAt : List ℕ → ℕ → ℕ → ℕ
+fieldAt s at w = value (take w (drop at (bits s)))
+
+-- how many bits n bytes have behind a place
+abbrev pub behind : ℕ → ℕ → ℕ
+behind n at = 8 * n - at
+
+-- as many bits as are asked for, and no more than 64 and than there are
+abbrev pub gotOf : ℕ → ℕ → ℕ → ℕ
+gotOf n at w = min (min w 64) (behind n at)
+
+unfoldable pub gatherOf : List ℕ → ℕ → ℕ → Gathered
+gatherOf s at w = record { value = fieldAt s at (gotOf (length s) at w); got = gotOf (length s) at w }
+
+-- a whole field, or nothing of it
+unfoldable pub takeOf : List ℕ → ℕ → ℕ → Taken
+takeOf s at w = cond (leb w 64) (cond (leb w (behind (length s) at)) (Field (fieldAt s at w)) Missing) TooWide
+
+-- whether a field is put: there is room for all of it
+unfoldable pub putOf : ℕ → ℕ → ℕ → Placing
+putOf n at w = cond (leb w 64) (cond (leb w (behind n at)) Done NoRoom) PutTooWide
+
+-- the bits of the string afterwards: the w lowest bits of v at the place, every other bit as it was
+abbrev pub putBy : Placing → List ℕ → ℕ → ℕ → ℕ → List ℕ
+putBy Done bs at w v = paste bs at (toBits w v) w
+putBy NoRoom bs at w v = bs
+putBy PutTooWide bs at w v = bs
+
+unfoldable pub putBits : List ℕ → ℕ → ℕ → ℕ → List ℕ
+putBits s at w v = putBy (putOf (length s) at w) (bits s) at w v

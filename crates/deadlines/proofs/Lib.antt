@@ -1,0 +1,4 @@
+pub mod Formed
+pub mod Account
+pub mod Identity
+pub mod Machines

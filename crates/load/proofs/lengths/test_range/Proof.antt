@@ -1,0 +1,87 @@
+-- `load::lengths::test_range` meets its contract: no length passed is late. Assumes nothing.
+use native.Mathlib.Omega.{arith}
+use borrow.Author.Needs.{needs}
+use Prim.Native.Nat.{ℕ, _+_, _-_, _*_, _/_, _≤_, _<_, max}
+use mathlib.Core.Path.{_≡_, refl, ap, ap₂, subst, sym, _∙_}
+use Rattle.rules.specs.Streams.{streamsOf}
+use Rattle.rules.specs.Load.{demand}
+use Rattle.load.specs.declared.Tested.{Tested}
+use Rattle.load.specs.declared.Tested.the-variants.{Clear, Late}
+use Rattle.load.specs.Lengths.{NoneLate, Spanned}
+use Rattle.load.proofs.Bounds.{blockings-fit}
+use Rattle.load.proofs.Ranges.{none-yet, none-join, late-join, span-range}
+use Rattle.load.proofs.lengths.test_range.Statement.{statement}
+use Rattle.load.proofs.lengths.test_range.Tie as tie
+
+abbrev Inv-loop : tie.InvT-loop
+Inv-loop x from end t i₀ i = (from ≤ i) × (i ≤ end) × NoneLate (demand (streamsOf x)) from i
+
+abbrev μ-loop : tie.MeasureT-loop
+μ-loop x from end t i₀ i = end - i
+
+rows-of-requires : tie.Need-rows-of-requires Inv-loop μ-loop
+rows-of-requires c κs = c .pre .0
+
+loop-holds : tie.Need-loop-holds Inv-loop μ-loop
+loop-holds c = (omega arith, c .before .pre .1, none-yet (demand (streamsOf (c .before .args .x))) (c .before .args .from))
+
+next-deadline-requires : tie.Need-next-deadline-requires Inv-loop μ-loop
+next-deadline-requires c κs = (c .before .before .before .pre .0, omega arith)
+
+blockings-requires : tie.Need-blockings-requires Inv-loop μ-loop
+blockings-requires c κs = c .before .before .before .before .pre .0
+
+test-span-requires : tie.Need-test-span-requires Inv-loop μ-loop
+test-span-requires c κs = (
+  c .before .before .before .before .rows-of .ensures .sound,
+  omega (arith, c .blockings .ensures, blockings-fit (streamsOf (c .before .before .before .before .before .args .x)) (c .before .before .before .loop .i) (c .before .before .before .before .before .pre .0 .streams)),
+  omega (arith, c .before .next-deadline .ensures .after),
+)
+
+enum-known-found : tie.Need-enum-known-found Inv-loop μ-loop
+enum-known-found c = search needs
+
+returns : tie.Need-returns Inv-loop μ-loop
+returns c =
+    late-join (demand (streamsOf (c .before .before .before .before .before .before .before .before .before .args .x))) (c .before .before .before .before .before .before .before .before .before .args .from) (c .before .before .before .before .before .before .before .loop .i) (c .before .before .before .before .before .next-deadline .result) (c .before .before .before .before .before .before .before .before .before .args .end) (c .before .found .given .0 .0) (c .before .found .given .0 .1 .0)
+    (omega arith) (c .before .before .before .before .before .next-deadline .ensures .near) (c .before .before .before .before .before .before .before .loop .inv .2)
+    (span-range (streamsOf (c .before .before .before .before .before .before .before .before .before .args .x)) (c .before .before .before .before .before .before .before .before .rows-of .result) (c .before .before .before .before .blockings .result) (c .before .before .before .before .before .before .before .loop .i) (c .before .before .before .before .before .before .before .before .before .args .end) (c .before .before .before .before .before .next-deadline .result)
+    (Late (c .before .found .given .0 .0) (c .before .found .given .0 .1 .0)) (c .before .before .before .before .before .before .before .before .rows-of .ensures) (c .before .before .before .before .before .next-deadline .ensures) (c .before .before .before .before .blockings .ensures) (omega arith)
+    (subst (Spanned (c .before .before .before .before .before .before .before .before .rows-of .result) (c .before .before .before .before .blockings .result) (c .before .before .before .before .before .before .before .loop .i) (c .before .before .before .before .before .next-deadline .result)) (c .before .found .given .1) (c .before .before .before .test-span .ensures)))
+
+enum-told : tie.Need-enum-told Inv-loop μ-loop
+enum-told c = search needs
+
+loop-less : tie.Need-loop-less Inv-loop μ-loop
+loop-less c = omega (arith, c .before .before .before .before .next-deadline .ensures .after, c .before .before .before .before .next-deadline .ensures .near)
+
+loop-again : tie.Need-loop-again Inv-loop μ-loop
+loop-again c = (
+  omega (arith, c .before .before .before .before .next-deadline .ensures .after),
+  c .before .before .before .before .next-deadline .ensures .near,
+  none-join (demand (streamsOf (c .before .before .before .before .before .before .before .before .args .x))) (c .before .before .before .before .before .before .before .before .args .from) (c .before .before .before .before .before .before .loop .i) (c .before .before .before .before .next-deadline .result) (c .before .before .before .before .before .before .loop .inv .2)
+      (span-range (streamsOf (c .before .before .before .before .before .before .before .before .args .x)) (c .before .before .before .before .before .before .before .rows-of .result) (c .before .before .before .blockings .result) (c .before .before .before .before .before .before .loop .i) (c .before .before .before .before .before .before .before .before .args .end) (c .before .before .before .before .next-deadline .result)
+      Clear (c .before .before .before .before .before .before .before .rows-of .ensures) (c .before .before .before .before .next-deadline .ensures) (c .before .before .before .blockings .ensures) (omega arith)
+      (subst (Spanned (c .before .before .before .before .before .before .before .rows-of .result) (c .before .before .before .blockings .result) (c .before .before .before .before .before .before .loop .i) (c .before .before .before .before .next-deadline .result)) (c .enum-told .given .1) (c .before .before .test-span .ensures))),
+)
+
+returns-2 : tie.Need-returns-2 Inv-loop μ-loop
+returns-2 c = λ j p q. c .before .loop .inv .2 j p (omega arith)
+
+pub test-range-spec : {M : Type 1} → statement M
+test-range-spec =
+    tie.close
+    (tie.spec
+    Inv-loop
+    μ-loop
+    rows-of-requires
+    loop-holds
+    next-deadline-requires
+    blockings-requires
+    test-span-requires
+    enum-known-found
+    returns
+    enum-told
+    loop-less
+    loop-again
+    returns-2)

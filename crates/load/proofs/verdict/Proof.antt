@@ -1,0 +1,60 @@
+-- `load::verdict` meets its contract. Assumes nothing.
+use native.Mathlib.Omega.{arith}
+use borrow.Author.Needs.{needs}
+use Prim.Native.Nat.{ℕ, _+_, _-_, _*_, _/_, _≤_, _<_, max}
+use mathlib.Core.Path.{_≡_, refl, ap, ap₂, subst, sym, _∙_}
+use Rattle.rules.specs.Streams.{streamsOf}
+use Rattle.rules.proofs.Valid.{valid-set}
+use Rattle.load.specs.declared.Tested.the-variants.{Clear, Late}
+use Rattle.load.specs.Lengths.{OpeningOf, GoesOn, Ranged}
+use Rattle.load.proofs.Settle.{verdict-clear, verdict-late}
+use Rattle.load.proofs.verdict.Statement.{statement}
+use Rattle.load.proofs.verdict.Tie as tie
+
+opening-requires : tie.Need-opening-requires
+opening-requires c κs = search needs
+
+enum-known-begun : tie.Need-enum-known-begun
+enum-known-begun c = search needs
+
+enum-known-begun-2 : tie.Need-enum-known-begun-2
+enum-known-begun-2 c = search needs
+
+test-range-requires : tie.Need-test-range-requires
+test-range-requires c κs =
+    let g : GoesOn (c .before .before .before .before .args .x) (c .before .begun2 .given .0 .0) = subst (OpeningOf (c .before .before .before .before .args .x)) (c .before .begun2 .given .1) (c .before .before .before .opening .ensures) in
+    (valid-set (c .before .before .before .before .args .x) (g .ok), omega (arith, g .end))
+
+enum-told : tie.Need-enum-told
+enum-told c = search needs
+
+enum-known-found : tie.Need-enum-known-found
+enum-known-found c = search needs
+
+returns : tie.Need-returns
+returns c = subst (OpeningOf (c .before .before .before .before .args .x)) (c .before .begun .given .1) (c .before .before .before .opening .ensures)
+
+returns-2 : tie.Need-returns-2
+returns-2 c =
+    verdict-clear (c .before .before .before .before .before .before .before .args .x) (c .before .before .before .before .begun2 .given .0 .0) (subst (OpeningOf (c .before .before .before .before .before .before .before .args .x)) (c .before .before .before .before .begun2 .given .1) (c .before .before .before .before .before .before .opening .ensures))
+    (subst (Ranged (streamsOf (c .before .before .before .before .before .before .before .args .x)) 1 (c .before .before .before .before .begun2 .given .0 .0)) (c .enum-told .given .1) (c .before .before .test-range .ensures))
+
+returns-3 : tie.Need-returns-3
+returns-3 c =
+    verdict-late (c .before .before .before .before .before .before .before .before .args .x) (c .before .before .before .before .before .begun2 .given .0 .0) (c .before .found .given .0 .0) (c .before .found .given .0 .1 .0)
+    (subst (OpeningOf (c .before .before .before .before .before .before .before .before .args .x)) (c .before .before .before .before .before .begun2 .given .1) (c .before .before .before .before .before .before .before .opening .ensures))
+    (subst (Ranged (streamsOf (c .before .before .before .before .before .before .before .before .args .x)) 1 (c .before .before .before .before .before .begun2 .given .0 .0)) (c .before .found .given .1) (c .before .before .before .test-range .ensures))
+
+pub verdict-spec : {M : Type 1} → statement M
+verdict-spec =
+    tie.close
+    (tie.spec
+    opening-requires
+    enum-known-begun
+    enum-known-begun-2
+    test-range-requires
+    enum-told
+    enum-known-found
+    returns
+    returns-2
+    returns-3)

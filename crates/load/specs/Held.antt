@@ -1,0 +1,29 @@
+-- The blocking of all tasks, and the deadlines between which it stays the same.
+-- Assumes nothing.
+use Prim.Native.Nat.{ℕ, _≤_, _<_}
+use mathlib.Core.List.{List}
+use mathlib.Core.Logic.{_⊎_}
+use Rattle.laws.specs.Lists.{below, sum, All}
+use Rattle.rules.specs.declared.Stream.{Stream}
+use Rattle.rules.specs.Load.{blocking}
+
+-- "the blocking of each task", summed
+unfoldable pub blockingsOf : List Stream → ℕ → ℕ
+blockingsOf ss i = sum (blocking ss i) (below 16)
+
+-- the deadline d does not lie after i and before r
+abbrev pub Apart : ℕ → ℕ → ℕ → Type 0
+Apart i r d = (d ≤ i) ⊎ (r ≤ d)
+
+abbrev pub ApartFrom : ℕ → ℕ → Stream → Type 0
+ApartFrom i r s = Apart i r (s .deadline)
+
+pub record Nearer (i d nearest r : ℕ) : Type 0 where
+  pub after : i < nearest → i < r
+  pub near : r ≤ nearest
+  pub apart : Apart i r d
+
+pub record NextDeadline (ss : List Stream) (i end r : ℕ) : Type 0 where
+  pub after : i < r
+  pub near : r ≤ end
+  pub apart : All (ApartFrom i r) ss

@@ -1,0 +1,4 @@
+pub mod Cycles
+pub mod Dues
+pub mod Held
+pub mod Lengths

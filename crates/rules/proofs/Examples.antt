@@ -1,0 +1,35 @@
+-- The yard's example sets.
+-- Assumes nothing.
+use Prim.Native.Nat.{ℕ, _-_}
+use mathlib.Core.List.{List, [], _∷_, _++_}
+use lib.ListN.{length, replicate}
+use Rattle.rules.specs.declared.Tuple.{Tuple}
+use Rattle.rules.specs.declared.Tuple.the-variants.{Once, Every}
+use Rattle.rules.specs.declared.TuplePlace.{TuplePlace}
+use Rattle.rules.specs.declared.Stream.{Stream}
+use Rattle.rules.specs.declared.Set.{Set}
+use Rattle.laws.specs.Lists.{all, any, sum, top, count, find, remove, flat, scan, firstLeast}
+use Rattle.laws.specs.Bits.{toBits, onto, bits, bytes, pack}
+use Rattle.rules.specs.Streams.{tupleOk, tuplesOk, tupleUnused, streamOk, streamUnused, valid, events, limit, limitOf, jitterOk, jitterOf}
+use Rattle.rules.specs.States.{messageOk, messagesOk, startedOnce, messageUnused, wellFormed}
+use Rattle.rules.specs.Steps.{startOf, postOf, taskDeadline, runningTask, startedAt, urgentAt, servedAt, placeOf, chooseOf, laxityOf, servedOf, emptyUnit, unitOf}
+use Rattle.rules.specs.Load.{due, blocking, demand, demandOf, streamLoad, load}
+use Rattle.rules.specs.Sheet.{streamOf, setOf, streamBits, sheetBits, sheetOf, readEnd, readTuples, readStream, readStreams, readBits, readOf, writeOf, bufferOf}
+use Rattle.rules.specs.Runs.{stepOf, begin, runFrom, runOf, answersFrom, answersOf}
+
+-- a stream with one tuple
+abbrev pub stream : ℕ → ℕ → ℕ → Tuple → Stream
+stream task c d t = streamOf task c d (record { tuple = t } ∷ [])
+
+-- "every z from 0"
+abbrev pub each : ℕ → Tuple
+each z = Every z 0
+
+-- "Set B: stream 0 task 0, c 2, d 5; stream 1 task 0, c 4, d 20; stream 2 task 1, c 2, d 8; each every 20 from 0."
+abbrev pub setB : Set
+setB = setOf (stream 0 2 5 (each 20) ∷ stream 0 4 20 (each 20) ∷ stream 1 2 8 (each 20) ∷ [])
+
+-- An example is computed: to unfold `computed` is to unfold every definition that it goes through.
+unfoldable pub computed : ℕ
+unfolding all any sum top count find remove flat scan firstLeast toBits onto bits bytes pack tupleOk tuplesOk tupleUnused streamOk streamUnused valid events limit limitOf jitterOk jitterOf messageOk messagesOk startedOnce messageUnused wellFormed startOf postOf taskDeadline runningTask startedAt urgentAt servedAt placeOf chooseOf laxityOf servedOf emptyUnit unitOf due blocking demand demandOf streamLoad load streamBits sheetBits sheetOf readEnd readTuples readStream readStreams readBits readOf writeOf bufferOf stepOf begin runFrom runOf answersFrom answersOf
+computed = 0

@@ -1,0 +1,111 @@
+-- What the test of a valid set says of its streams and their tuples, as propositions.
+-- Assumes nothing.
+use Prim.Native.Nat.{ℕ, zero, suc, _≤_, _<_}
+use native.Mathlib.Omega.{arith}
+use mathlib.Core.Path.{_≡_}
+use mathlib.Core.List.{List, [], _∷_}
+use mathlib.Core.Bool.{Bool, true, false, _&&_}
+use lib.Dec.{leb, eqb}
+use lib.ListN.{length, getD, take, drop, length-take}
+use borrow.Author.Tests.{leb-true, eqb-true}
+use Rattle.laws.specs.Lists.{within, all, All, scan}
+use Rattle.laws.proofs.Sums.{and-parts, every-all, Holds, all-All}
+use Rattle.rules.specs.declared.Tuple.{Tuple}
+use Rattle.rules.specs.declared.Tuple.the-variants.{Once, Every}
+use Rattle.rules.specs.declared.TuplePlace.{TuplePlace}
+use Rattle.rules.specs.declared.Stream.{Stream}
+use Rattle.rules.specs.declared.Set.{Set}
+use Rattle.rules.specs.Streams.{noTuple, tuplesOf, streamsOf, offset, offsetAt, cycleOk, tupleOk, tuplesOk, tupleUnused, streamTests, streamOk, streamUnused, setTests, valid}
+
+-- from a to b
+pub record Between (a x b : ℕ) : Type 0 where
+  pub low : a ≤ x
+  pub high : x ≤ b
+
+abbrev pub ValidCycle : Tuple → Type 0
+ValidCycle (Once a) = Unit {0}
+ValidCycle (Every z a) = Between 1 z 1000000
+
+pub record ValidPlace (p : TuplePlace) : Type 0 where
+  pub offset : offsetAt p ≤ 100000
+  pub cycle : ValidCycle (p .tuple)
+
+-- the first offset is 0
+abbrev pub FirstZero : List TuplePlace → Type 0
+FirstZero [] = Unit {0}
+FirstZero (p ∷ ps) = offsetAt p ≡ 0
+
+-- `order` and `unused` are the tests themselves: offsets never fall, unused tuples are once at 0
+pub record ValidStream (s : Stream) : Type 0 where
+  pub task : s .task ≤ 15
+  pub cost : Between 1 (s .cost) 65535
+  pub deadline : Between 1 (s .deadline) 200000
+  pub count : Between 1 (s .count) 4
+  pub tuples : All ValidPlace (tuplesOf s)
+  pub first : FirstZero (tuplesOf s)
+  pub order : tuplesOk (tuplesOf s) ≡ true
+  pub unused : all tupleUnused (drop (s .count) (s .tuples)) ≡ true
+
+pub record ValidSet (x : Set) : Type 0 where
+  pub count : x .count ≤ 16
+  pub streams : All ValidStream (streamsOf x)
+  pub unused : all streamUnused (drop (x .count) (x .streams)) ≡ true
+
+between : (a x b : ℕ) → within a x b ≡ true → Between a x b
+between a x b e =
+    let u : (leb a x ≡ true) × (leb x b ≡ true) = and-parts (leb a x) (leb x b) e in
+    record { low = leb-true a x (u .0); high = leb-true x b (u .1) }
+
+valid-cycle : (t : Tuple) → cycleOk t ≡ true → ValidCycle t
+valid-cycle (Once a) e = tt
+valid-cycle (Every z a) e = between 1 z 1000000 e
+
+abbrev tupleTests : ℕ → TuplePlace → List Bool
+tupleTests before p = leb before (offset (p .tuple)) ∷ leb (offset (p .tuple)) 100000 ∷ cycleOk (p .tuple) ∷ []
+
+pub valid-place : (before : ℕ) (p : TuplePlace) → tupleOk before p ≡ true → ValidPlace p
+unfolding tupleOk
+valid-place before p e =
+    let u : All Holds (tupleTests before p) = every-all (tupleTests before p) e in
+    record { offset = leb-true (offset (p .tuple)) 100000 (u .1 .0); cycle = valid-cycle (p .tuple) (u .1 .1 .0) }
+
+valid-places : (before : ℕ) (ps : List TuplePlace) → scan tupleOk offsetAt before ps ≡ true → All ValidPlace ps
+unfolding scan
+valid-places before [] e = tt
+valid-places before (p ∷ ps) e =
+    let u : (tupleOk before p ≡ true) × (scan tupleOk offsetAt (offsetAt p) ps ≡ true) =
+    and-parts (tupleOk before p) (scan tupleOk offsetAt (offsetAt p) ps) e in
+    (valid-place before p (u .0), valid-places (offsetAt p) ps (u .1))
+
+first-zero : (n : ℕ) (ps : List TuplePlace) → eqb (offsetAt (getD ps 0 noTuple)) 0 ≡ true → FirstZero (take n ps)
+first-zero zero ps e = tt
+first-zero (suc n) [] e = tt
+first-zero (suc n) (p ∷ ps) e = eqb-true (offsetAt p) 0 e
+
+pub valid-stream : (s : Stream) → streamOk s ≡ true → ValidStream s
+unfolding streamOk tuplesOk
+valid-stream s e =
+    let u : All Holds (streamTests s) = every-all (streamTests s) e in
+    record {
+      task = leb-true (s .task) 15 (u .0);
+      cost = between 1 (s .cost) 65535 (u .1 .0);
+      deadline = between 1 (s .deadline) 200000 (u .1 .1 .0);
+      count = between 1 (s .count) 4 (u .1 .1 .1 .0);
+      tuples = valid-places 0 (tuplesOf s) (u .1 .1 .1 .1 .1 .0);
+      first = first-zero (s .count) (s .tuples) (u .1 .1 .1 .1 .0);
+      order = u .1 .1 .1 .1 .1 .0;
+      unused = u .1 .1 .1 .1 .1 .1 .0;
+    }
+
+pub valid-set : (x : Set) → valid x ≡ true → ValidSet x
+unfolding valid
+valid-set x e =
+    let u : All Holds (setTests x) = every-all (setTests x) e in
+    record {
+      count = leb-true (x .count) 16 (u .0);
+      streams = all-All streamOk ValidStream valid-stream (streamsOf x) (u .1 .0);
+      unused = u .1 .1 .0;
+    }
+
+pub streams-few : (x : Set) → ValidSet x → length (streamsOf x) ≤ 16
+streams-few x v = omega (arith, v .count, length-take (x .count) (x .streams))

@@ -1,0 +1,5 @@
+pub mod Filled
+pub mod Keeps
+pub mod Chunks
+pub mod ByField
+pub mod Feeding

@@ -1,0 +1,36 @@
+use native.Mathlib.Omega.{arith}
+use borrow.Author.Needs.{needs}
+use mathlib.Core.Path.{sym, ap, subst, _∙_}
+use Rattle.laws.specs.Bits.{bits}
+use Rattle.sheet.specs.declared.Carried.{Carried}
+use Rattle.sheet.specs.Reader.{closeOf, run}
+use Rattle.sheet.specs.Kept.{Kept}
+use Rattle.sheet.proofs.Keeps.{kept-start}
+use Rattle.sheet.proofs.ByField.{by-field}
+use Rattle.sheet.proofs.read.Statement.{statement}
+use Rattle.sheet.proofs.read.Tie as tie
+use Rattle.sheet.proofs.read.Reads as reads
+use Rattle.sheet.proofs.read.Lts as lts
+use Rattle.sheet.proofs.close.Reads as close-reads
+use Rattle.sheet.proofs.feed.Reads as feed-reads
+use Rattle.sheet.proofs.start.Reads as start-reads
+
+-- src/lib.rt:482:16
+start-requires : tie.Need-start-requires
+start-requires c κs = search needs
+
+-- src/lib.rt:482:11
+feed-requires : tie.Need-feed-requires
+feed-requires c κs = subst Kept (sym (c .start .ensures)) kept-start
+
+-- src/lib.rt:482:5
+close-requires : tie.Need-close-requires
+close-requires c κs = search needs
+
+-- src/lib.rt:479:1
+returns : tie.Need-returns
+returns c =
+    c .close .ensures ∙ ap closeOf (c .before .feed .ensures ∙ ap (λ (s : Carried). run s (bits (c .before .before .before .before .args .bytes .now))) (c .before .before .start .ensures)) ∙ by-field _
+
+pub read-spec : {M : Type 1} → statement M
+read-spec = tie.close (tie.spec start-requires feed-requires close-requires returns)

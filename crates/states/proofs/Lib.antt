@@ -1,0 +1,3 @@
+pub mod WellFormed
+pub mod Standing
+pub mod Tally

@@ -1,0 +1,113 @@
+-- What the test of a well formed state says, as propositions, and what its messages have.
+-- Assumes nothing.
+use Prim.Native.Nat.{ℕ, _+_, _-_, _≤_, _<_}
+use mathlib.Core.Bool.{Bool, true, false}
+use mathlib.Core.List.{[]}
+use mathlib.Core.Path.{_≡_, refl, sym, _∙_}
+use native.Mathlib.Omega.{arith}
+use borrow.Author.Tests.{leb-true, le-leb, lt-leb}
+use lib.ListN.{length, getD, take, drop}
+use lib.Seq.{getD-take, length-take-le}
+use Rattle.laws.specs.Lists.{below, all}
+use Rattle.laws.proofs.Parts.{every-at, scan-at, getD-any}
+use Rattle.laws.proofs.Sums.{all-take-at}
+use Rattle.rules.specs.declared.Set.{Set}
+use Rattle.rules.specs.declared.Stream.{Stream}
+use Rattle.rules.specs.declared.State.{State}
+use Rattle.rules.specs.Streams.{streamAt, noStream, valid}
+use Rattle.rules.specs.States.{noMessage, pending, taskOf, postedAt, messageOk, messagesOk, startedOnce, messageUnused, lastClock, stateTests, wellFormed}
+use Rattle.rules.specs.Steps.{messageAt}
+use Rattle.rules.proofs.Valid.{ValidStream, ValidSet, valid-set}
+use Rattle.states.specs.Sound.{Sound}
+use Rattle.states.proofs.Standing.{Standing, standing}
+
+-- the default of a place that the machine reads within an array
+abbrev pub blank : Stream
+blank = record { task = 0; cost = 0; deadline = 0; count = 0; tuples = [] }
+
+pub record WellFormed (s : State) : Type 0 where
+  pub set : valid (s .set) ≡ true
+  pub few : s .count ≤ 64
+  pub clock : s .clock ≤ 4000000000
+  pub each : messagesOk (s .set) (s .clock) (pending s) ≡ true
+  pub once : all (startedOnce (s .set) (pending s)) (below 16) ≡ true
+  pub unused : all messageUnused (drop (s .count) (s .messages)) ≡ true
+
+pub well-formed : (s : State) → wellFormed s ≡ true → WellFormed s
+unfolding wellFormed
+well-formed s e =
+    let t = every-at (stateTests s) in
+    record { set = t 0 e; few = leb-true _ _ (t 1 e); clock = leb-true _ _ (t 2 e); each = t 3 e; once = t 4 e; unused = t 5 e }
+
+pub well-formed-back : (s : State) → WellFormed s → wellFormed s ≡ true
+unfolding wellFormed
+well-formed-back s h = rw (h .set, le-leb (s .count) 64 (h .few), le-leb (s .clock) 4000000000 (h .clock), h .each, h .once, h .unused)
+
+pub sound : (s : State) → wellFormed s ≡ true → Sound s
+sound s e = let h = well-formed s e in record { set = h .set; few = h .few; each = h .each }
+
+-- a stream of a valid set
+pub stream-valid : (x : Set) (k : ℕ) → valid x ≡ true → length (x .streams) ≡ 16 → k < x .count → ValidStream (streamAt x k)
+stream-valid x k e l h =
+    let v = valid-set x e in
+    all-take-at ValidStream (x .streams) (x .count) k noStream h (omega (arith, v .count)) (v .streams)
+
+module _ (s : State) (h : Sound s) (ms : length (s .messages) ≡ 64) (k : ℕ) (q : k < s .count) where
+  -- a pending message stands behind what was posted before it
+  pub stands : (b : ℕ) × Standing (s .set) (s .clock) b (messageAt s k)
+  unfolding messagesOk
+  stands =
+      let l : length (pending s) ≡ s .count = length-take-le (s .count) (s .messages) (omega (arith, h .few)) in
+      let o = scan-at (messageOk (s .set) (s .clock)) (postedAt (s .set)) 0 (pending s) k noMessage (h .each) (omega arith) in
+      (o .0, standing (s .set) (s .clock) (o .0) (messageAt s k) (rw (getD-take (s .count) (s .messages) k noMessage q) at (o .1)))
+
+  pub stream-in : messageAt s k .stream < s .set .count
+  stream-in = stands .1 .stream
+
+  pub stream-place : messageAt s k .stream < 16
+  stream-place = omega (arith, stream-in, valid-set (s .set) (h .set) .count)
+
+  module _ (ss : length (s .set .streams) ≡ 16) where
+    pub message-stream : ValidStream (streamAt (s .set) (messageAt s k .stream))
+    message-stream = stream-valid (s .set) (messageAt s k .stream) (h .set) ss stream-in
+
+    pub task-in : taskOf (s .set) (messageAt s k) < 16
+    task-in = omega (arith, message-stream .task)
+
+    -- the same of the stream as the code reads it, within the array
+    pub stream-read : getD (s .set .streams) (messageAt s k .stream) blank ≡ streamAt (s .set) (messageAt s k .stream)
+    stream-read = getD-any (s .set .streams) (messageAt s k .stream) blank noStream (omega (arith, stream-place))
+
+    pub task-read : getD (s .set .streams) (messageAt s k .stream) blank .task < 16
+    task-read = rw stream-read task-in
+
+-- ---- the ways out of the test, as the code goes
+
+module _ (s : State) where
+  pub not-valid : valid (s .set) ≡ false → false ≡ wellFormed s
+  unfolding wellFormed
+  not-valid e = rw e
+
+  module _ (v : valid (s .set) ≡ true) where
+    pub not-few : 64 < s .count → false ≡ wellFormed s
+    unfolding wellFormed
+    not-few h = rw (v, lt-leb (s .count) 64 h)
+
+    module _ (f : s .count ≤ 64) where
+      pub not-clock : 4000000000 < s .clock → false ≡ wellFormed s
+      unfolding wellFormed
+      not-clock h = rw (v, le-leb (s .count) 64 f, lt-leb (s .clock) 4000000000 h)
+
+      module _ (c : s .clock ≤ 4000000000) where
+        pub not-each : messagesOk (s .set) (s .clock) (pending s) ≡ false → false ≡ wellFormed s
+        unfolding wellFormed
+        not-each h = rw (v, le-leb (s .count) 64 f, le-leb (s .clock) 4000000000 c, h)
+
+        module _ (e : messagesOk (s .set) (s .clock) (pending s) ≡ true) where
+          pub not-once : all (startedOnce (s .set) (pending s)) (below 16) ≡ false → false ≡ wellFormed s
+          unfolding wellFormed
+          not-once h = rw (v, le-leb (s .count) 64 f, le-leb (s .clock) 4000000000 c, e, h)
+
+          pub last-test : (r : Bool) → all (startedOnce (s .set) (pending s)) (below 16) ≡ true → r ≡ all messageUnused (drop (s .count) (s .messages)) → r ≡ wellFormed s
+          unfolding wellFormed
+          last-test r o u = rw (v, le-leb (s .count) 64 f, le-leb (s .clock) 4000000000 c, e, o) u

@@ -1,0 +1,69 @@
+-- `streams::limit_of` meets its contract. The sum so far and the events of the tuples that are left make the limit. Assumes nothing.
+use native.Mathlib.Omega.{arith}
+use borrow.Author.Needs.{needs}
+use mathlib.Core.Path.{_≡_, refl, sym, ap, _∙_}
+use Prim.Native.Nat.{ℕ, _+_, _-_, _*_, _≤_, _<_}
+use lib.ListN.{length, getD, take, drop}
+use mathlib.Core.Logic.{inl, inr}
+use native.Mathlib.Nat.{zero-add}
+use Rattle.laws.proofs.Parts.{part, sum-go, sum-end, sized}
+use Rattle.laws.specs.Lists.{sum as total}
+use Rattle.rules.specs.Streams.{events, limit, noTuple}
+use Rattle.streams.proofs.Events.{events-le}
+use Rattle.streams.proofs.limit_of.Statement.{statement}
+use Rattle.streams.proofs.limit_of.Tie as tie
+
+abbrev Inv-loop : tie.InvT-loop
+Inv-loop i s n sum₀ k₀ sum k = (length (s .tuples) ≡ 4) × (sum ≤ k * 4294967296) × (sum + total (events i) (part k n (s .tuples)) ≡ limit s i)
+
+abbrev μ-loop : tie.MeasureT-loop
+μ-loop i s n sum₀ k₀ sum k = 4 - k
+
+loop-holds : tie.Need-loop-holds Inv-loop μ-loop
+unfolding limit part
+loop-holds c = ((sized _ (c .args .t1 .tuples) 4 (c .good .0 .1 .1 .1 .1 .1 .1 .0 .1 .0 .1)), omega arith, zero-add _)
+
+returns : tie.Need-returns Inv-loop μ-loop
+returns c = sum-end _ _ _ _ _ _ (c .before .before .loop .inv .2) (inl (search needs))
+
+mul-p : tie.Need-mul-p Inv-loop μ-loop
+mul-p c = search needs
+
+element-copy-out-p : tie.Need-element-copy-out-p Inv-loop μ-loop
+element-copy-out-p c = search needs
+
+events-of-requires : tie.Need-events-of-requires Inv-loop μ-loop
+events-of-requires c κs = search needs
+
+add-sum : tie.Need-add-sum Inv-loop μ-loop
+add-sum c = omega (arith, c .events-of .ensures, events-le (getD (c .before .before .before .before .before .args .t1 .tuples) (c .before .before .before .before .loop .k) noTuple .tuple) (c .before .before .before .before .before .args .i))
+
+add-k : tie.Need-add-k Inv-loop μ-loop
+add-k c = search needs
+
+loop-less : tie.Need-loop-less Inv-loop μ-loop
+loop-less c = search needs
+
+loop-again : tie.Need-loop-again Inv-loop μ-loop
+unfolding events
+loop-again c = (c .before .before .before .before .loop .inv .0, omega (arith, c .events-of .ensures, events-le (getD (c .before .before .before .before .before .args .t1 .tuples) (c .before .before .before .before .loop .k) noTuple .tuple) (c .before .before .before .before .before .args .i)), rw (c .events-of .ensures) (sum-go _ _ _ _ _ _ noTuple _ (c .before .before .before .before .loop .inv .2) refl (search needs) (omega arith)))
+
+returns-2 : tie.Need-returns-2 Inv-loop μ-loop
+returns-2 c = sum-end _ _ _ _ _ _ (c .before .loop .inv .2) (inr (omega arith))
+
+pub limit-of-spec : {M : Type 1} → statement M
+limit-of-spec =
+    tie.close
+    (tie.spec
+    Inv-loop
+    μ-loop
+    loop-holds
+    returns
+    mul-p
+    element-copy-out-p
+    events-of-requires
+    add-sum
+    add-k
+    loop-less
+    loop-again
+    returns-2)

@@ -1,0 +1,17 @@
+-- `streams::quotient` meets its contract. Assumes nothing.
+use borrow.Author.Needs.{needs}
+use native.Mathlib.Nat.{div-zero, div-le-self}
+use Rattle.streams.proofs.quotient.Statement.{statement}
+use Rattle.streams.proofs.quotient.Tie as tie
+
+div-result : tie.Need-div-result
+div-result c = search needs
+
+returns : tie.Need-returns
+returns c = (simp (c .if1 .taken, div-zero), search needs)
+
+returns-2 : tie.Need-returns-2
+returns-2 c = (search needs, div-le-self (c .before .args .x) (c .before .args .z))
+
+pub quotient-spec : {M : Type 1} → statement M
+quotient-spec = tie.close (tie.spec div-result returns returns-2)

@@ -1,0 +1,31 @@
+-- `streams::stream_ok` meets its contract. Assumes nothing.
+use borrow.Author.Needs.{needs}
+use Rattle.rules.specs.Streams.{streamOk}
+use Rattle.streams.proofs.stream_ok.Statement.{statement}
+use Rattle.streams.proofs.stream_ok.Tie as tie
+
+element-copy-out-p : tie.Need-element-copy-out-p
+element-copy-out-p c = search needs
+
+offset-of-requires : tie.Need-offset-of-requires
+offset-of-requires c κs = search needs
+
+tuples-ok-requires : tie.Need-tuples-ok-requires
+tuples-ok-requires c κs = search needs
+
+tuples-unused-requires : tie.Need-tuples-unused-requires
+tuples-unused-requires c κs = search needs
+
+returns : tie.Need-returns
+unfolding streamOk
+returns c = simp (c .before .before .offset-of .ensures, c .before .tuples-ok .ensures, c .tuples-unused .ensures)
+
+pub stream-ok-spec : {M : Type 1} → statement M
+stream-ok-spec =
+    tie.close
+    (tie.spec
+    element-copy-out-p
+    offset-of-requires
+    tuples-ok-requires
+    tuples-unused-requires
+    returns)

@@ -1,0 +1,274 @@
+// Streams and sets: is a set valid, the event limit of a stream, and a jittered cycle as tuples.
+ghost use mathlib.Core.Path.{_≡_};
+ghost use lib.ListN.{drop};
+ghost use Prim.Native.Nat.{_-_, _/_, _≤_};
+ghost use Rattle.laws.specs.Lists.{all};
+ghost use Rattle.rules.specs.Streams.{offset, cycleOk, tupleOk, tuplesOk, tupleUnused, tuplesOf, streamOk, streamUnused, streamsOf, valid, noTuple, noStream, emptySet, streamAt, eventsOf, limit, limitOf, jitterOk, jitterOf};
+use rules::CountAnswer;
+use rules::JitterAnswer;
+use rules::Refusal;
+use rules::Set;
+use rules::Stream;
+use rules::Tuple;
+use rules::TuplePlace;
+
+// ---- a valid set
+
+fn offset_of(t: Tuple) -> u32
+    ensures { λ r. ⌜ r ≡ offset t ⌝ }
+{
+    match t {
+        Tuple::Once(a) => a,
+        Tuple::Every(_, a) => a,
+    }
+}
+
+fn cycle_ok(t: Tuple) -> bool
+    ensures { λ r. ⌜ r ≡ cycleOk t ⌝ }
+{
+    match t {
+        Tuple::Once(_) => true,
+        Tuple::Every(z, _) => (1 <= z) & (z <= 1000000),
+    }
+}
+
+// A tuple behind one with the offset `before`.
+fn tuple_ok(before: u32, p: TuplePlace) -> bool
+    ensures { λ r. ⌜ r ≡ tupleOk before p ⌝ }
+{
+    let t = p.tuple;
+    let a = offset_of(t);
+    let cycle = cycle_ok(t);
+    (before <= a) & ((a <= 100000) & cycle)
+}
+
+fn tuple_unused(p: TuplePlace) -> bool
+    ensures { λ r. ⌜ r ≡ tupleUnused p ⌝ }
+{
+    let t = p.tuple;
+    match t {
+        Tuple::Once(a) => a == 0,
+        Tuple::Every(_, _) => false,
+    }
+}
+
+// Offsets and cycles are in range, and offsets never fall.
+fn tuples_ok(s: Stream) -> bool
+    ensures { λ r. ⌜ r ≡ tuplesOk (tuplesOf s) ⌝ }
+{
+    let n = s.count;
+    let mut before: u32 = 0;
+    let mut k: usize = 0;
+    while k < 4 {
+        if n <= k {
+            return true;
+        }
+        let p = s.tuples[k];
+        if !tuple_ok(before, p) {
+            return false;
+        }
+        let t = p.tuple;
+        before = offset_of(t);
+        k = k + 1;
+    }
+    true
+}
+
+// The places from `from` on are unused.
+fn tuples_unused(s: Stream, from: usize) -> bool
+    ensures { λ r. ⌜ r ≡ all tupleUnused (drop from (s .tuples)) ⌝ }
+{
+    let mut k = from;
+    while k < 4 {
+        let p = s.tuples[k];
+        if !tuple_unused(p) {
+            return false;
+        }
+        k = k + 1;
+    }
+    true
+}
+
+fn stream_ok(s: Stream) -> bool
+    ensures { λ r. ⌜ r ≡ streamOk s ⌝ }
+{
+    let p = s.tuples[0];
+    let t = p.tuple;
+    let a = offset_of(t);
+    let used = tuples_ok(s);
+    let rest = tuples_unused(s, s.count);
+    (s.task <= 15)
+        & (((1 <= s.cost) & (s.cost <= 65535))
+            & (((1 <= s.deadline) & (s.deadline <= 200000))
+                & (((1 <= s.count) & (s.count <= 4)) & ((a == 0) & (used & rest)))))
+}
+
+fn stream_unused(s: Stream) -> bool
+    ensures { λ r. ⌜ r ≡ streamUnused s ⌝ }
+{
+    let rest = tuples_unused(s, 0);
+    (s.task == 0) & ((s.cost == 0) & ((s.deadline == 0) & ((s.count == 0) & rest)))
+}
+
+fn streams_ok(x: Set) -> bool
+    ensures { λ r. ⌜ r ≡ all streamOk (streamsOf x) ⌝ }
+{
+    let n = x.count;
+    let mut k: usize = 0;
+    while k < 16 {
+        if n <= k {
+            return true;
+        }
+        let s = x.streams[k];
+        if !stream_ok(s) {
+            return false;
+        }
+        k = k + 1;
+    }
+    true
+}
+
+fn streams_unused(x: Set) -> bool
+    ensures { λ r. ⌜ r ≡ all streamUnused (drop (x .count) (x .streams)) ⌝ }
+{
+    let mut k = x.count;
+    while k < 16 {
+        let s = x.streams[k];
+        if !stream_unused(s) {
+            return false;
+        }
+        k = k + 1;
+    }
+    true
+}
+
+// Is the set valid?
+pub fn is_valid(x: Set) -> bool
+    ensures { λ r. ⌜ r ≡ valid x ⌝ }
+{
+    let used = streams_ok(x);
+    let rest = streams_unused(x);
+    (x.count <= 16) & (used & rest)
+}
+
+// ---- places
+
+fn no_tuple() -> TuplePlace
+    ensures { λ r. ⌜ r ≡ noTuple ⌝ }
+{
+    let t = Tuple::Once(0);
+    TuplePlace { tuple: t }
+}
+
+fn no_stream() -> Stream
+    ensures { λ r. ⌜ r ≡ noStream ⌝ }
+{
+    let ts = [no_tuple(); 4];
+    Stream {
+        task: 0,
+        cost: 0,
+        deadline: 0,
+        count: 0,
+        tuples: ts,
+    }
+}
+
+pub fn empty_set() -> Set
+    ensures { λ r. ⌜ r ≡ emptySet ⌝ }
+{
+    let ss = [no_stream(); 16];
+    Set {
+        count: 0,
+        streams: ss,
+    }
+}
+
+// The stream of a number; past the end stands an unused place.
+pub fn stream_at(x: Set, k: usize) -> Stream
+    ensures { λ r. ⌜ r ≡ streamAt x k ⌝ }
+{
+    if k < 16 { x.streams[k] } else { no_stream() }
+}
+
+// ---- event limits
+
+// The quotient, 0 where the divisor is 0.
+fn quotient(x: u64, z: u64) -> u64
+    ensures { λ r. ⌜ r ≡ x / z ⌝ }
+    ensures { λ r. ⌜ r ≤ x ⌝ }
+{
+    if z == 0 { 0 } else { x / z }
+}
+
+// What one tuple adds to the event limit of a length.
+fn events_of(t: Tuple, i: u32) -> u64
+    ensures { λ r. ⌜ r ≡ eventsOf t i ⌝ }
+{
+    match t {
+        Tuple::Once(a) => { if a <= i { 1 } else { 0 } }
+        Tuple::Every(z, a) => {
+            if a <= i {
+                quotient((i - a) as u64, z as u64) + 1
+            } else {
+                0
+            }
+        }
+    }
+}
+
+// E(I) of a stream.
+pub fn limit_of(s: Stream, i: u32) -> u64
+    ensures { λ r. ⌜ r ≡ limit s i ⌝ }
+{
+    let n = s.count;
+    let mut sum: u64 = 0;
+    let mut k: usize = 0;
+    while k < 4 {
+        if n <= k {
+            return sum;
+        }
+        let p = s.tuples[k];
+        let t = p.tuple;
+        sum = sum + events_of(t, i);
+        k = k + 1;
+    }
+    sum
+}
+
+// The event limit of the set's stream k for the length i, 7 for an invalid set or a stream that it has not.
+pub fn event_limit(x: Set, k: usize, i: u32) -> CountAnswer
+    ensures { λ r. ⌜ r ≡ limitOf x k i ⌝ }
+{
+    if is_valid(x) & (k < x.count) {
+        return CountAnswer::Number(limit_of(stream_at(x, k), i));
+    }
+    CountAnswer::Refused(Refusal::OutOfRule)
+}
+
+// ---- a jittered cycle
+
+// The difference, 0 where it would be below.
+pub fn less(a: u32, b: u32) -> u32
+    ensures { λ r. ⌜ r ≡ a - b ⌝ }
+{
+    if a < b { 0 } else { a - b }
+}
+
+fn jitter_ok(z: u32, j: u32) -> bool
+    ensures { λ r. ⌜ r ≡ jitterOk z j ⌝ }
+{
+    let from = less(z, j);
+    ((1 <= z) & (z <= 1000000)) & ((j <= z) & (from <= 100000))
+}
+
+// The jittered cycle (z, j) as once at 0 and every z from z - j, or 7.
+pub fn jittered(z: u32, j: u32) -> JitterAnswer
+    ensures { λ r. ⌜ r ≡ jitterOf z j ⌝ }
+{
+    if jitter_ok(z, j) {
+        let first = Tuple::Once(0);
+        let second = Tuple::Every(z, less(z, j));
+        return JitterAnswer::Tuples(first, second);
+    }
+    JitterAnswer::Refused(Refusal::OutOfRule)
+}
