@@ -14,7 +14,7 @@ use rules::TuplePlace;
 
 // ---- a valid set
 
-fn offset_of(t: Tuple) -> u32
+pub fn offset_of(t: Tuple) -> u32
     ensures { λ r. ⌜ r ≡ offset t ⌝ }
 {
     match t {
