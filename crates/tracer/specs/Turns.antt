@@ -15,15 +15,15 @@ use Rattle.tracer.specs.declared.Run.{Run}
 
 -- the run after a step, and after a byte that is refused
 abbrev at : State → Run
-at s = record { state = s; waiting = false; open = true }
+at s = record { state = s; waiting = false; live = true }
 
 abbrev pub nextRun : State → Heard → Run
 nextRun s Skip = at s
-nextRun s More = record { state = s; waiting = true; open = true }
+nextRun s More = record { state = s; waiting = true; live = true }
 nextRun s (Post k) = at (postOf s k .state)
 nextRun s Unit = at (unitOf s false .state)
 nextRun s Done = at (unitOf s true .state)
-nextRun s Bad = record { state = s; waiting = false; open = false }
+nextRun s Bad = record { state = s; waiting = false; live = false }
 
 -- "Each step prints the clock before it and its answer"; any other byte "prints the line `refused 9`, with no clock, and stops"
 abbrev pub nextText : State → Heard → List ℕ
@@ -36,10 +36,10 @@ nextText s Bad = lineOf (says (refused (number BadByte)))
 
 -- a byte; a run that has stopped takes no more
 unfoldable pub runAfter : Run → ℕ → Run
-runAfter r b = cond (r .open) (nextRun (r .state) (heardOf (r .waiting) b)) r
+runAfter r b = cond (r .live) (nextRun (r .state) (heardOf (r .waiting) b)) r
 
 unfoldable pub textAfter : Run → ℕ → List ℕ
-textAfter r b = cond (r .open) (nextText (r .state) (heardOf (r .waiting) b)) []
+textAfter r b = cond (r .live) (nextText (r .state) (heardOf (r .waiting) b)) []
 
 -- bytes one after the other
 unfoldable pub runOn : Run → List ℕ → Run
@@ -52,4 +52,4 @@ textOn r (b ∷ l) = textAfter r b ++ textOn (runAfter r b) l
 
 -- the end of the trace: a p without its digit
 unfoldable pub textEnd : Run → List ℕ
-textEnd r = cond (r .open) (nextText (r .state) (endOf (r .waiting))) []
+textEnd r = cond (r .live) (nextText (r .state) (endOf (r .waiting))) []

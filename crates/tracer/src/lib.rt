@@ -16,7 +16,7 @@ use traced::Heard;
 pub struct Run {
     pub state: State,
     pub waiting: bool,
-    pub open: bool,
+    pub live: bool,
 }
 
 // A run after a byte, and the line that the byte prints.
@@ -26,12 +26,12 @@ pub struct Turn {
 }
 
 fn turn_at(state: State, line: Line) -> Turn
-    ensures { λ r. ⌜ r ≡ record { run = record { state = state; waiting = false; open = true }; line = line } ⌝ }
+    ensures { λ r. ⌜ r ≡ record { run = record { state = state; waiting = false; live = true }; line = line } ⌝ }
 {
     let run = Run {
         state,
         waiting: false,
-        open: true,
+        live: true,
     };
     Turn { run, line }
 }
@@ -72,19 +72,19 @@ fn refused(s: State) -> Turn
     let run = Run {
         state: s,
         waiting: false,
-        open: false,
+        live: false,
     };
     let line = words::verdict_line(Verdict::Refused(Refusal::BadByte));
     Turn { run, line }
 }
 
 fn skipped(s: State, waiting: bool) -> Turn
-    ensures { λ r. ⌜ r ≡ record { run = record { state = s; waiting = waiting; open = true }; line = holding [] } ⌝ }
+    ensures { λ r. ⌜ r ≡ record { run = record { state = s; waiting = waiting; live = true }; line = holding [] } ⌝ }
 {
     let run = Run {
         state: s,
         waiting,
-        open: true,
+        live: true,
     };
     let line = text::blank();
     Turn { run, line }
@@ -104,11 +104,11 @@ fn heard(s: State, h: Heard) -> Turn
 }
 
 // A run after one more byte.
-pub fn turn(r: Run, b: u8) -> Turn
+pub fn take_byte(r: Run, b: u8) -> Turn
     ensures { λ t. ⌜ t ≡ record { run = runAfter r b; line = holding (textAfter r b) } ⌝ }
 {
-    let open = r.open;
-    if open {
+    let live = r.live;
+    if live {
         let s = r.state;
         let waiting = r.waiting;
         heard(s, traced::hear(waiting, b))
@@ -116,4 +116,29 @@ pub fn turn(r: Run, b: u8) -> Turn
         let line = text::blank();
         Turn { run: r, line }
     }
+}
+
+// A run after a piece of the trace, and how many bytes of the page it has filled.
+pub struct Fed {
+    pub run: Run,
+    pub len: usize,
+}
+
+// The bytes of a piece one after the other, their lines on the page: 128 bytes of it for each are enough.
+fn feed(run: Run, piece: &[u8], out: &mut [u8]) -> Fed
+    requires { ⌜ length (now piece) * 128 ≤ length (now out) ⌝ }
+    ensures { λ r. ⌜ (r .run ≡ runOn run (now (piece .entry))) × ((take (r .len) (now (out .exit)) ≡ textOn run (now (piece .entry))) × (r .len ≤ length (now (out .exit)))) ⌝ }
+{
+    let mut r = run;
+    let mut at = 0;
+    let mut i = 0;
+    while i < piece.len() {
+        let t = take_byte(r, piece[i]);
+        let line = t.line;
+        let next = t.run;
+        at = page::append(out, at, line);
+        r = next;
+        i += 1;
+    }
+    Fed { run: r, len: at }
 }
