@@ -60,12 +60,13 @@ stopped r b l a e = rw (a, e)
 step-short : (n : ℕ) (s : Says) → length (stepLine n s) ≤ 128
 unfolding stepLine
 step-short n s =
-    omega
-    (arith,
-    length-append (decimalOf n ++ spaced (says s)) (10 ∷ []),
-    length-append (decimalOf n) (spaced (says s)),
-    digits-short 20 n,
-    says-short s)
+    omega (
+      arith,
+      length-append (decimalOf n ++ spaced (says s)) (10 ∷ []),
+      length-append (decimalOf n) (spaced (says s)),
+      digits-short 20 n,
+      says-short s,
+    )
 
 heard-short : (s : State) (h : Heard) → length (nextText s h) ≤ 128
 heard-short s Skip = omega arith
@@ -106,14 +107,15 @@ module _ (r₀ r : Run) (piece out : List ℕ) (i at : ℕ) (t : Turn) (h : i < 
         → take (endOf out at (t .line)) (appended out at (t .line)) ++ textOn (t .run) (drop (i + 1) piece) ≡ textOn r₀ piece
     unfolding textOn
     text-turn f =
-        rw
-        (e,
-        end-at out (textAfter r (getD piece i 0)) at (text-short r (getD piece i 0)) fit,
-        holds-then out (textAfter r (getD piece i 0)) at (text-short r (getD piece i 0)) fit,
-        append-assoc,
-        ← f,
-        drop-cons piece i 0 h,
-        add-one i)
+        rw (
+          e,
+          end-at out (textAfter r (getD piece i 0)) at (text-short r (getD piece i 0)) fit,
+          holds-then out (textAfter r (getD piece i 0)) at (text-short r (getD piece i 0)) fit,
+          append-assoc,
+          ← f,
+          drop-cons piece i 0 h,
+          add-one i,
+        )
 
 pub run-end : (r₀ r : Run) (piece : List ℕ) (i : ℕ) → length piece ≤ i → runOn r (drop i piece) ≡ runOn r₀ piece → r ≡ runOn r₀ piece
 unfolding runOn
@@ -122,3 +124,19 @@ run-end r₀ r piece i h f = rw (drop-of-length-le piece h) at f
 pub text-end : (r₀ r : Run) (piece w : List ℕ) (i : ℕ) → length piece ≤ i → w ++ textOn r (drop i piece) ≡ textOn r₀ piece → w ≡ textOn r₀ piece
 unfolding textOn
 text-end r₀ r piece w i h f = sym (append-nil w) ∙ (rw (drop-of-length-le piece h) at f)
+
+-- the whole of it: what holds at the head of the loop holds again
+pub feed-turn : (r₀ r : Run) (piece out o : List ℕ) (i at a n : ℕ) (t : Turn) → i < length piece
+    → t ≡ record { run = runAfter r (getD piece i 0); line = holding (textAfter r (getD piece i 0)) } → length piece * 128 ≤ n
+    → length out ≡ n → at ≤ i * 128 → runOn r (drop i piece) ≡ runOn r₀ piece → take at out ++ textOn r (drop i piece) ≡ textOn r₀ piece
+    → a ≡ endOf out at (t .line) → o ≡ appended out at (t .line)
+    → (i + 1 ≤ length piece) × (length o ≡ n) × (a ≤ (i + 1) * 128) × (runOn (t .run) (drop (i + 1) piece) ≡ runOn r₀ piece)
+    × (take a o ++ textOn (t .run) (drop (i + 1) piece) ≡ textOn r₀ piece)
+feed-turn r₀ r piece out o i at a n t h e m size low f g x y =
+    let room : at + 128 ≤ length out = omega arith in (
+      omega arith,
+      ap length y ∙ size-turn r₀ r piece out i at t h e room ∙ size,
+      omega (arith, x, at-turn r₀ r piece out i at t h e room),
+      run-turn r₀ r piece out i at t h e f,
+      rw (x, y) (text-turn r₀ r piece out i at t h e room g),
+    )

@@ -1,3 +1,5 @@
+use mathlib.Core.Bool.{true}
+use Rattle.tracer.proofs.Bytes.{unit-turn}
 use native.Mathlib.Omega.{arith}
 use borrow.Author.Needs.{needs}
 use Rattle.tracer.proofs.done.Statement.{statement}
@@ -22,7 +24,7 @@ turn-at-requires c κs = search needs
 
 -- src/lib.rt:59:1
 returns : tie.Need-returns
-returns c = ?
+returns c = unit-turn _ true _ _ _ (c .before .before .before .unit .ensures) (c .before .unit-line .ensures) (c .turn-at .ensures)
 
 pub done-spec : {M : Type 1} → statement M
 done-spec = tie.close (tie.spec unit-requires unit-line-requires turn-at-requires returns)

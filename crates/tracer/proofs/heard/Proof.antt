@@ -60,27 +60,27 @@ refused-requires c κs = search needs
 
 -- src/lib.rt:93:1
 returns : tie.Need-returns
-returns c = ?
+returns c = rw (c .before .enum-told .given .1) (c .skipped .ensures)
 
 -- src/lib.rt:93:1
 returns-2 : tie.Need-returns-2
-returns-2 c = ?
+returns-2 c = rw (c .before .enum-told2 .given .1) (c .skipped2 .ensures)
 
 -- src/lib.rt:93:1
 returns-3 : tie.Need-returns-3
-returns-3 c = ?
+returns-3 c = rw (c .before .before .h .given .1) (c .posted .ensures)
 
 -- src/lib.rt:93:1
 returns-4 : tie.Need-returns-4
-returns-4 c = ?
+returns-4 c = rw (c .before .enum-told3 .given .1) (c .ran .ensures)
 
 -- src/lib.rt:93:1
 returns-5 : tie.Need-returns-5
-returns-5 c = ?
+returns-5 c = rw (c .before .enum-told4 .given .1) (c .done .ensures)
 
 -- src/lib.rt:93:1
 returns-6 : tie.Need-returns-6
-returns-6 c = ?
+returns-6 c = rw (c .before .enum-told5 .given .1) (c .refused .ensures)
 
 pub heard-spec : {M : Type 1} → statement M
 heard-spec =

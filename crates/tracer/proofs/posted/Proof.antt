@@ -1,3 +1,4 @@
+use Rattle.tracer.proofs.Bytes.{post-turn}
 use native.Mathlib.Omega.{arith}
 use borrow.Author.Needs.{needs}
 use Rattle.tracer.proofs.posted.Statement.{statement}
@@ -22,7 +23,7 @@ turn-at-requires c κs = search needs
 
 -- src/lib.rt:39:1
 returns : tie.Need-returns
-returns c = ?
+returns c = post-turn _ _ _ _ _ (c .before .before .before .post .ensures) (c .before .post-line .ensures) (c .turn-at .ensures)
 
 pub posted-spec : {M : Type 1} → statement M
 posted-spec = tie.close (tie.spec post-requires post-line-requires turn-at-requires returns)

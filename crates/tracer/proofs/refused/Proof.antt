@@ -12,7 +12,7 @@ verdict-line-requires c κs = search needs
 
 -- src/lib.rt:69:1
 returns : tie.Need-returns
-returns c = ?
+returns c = rw (c .verdict-line .ensures)
 
 pub refused-spec : {M : Type 1} → statement M
 refused-spec = tie.close (tie.spec verdict-line-requires returns)

@@ -12,7 +12,7 @@ blank-requires c κs = search needs
 
 -- src/lib.rt:81:1
 returns : tie.Need-returns
-returns c = ?
+returns c = rw (c .blank .ensures)
 
 pub skipped-spec : {M : Type 1} → statement M
 skipped-spec = tie.close (tie.spec blank-requires returns)

@@ -1,3 +1,4 @@
+use Rattle.tracer.proofs.Bytes.{alive, stopped}
 use native.Mathlib.Omega.{arith}
 use borrow.Author.Needs.{needs}
 use Rattle.tracer.proofs.take_byte.Statement.{statement}
@@ -22,11 +23,11 @@ blank-requires c κs = search needs
 
 -- src/lib.rt:107:1
 returns : tie.Need-returns
-returns c = ?
+returns c = alive _ _ _ _ (c .before .before .before .if1 .taken) (c .before .hear .ensures) (c .heard .ensures)
 
 -- src/lib.rt:107:1
 returns-2 : tie.Need-returns-2
-returns-2 c = ?
+returns-2 c = stopped _ _ _ (c .before .if1 .left) (c .blank .ensures)
 
 pub take-byte-spec : {M : Type 1} → statement M
 take-byte-spec = tie.close (tie.spec hear-requires heard-requires blank-requires returns returns-2)
