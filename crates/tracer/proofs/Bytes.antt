@@ -4,7 +4,7 @@ use Prim.Native.Nat.{ℕ, zero, suc, _+_, _-_, _*_, _≤_, _<_}
 use native.Mathlib.Omega.{arith}
 use native.Mathlib.Numerals.{add-one}
 use mathlib.Core.Path.{_≡_, refl, sym, ap, _∙_}
-use mathlib.Core.Bool.{Bool, true, false, cond}
+use mathlib.Core.Bool.{Bool, true, false, cond, _&&_}
 use mathlib.Core.List.{List, [], _∷_, _++_, append-assoc, append-nil}
 use lib.ListN.{length, getD, take, drop, drop-of-length-le, length-append}
 use lib.Seq.{drop-cons}
@@ -22,12 +22,12 @@ use Rattle.words.specs.Words.{says, lineOf, stepLine}
 use Rattle.words.proofs.Lengths.{says-short}
 use Rattle.traced.specs.declared.Heard.{Heard}
 use Rattle.traced.specs.declared.Heard.the-variants.{Skip, More, Post, Unit, Done, Bad}
-use Rattle.traced.specs.Steps.{heardOf}
+use Rattle.traced.specs.Steps.{heardOf, endOf as atEnd}
 use Rattle.page.specs.Pages.{appended, endOf}
 use Rattle.page.proofs.Rooms.{end-at, holds-then, same-size}
 use Rattle.tracer.specs.declared.Run.{Run}
 use Rattle.tracer.specs.declared.Turn.{Turn}
-use Rattle.tracer.specs.Turns.{nextRun, nextText, runAfter, textAfter, runOn, textOn}
+use Rattle.tracer.specs.Turns.{nextRun, nextText, runAfter, textAfter, runOn, textOn, textEnd}
 
 -- a run that goes on at a state
 abbrev going : State → Run
@@ -140,3 +140,13 @@ feed-turn r₀ r piece out o i at a n t h e m size low f g x y =
       run-turn r₀ r piece out i at t h e f,
       rw (x, y) (text-turn r₀ r piece out i at t h e room g),
     )
+
+-- the end of the trace, with a p that waits and without
+ends : (s : State) (t u : Bool) → cond t (nextText s (atEnd u)) [] ≡ cond (t && u) (nextText s Bad) []
+ends s true true = refl
+ends s true false = refl
+ends s false u = refl
+
+pub end-is : (r : Run) (l : Line) (t : Bool) → (r .live && r .waiting) ≡ t → l ≡ holding (cond t (nextText (r .state) Bad) []) → l ≡ holding (textEnd r)
+unfolding textEnd
+end-is r l t e f = rw (ends (r .state) (r .live) (r .waiting), e) f

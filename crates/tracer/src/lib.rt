@@ -5,7 +5,7 @@ ghost use mathlib.Core.List.{_++_, []};
 ghost use Prim.Native.Nat.{_+_, _*_, _≤_};
 ghost use lib.ListN.{length, take};
 ghost use Rattle.text.specs.Held.{holding};
-ghost use Rattle.tracer.specs.Turns.{nextRun, nextText, runAfter, textAfter, runOn, textOn, textEnd};
+ghost use Rattle.tracer.specs.Turns.{nextRun, nextText, runAfter, textAfter, runOn, textOn, textEnd, Taken};
 use rules::Refusal;
 use rules::State;
 use rules::Verdict;
@@ -141,4 +141,28 @@ fn feed(run: Run, piece: &[u8], out: &mut [u8]) -> Fed
         i += 1;
     }
     Fed { run: r, len: at }
+}
+
+// A piece of the trace, where the page has room for whatever it may print; else nothing is taken.
+pub fn take_piece(run: Run, piece: &[u8], out: &mut [u8]) -> Fed
+    ensures { λ r. ⌜ Taken run (now (piece .entry)) (now (out .entry)) (r .run) (r .len) (now (out .exit)) ⌝ }
+{
+    if piece.len() <= out.len() / 128 {
+        feed(run, piece, out)
+    } else {
+        Fed { run, len: 0 }
+    }
+}
+
+// What the end of the trace prints: a line where a p still waits for its digit.
+pub fn end_line(r: Run) -> Line
+    ensures { λ l. ⌜ l ≡ holding (textEnd r) ⌝ }
+{
+    let live = r.live;
+    let waiting = r.waiting;
+    if live & waiting {
+        words::verdict_line(Verdict::Refused(Refusal::BadByte))
+    } else {
+        text::blank()
+    }
 }
