@@ -1,7 +1,9 @@
 // A page that lines are put on, one behind the other, before it is written out.
 ghost use mathlib.Core.Path.{_≡_};
 ghost use Prim.Native.Nat.{_+_, _≤_};
-ghost use lib.ListN.{length};
+ghost use lib.ListN.{length, take};
+ghost use lib.Dec.{leb};
+ghost use mathlib.Core.Bool.{cond};
 ghost use lib.Seq.{paste};
 ghost use Rattle.page.specs.Pages.{appended, endOf};
 use text::Line;
@@ -35,4 +37,11 @@ pub fn append(out: &mut [u8], at: usize, l: Line) -> usize
     let bytes = l.bytes;
     copy(&bytes, out, at, n);
     at + n
+}
+
+// A number of bytes at the front of a buffer: n, or 0 where the buffer is shorter.
+pub fn within(n: usize, buf: &[u8]) -> usize
+    ensures { λ r. ⌜ (r ≡ cond (leb n (length (now (buf .entry)))) n 0) × ((r ≤ length (now (buf .entry))) × (r ≡ length (take r (now (buf .entry))))) ⌝ }
+{
+    if n <= buf.len() { n } else { 0 }
 }

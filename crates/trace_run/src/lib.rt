@@ -10,13 +10,10 @@ use tracer::Run;
 
 // Writes a line out.
 fn say(l: Line) -> bool {
-    let n = l.len;
-    let bytes = l.bytes;
-    if n <= 128 {
-        io::write_all(STDOUT_FILENO, &bytes[..n])
-    } else {
-        false
-    }
+    let mut out = io::buffer();
+    let end = page::append(&mut out, 0, l);
+    let n = page::within(end, &out);
+    io::write_all(STDOUT_FILENO, &out[..n])
 }
 
 // The sheet in the file set.bin; a missing file is read as no bytes. No sheet has more than 378 bytes, so of a longer file 379
@@ -73,14 +70,11 @@ fn go_on(r: Run) -> Run {
         say(tracer::end_line(r));
         return stopped(r);
     }
-    let mut page = io::large_buffer();
-    let fed = tracer::take_piece(r, &bytes[..n], &mut page);
+    let mut out = io::large_buffer();
+    let fed = tracer::take_piece(r, &bytes[..n], &mut out);
     let next = fed.run;
-    let len = fed.len;
-    if 65536 < len {
-        return stopped(next);
-    }
-    if io::write_all(STDOUT_FILENO, &page[..len]) {
+    let len = page::within(fed.len, &out);
+    if io::write_all(STDOUT_FILENO, &out[..len]) {
         next
     } else {
         stopped(next)
