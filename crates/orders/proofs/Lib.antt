@@ -1,0 +1,5 @@
+pub mod Tests
+pub mod Words
+pub mod Nexts
+pub mod Fills
+pub mod Orders

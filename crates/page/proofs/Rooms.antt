@@ -1,0 +1,81 @@
+-- Laws of pages: with and without room, and what a page holds behind a line that was put on it.
+-- Assumes nothing.
+use Prim.Native.Nat.{ℕ, zero, suc, _+_, _-_, _≤_, _<_}
+use native.Mathlib.Omega.{arith}
+use mathlib.Core.Path.{_≡_, refl, sym, ap, _∙_}
+use mathlib.Core.Bool.{Bool, true, false, cond, _&&_}
+use mathlib.Core.List.{List, [], _∷_, _++_, map}
+use native.Mathlib.Numerals.{add-one}
+use lib.ListN.{length, getD, take, set, length-map, length-append}
+use lib.Seq.{paste, paste-suc, take-paste, length-paste, take-append-seam}
+use lib.Dec.{leb}
+use borrow.Author.Tests.{le-leb, lt-leb}
+use Rattle.laws.specs.Bits.{zeros}
+use Rattle.text.specs.declared.Line.{Line}
+use Rattle.text.specs.Held.{holding}
+use Rattle.page.specs.Pages.{hasRoom, appended, endOf}
+
+and-false : (t : Bool) → (t && false) ≡ false
+and-false true = refl
+and-false false = refl
+
+module _ (out : List ℕ) (at : ℕ) (l : Line) where
+  pub room : l .len ≤ 128 → at ≤ length out → l .len ≤ length out - at → hasRoom out at l ≡ true
+  unfolding hasRoom
+  room a b c = rw (le-leb (l .len) 128 a, le-leb at (length out) b, le-leb (l .len) (length out - at) c)
+
+  pub too-long : 128 < l .len → hasRoom out at l ≡ false
+  unfolding hasRoom
+  too-long h = rw (lt-leb (l .len) 128 h)
+
+  pub past-end : length out < at → hasRoom out at l ≡ false
+  unfolding hasRoom
+  past-end h = rw (lt-leb at (length out) h, and-false (leb (l .len) 128))
+
+  pub too-full : length out - at < l .len → hasRoom out at l ≡ false
+  unfolding hasRoom
+  too-full h = rw (lt-leb (l .len) (length out - at) h, and-false (leb at (length out)), and-false (leb (l .len) 128))
+
+  pub stays : hasRoom out at l ≡ false → (at ≡ endOf out at l) × (out ≡ appended out at l)
+  unfolding endOf appended
+  stays h = rw h (refl, refl)
+
+  pub goes : (o : List ℕ) → hasRoom out at l ≡ true → o ≡ paste out at (l .bytes) (l .len) → (at + l .len ≡ endOf out at l) × (o ≡ appended out at l)
+  unfolding endOf appended
+  goes o h e = rw h (refl, e)
+
+-- a line that holds w, put on a page that has the room
+module _ (out w : List ℕ) (at : ℕ) (h : length w ≤ 128) (g : at + length w ≤ length out) where
+  there : hasRoom out at (holding w) ≡ true
+  unfolding holding
+  there = room out at (holding w) h (omega arith) (omega arith)
+
+  inside : length w ≤ length (w ++ zeros (128 - length w))
+  inside = omega (arith, length-append w (zeros (128 - length w)))
+
+  pub end-at : endOf out at (holding w) ≡ at + length w
+  unfolding endOf holding
+  end-at = rw there
+
+  pub holds-then : take (at + length w) (appended out at (holding w)) ≡ take at out ++ w
+  unfolding appended holding
+  holds-then =
+      rw there
+      (take-paste out at (w ++ zeros (128 - length w)) (length w) (omega arith) inside
+      ∙ ap (λ (v : List ℕ). take at out ++ v) (take-append-seam w (zeros (128 - length w))))
+
+  pub same-size : length (appended out at (holding w)) ≡ length out
+  unfolding appended holding
+  same-size = rw there (length-paste out at (w ++ zeros (128 - length w)) (length w) g inside)
+
+-- an array's length, as the machine tells it
+pub sized : (l : List ℕ) (n : ℕ) → length (map (λ (v : ℕ). v) l) ≡ n → length l ≡ n
+sized l n h = sym (length-map l (λ (v : ℕ). v)) ∙ h
+
+-- a turn of the loop that copies, and its end
+pub copy-turn : (d₀ d s : List ℕ) (to i : ℕ) → d ≡ paste d₀ to s i → to + i < length d₀ → i < length s
+    → set d (to + i) (getD s i 0) ≡ paste d₀ to s (i + 1)
+copy-turn d₀ d s to i e h g = rw (e, add-one i) (paste-suc d₀ to s i 0 h g)
+
+pub copy-end : (d₀ d s : List ℕ) (to i n : ℕ) → d ≡ paste d₀ to s i → i ≤ n → n ≤ i → d ≡ paste d₀ to s n
+copy-end d₀ d s to i n e h g = let same : i ≡ n = omega arith in e ∙ ap (λ (k : ℕ). paste d₀ to s k) same

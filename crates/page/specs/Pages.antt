@@ -1,0 +1,21 @@
+-- A line behind the first bytes of a page.
+-- Assumes nothing.
+use Prim.Native.Nat.{ℕ, _+_, _-_}
+use mathlib.Core.Bool.{Bool, cond}
+use mathlib.Core.List.{List, [], _∷_}
+use lib.ListN.{length}
+use lib.Seq.{paste}
+use lib.Dec.{leb}
+use Rattle.laws.specs.Lists.{every}
+use Rattle.text.specs.declared.Line.{Line}
+
+-- there is room for the line behind the first `at` bytes
+unfoldable pub hasRoom : List ℕ → ℕ → Line → Bool
+hasRoom out at l = every (leb (l .len) 128 ∷ leb at (length out) ∷ leb (l .len) (length out - at) ∷ [])
+
+-- the page with the line there, and where the line ends; `paste out at w n` is out with the first n bytes of w from `at` on
+unfoldable pub appended : List ℕ → ℕ → Line → List ℕ
+appended out at l = cond (hasRoom out at l) (paste out at (l .bytes) (l .len)) out
+
+unfoldable pub endOf : List ℕ → ℕ → Line → ℕ
+endOf out at l = cond (hasRoom out at l) (at + l .len) at

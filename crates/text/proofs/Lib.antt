@@ -1,0 +1,4 @@
+pub mod Puts
+pub mod Back
+pub mod Signs
+pub mod Nibbles

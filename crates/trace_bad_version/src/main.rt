@@ -1,0 +1,4 @@
+// The trace program on a sheet of another version.
+fn main() {
+    trace_run::run();
+}
