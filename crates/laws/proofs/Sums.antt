@@ -5,9 +5,9 @@ use native.Mathlib.Nat.{mul-add, mul-zero, zero-mul, suc-mul, le-of-eq, zero-add
 use native.Mathlib.Numerals.{add-one}
 use native.Mathlib.Omega.{arith}
 use mathlib.Core.Path.{_≡_, refl, ap, ap₂, sym, subst, subst⁻¹, _∙_}
-use mathlib.Core.List.{List, [], _∷_, _++_, map}
+use mathlib.Core.List.{List, [], _∷_, _++_}
 use mathlib.Core.Bool.{Bool, true, false, cond, _&&_, _||_, or-false}
-use lib.ListN.{length, take, getD, length-take, length-map}
+use lib.ListN.{length, take, getD, length-take}
 use lib.Seq.{take-suc, getD-take}
 use Rattle.laws.specs.Lists.{every, below, all, any, sum, top, All}
 
@@ -217,7 +217,3 @@ all-below P (suc n) f = (f n (omega arith), all-below P n (λ k h. f k (omega ar
 pub length-below : (n : ℕ) → length (below n) ≡ n
 length-below zero = refl
 length-below (suc n) = ap suc (length-below n)
-
--- an array that is a field of a struct stands in the machine's relation as a `map` of its list
-pub length-of-map : (X Y : Type 0) (f : X → Y) (l : List X) (n : ℕ) → length (map f l) ≡ n → length l ≡ n
-length-of-map X Y f l n e = sym (length-map l f) ∙ e

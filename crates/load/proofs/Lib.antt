@@ -1,7 +1,7 @@
 -- Laws that the functions' proofs cite, and the uniqueness of what the public functions answer. Assumes nothing.
 pub mod Bounds
 pub mod RowLaws
-pub mod Between
+pub mod Steady
 pub mod Ranges
 pub mod Cycling
 pub mod Settle

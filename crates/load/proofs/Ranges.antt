@@ -21,7 +21,7 @@ use Rattle.load.specs.declared.Tested.the-variants.{Clear, Late as Found
 use Rattle.load.specs.Dues.{RowsOf}
 use Rattle.load.specs.Held.{blockingsOf, NextDeadline}
 use Rattle.load.specs.Lengths.{NoneLate, FirstLate, TestedBy, rowsWith, Spanned, Ranged}
-use Rattle.load.proofs.Between.{same-demand}
+use Rattle.load.proofs.Steady.{same-demand}
 
 module _ (f : ℕ → ℕ) (a : ℕ) where
   pub none-yet : NoneLate f a a

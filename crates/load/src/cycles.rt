@@ -61,7 +61,7 @@ fn join_stream(h: u32, s: Stream) -> Joined
 }
 
 // The least common multiple of all cycles of a valid set, 1 where there are none.
-pub fn join_all(x: Set) -> Joined
+pub(crate) fn join_all(x: Set) -> Joined
     requires { ⌜ ValidSet x ⌝ }
     ensures { λ r. ⌜ JoinedBy 1 (CommonOf (streamsOf x)) r ⌝ }
 {
@@ -115,7 +115,7 @@ fn stream_load(s: Stream, h: u32) -> u64
 }
 
 // The sum of c times H / z over the cyclic tuples.
-pub fn load_of(x: Set, h: u32) -> u64
+pub(crate) fn load_of(x: Set, h: u32) -> u64
     requires { ⌜ (ValidSet x) × (h ≤ 1000000) ⌝ }
     ensures { λ r. ⌜ r ≡ load (streamsOf x) h ⌝ }
 {

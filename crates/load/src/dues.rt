@@ -68,7 +68,7 @@ fn put_stream(t: Rows, s: Stream) -> Rows
     r
 }
 
-pub fn rows_of(x: Set) -> Rows
+pub(crate) fn rows_of(x: Set) -> Rows
     requires { ⌜ ValidSet x ⌝ }
     ensures { λ r. ⌜ RowsOf (streamsOf x) r ⌝ }
 {
@@ -97,7 +97,13 @@ fn row_due(cost: u32, first: u32, cycle: u32, i: u32) -> u64
 }
 
 // What the first n rows add by the length i.
-pub fn dues_at(costs: &[u32; 64], firsts: &[u32; 64], cycles: &[u32; 64], n: usize, i: u32) -> u64
+pub(crate) fn dues_at(
+    costs: &[u32; 64],
+    firsts: &[u32; 64],
+    cycles: &[u32; 64],
+    n: usize,
+    i: u32,
+) -> u64
     requires { ⌜ Sound (now costs) (now cycles) n ⌝ }
     ensures { λ r. ⌜ r ≡ duesBelow (now (costs .entry)) (now (firsts .entry)) (now (cycles .entry)) n i ⌝ }
 {
@@ -110,7 +116,7 @@ pub fn dues_at(costs: &[u32; 64], firsts: &[u32; 64], cycles: &[u32; 64], n: usi
     acc
 }
 
-pub fn rows_due(t: Rows, i: u32) -> u64
+pub(crate) fn rows_due(t: Rows, i: u32) -> u64
     requires { ⌜ Sound (t .costs) (t .cycles) (t .count) ⌝ }
     ensures { λ r. ⌜ r ≡ rowsDue t i ⌝ }
 {

@@ -56,7 +56,7 @@ fn with_task(acc: u64, units: u32) -> u64
 }
 
 // The blocking of all tasks at a length.
-pub fn blockings(x: Set, i: u32) -> u64
+pub(crate) fn blockings(x: Set, i: u32) -> u64
     requires { ⌜ ValidSet x ⌝ }
     ensures { λ r. ⌜ r ≡ blockingsOf (streamsOf x) i ⌝ }
 {
@@ -81,7 +81,7 @@ fn nearer(i: u32, d: u32, nearest: u32) -> u32
 }
 
 // The first deadline after i, or the end: up to there the blocking is that of i.
-pub fn next_deadline(x: Set, i: u32, end: u32) -> u32
+pub(crate) fn next_deadline(x: Set, i: u32, end: u32) -> u32
     requires { ⌜ (ValidSet x) × (i < end) ⌝ }
     ensures { λ r. ⌜ NextDeadline (streamsOf x) i end r ⌝ }
 {

@@ -69,7 +69,7 @@ fn greatest_offset(x: Set) -> u32
 }
 
 // 7, 8 and overload stop a check before any length. Else the lengths to test are those from 1 up to the end.
-pub fn opening(x: Set) -> Opening
+pub(crate) fn opening(x: Set) -> Opening
     ensures { λ r. ⌜ OpeningOf x r ⌝ }
 {
     if !streams::is_valid(x) {
@@ -116,7 +116,7 @@ fn test_span(t: Rows, blocked: u64, from: u32, stop: u32) -> Tested
 }
 
 // The lengths from `from` up to `end`, in order, from deadline to deadline.
-pub fn test_range(x: Set, from: u32, end: u32) -> Tested
+pub(crate) fn test_range(x: Set, from: u32, end: u32) -> Tested
     requires { ⌜ (ValidSet x) × (from ≤ end) ⌝ }
     ensures { λ r. ⌜ Ranged (streamsOf x) from end r ⌝ }
 {

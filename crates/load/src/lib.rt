@@ -15,13 +15,13 @@ use rules::Set;
 use rules::Verdict;
 
 // H so far, or that it is above 1,000,000.
-pub enum Joined {
+pub(crate) enum Joined {
     Is(u32),
     Above,
 }
 
 // The tuples of a set as rows: row k is due first at the length firsts[k], and again each cycles[k], with costs[k] each time.
-pub struct Rows {
+pub(crate) struct Rows {
     pub count: usize,
     pub costs: [u32; 64],
     pub firsts: [u32; 64],
@@ -29,13 +29,13 @@ pub struct Rows {
 }
 
 // What testing a row of lengths finds: no late one, or the first late one and its demand.
-pub enum Tested {
+pub(crate) enum Tested {
     Clear,
     Late(u64, u64),
 }
 
 // How a check begins: it is stopped before any length, or it goes on up to an end, which is not tested.
-pub enum Opening {
+pub(crate) enum Opening {
     Stops(Verdict),
     Until(u32),
 }

@@ -1,14 +1,15 @@
 -- The ways out of each step, as the code goes.
 -- Assumes nothing.
-use Prim.Native.Nat.{ℕ, _+_, _≤_, _<_}
+use Prim.Native.Nat.{ℕ, _+_, _-_, _≤_, _<_}
 use mathlib.Core.Bool.{Bool, true, false, cond}
 use mathlib.Core.Path.{_≡_, refl, ap, sym, _∙_}
 use native.Mathlib.Omega.{arith}
 use borrow.Author.Tests.{lt-ltb, le-ltb, eq-eqb, ne-eqb}
 use lib.Dec.{ltb, eqb}
 use lib.IntN.{ℤ}
-use lib.ListN.{length, getD}
-use Rattle.laws.proofs.Parts.{getD-any}
+use lib.ListN.{length, getD, set, length-set}
+use Rattle.laws.proofs.Parts.{getD-any, remove-step, remove-last}
+use Rattle.laws.specs.Lists.{remove}
 use Rattle.rules.specs.declared.Set.{Set}
 use Rattle.rules.specs.declared.Stream.{Stream}
 use Rattle.rules.specs.declared.Message.{Message}
@@ -18,9 +19,10 @@ use Rattle.rules.specs.declared.PostResult.{PostResult}
 use Rattle.rules.specs.declared.PostAnswer.the-variants.{Posted}
 use Rattle.rules.specs.declared.ChooseAnswer.the-variants.{Nothing, Runs, Refused as ChooseRefused}
 use Rattle.rules.specs.declared.UnitResult.{UnitResult}
+use Rattle.rules.specs.declared.UnitAnswer.{UnitAnswer}
 use Rattle.rules.specs.declared.UnitAnswer.the-variants.{Ran, Finished, Cut, Idle, Refused as UnitRefused}
 use Rattle.rules.specs.Streams.{streamAt, noStream}
-use Rattle.rules.specs.States.{wellFormed, taskOf, costOf}
+use Rattle.rules.specs.States.{noMessage, wellFormed, taskOf, costOf}
 use Rattle.rules.specs.Steps.{newMessage, added, postRefused, postOf, messageAt, placeOf, chooseOf, ticked, stayed, departed, laxityOf, answered, servedOf, emptyUnit, unitOf}
 use Rattle.rules.proofs.Valid.{valid-set}
 use Rattle.states.proofs.WellFormed.{blank, well-formed, sound, stream-valid, stands, stream-place, stream-read, message-stream}
@@ -55,10 +57,10 @@ module _ (s : State) (k : ℕ) where
         pub post-fits : s .clock + getD (s .set .streams) k blank .deadline < 4000200001
         post-fits = rw read (omega (arith, well-formed s w .clock, stream-valid (s .set) k (well-formed s w .set) ss h .deadline .high))
 
-        pub posted : (t : State) → t ≡ added s (record { stream = k; deadline = s .clock + getD (s .set .streams) k blank .deadline; used = 0 }) → s .count < 64
-            → _≡_ {A = PostResult} (record { answer = Posted k (s .clock + getD (s .set .streams) k blank .deadline); state = t }) (postOf s k)
+        pub posted : s .count < 64
+            → _≡_ {A = PostResult} (record { answer = Posted k (s .clock + getD (s .set .streams) k blank .deadline); state = added s (record { stream = k; deadline = s .clock + getD (s .set .streams) k blank .deadline; used = 0 }) }) (postOf s k)
         unfolding postOf
-        posted t e g = rw (e, read, w, lt-ltb _ _ h, lt-ltb _ _ g)
+        posted g = rw (read, w, lt-ltb _ _ h, lt-ltb _ _ g)
 
 -- ---- the message that is served
 
@@ -102,27 +104,48 @@ module _ (s : State) where
 
 -- ---- unit
 
-module _ (s : State) (i : ℕ) (done : Bool) (x : Stream) (e : x ≡ streamAt (s .set) (messageAt s i .stream)) (r : UnitResult) (t : State) where
-  pub served-done : (z : ℤ) → r ≡ answered t (Finished (x .task) (messageAt s i .stream) z) → t ≡ departed s i → z ≡ laxityOf (messageAt s i .deadline) (s .clock + 1) → done ≡ true → r ≡ servedOf s i done
+module _ (s : State) (i : ℕ) (done : Bool) (x : Stream) (e : x ≡ streamAt (s .set) (messageAt s i .stream)) (r : UnitResult) where
+  pub served-done : (z : ℤ) → r ≡ answered (departed s i) (Finished (x .task) (messageAt s i .stream) z) → z ≡ laxityOf (messageAt s i .deadline) (s .clock + 1) → done ≡ true → r ≡ servedOf s i done
   unfolding servedOf
-  served-done z e₀ e₁ e₂ d = rw (d, e₀, e₁, e₂, e)
+  served-done z e₀ e₂ d = rw (d, e₀, e₂, e)
 
-  pub served-cut : (z : ℤ) → r ≡ answered t (Cut (x .task) (messageAt s i .stream) z) → t ≡ departed s i → z ≡ laxityOf (messageAt s i .deadline) (s .clock + 1) → done ≡ false → messageAt s i .used + 1 ≡ x .cost → r ≡ servedOf s i done
+  pub served-cut : (z : ℤ) → r ≡ answered (departed s i) (Cut (x .task) (messageAt s i .stream) z) → z ≡ laxityOf (messageAt s i .deadline) (s .clock + 1) → done ≡ false → messageAt s i .used + 1 ≡ x .cost → r ≡ servedOf s i done
   unfolding servedOf
-  served-cut z e₀ e₁ e₂ d h = rw (d, eq-eqb (messageAt s i .used + 1) (costOf (s .set) (messageAt s i)) (h ∙ ap (λ (y : Stream). y .cost) e), e₀, e₁, e₂, e)
+  served-cut z e₀ e₂ d h = rw (d, eq-eqb (messageAt s i .used + 1) (costOf (s .set) (messageAt s i)) (h ∙ ap (λ (y : Stream). y .cost) e), e₀, e₂, e)
 
-  pub served-ran : r ≡ answered t (Ran (x .task) (messageAt s i .stream)) → t ≡ stayed s i → done ≡ false → (messageAt s i .used + 1 ≡ x .cost → ⊥) → r ≡ servedOf s i done
+  pub served-ran : r ≡ answered (stayed s i) (Ran (x .task) (messageAt s i .stream)) → done ≡ false → (messageAt s i .used + 1 ≡ x .cost → ⊥) → r ≡ servedOf s i done
   unfolding servedOf
-  served-ran e₀ e₁ d h = rw (d, ne-eqb (messageAt s i .used + 1) (costOf (s .set) (messageAt s i)) (λ q. h (q ∙ ap (λ (y : Stream). y .cost) (sym e))), e₀, e₁, e)
+  served-ran e₀ d h = rw (d, ne-eqb (messageAt s i .used + 1) (costOf (s .set) (messageAt s i)) (λ q. h (q ∙ ap (λ (y : Stream). y .cost) (sym e))), e₀, e)
+
+-- the state while messages move up, and once they have
+pub record Moving (s : State) (i : ℕ) (next : State) (k : ℕ) : Type 0 where
+  pub set : next .set ≡ s .set
+  pub long : length (next .messages) ≡ 64
+  pub moved : remove noMessage k (next .messages) ≡ remove noMessage i (s .messages)
+
+pub moving-go : (s : State) (i : ℕ) (next : State) (k : ℕ) → Moving s i next k → k < 63
+    → Moving s i (record { set = next .set; clock = next .clock; count = next .count; messages = set (next .messages) k (getD (next .messages) (k + 1) noMessage) }) (k + 1)
+moving-go s i next k h q = record {
+  set = h .set;
+  long = simp length-set (h .long);
+  moved = remove-step noMessage k (next .messages) (omega (arith, h .long)) ∙ h .moved;
+}
+
+pub moved-up : (s : State) (i : ℕ) (next : State) (k : ℕ) (a : UnitAnswer) → Moving s i next k → 63 ≡ k
+    → _≡_ {A = UnitResult} (record { answer = a; state = record { set = next .set; clock = s .clock + 1; count = s .count - 1; messages = set (next .messages) 63 noMessage } }) (answered (departed s i) a)
+moved-up s i next k a h e =
+    let m : set (next .messages) 63 noMessage ≡ remove noMessage i (s .messages) =
+    sym (remove-last noMessage 63 (next .messages) (h .long)) ∙ (ap (λ (j : ℕ). remove noMessage j (next .messages)) e ∙ h .moved) in
+    rw (h .set, m)
 
 module _ (s : State) (done : Bool) where
   pub rest-4 : done ≡ true → answered s (UnitRefused NothingPending) ≡ emptyUnit s done
   unfolding emptyUnit
   rest-4 d = rw d
 
-  pub rest-idle : (t : State) → t ≡ ticked s → done ≡ false → answered t Idle ≡ emptyUnit s done
+  pub rest-idle : done ≡ false → answered (ticked s) Idle ≡ emptyUnit s done
   unfolding emptyUnit
-  rest-idle t e d = rw (d, e)
+  rest-idle d = rw d
 
   pub unit-12 : wellFormed s ≡ false → answered s (UnitRefused IllFormed) ≡ unitOf s done
   unfolding unitOf

@@ -1,9 +1,7 @@
 // The steps of the scheduler: start, post, choose and unit.
 ghost use mathlib.Core.Path.{_≡_};
 ghost use Prim.Native.Nat.{_<_};
-ghost use Rattle.laws.specs.Lists.{remove};
-ghost use Rattle.rules.specs.States.{noMessage};
-ghost use Rattle.rules.specs.Steps.{fresh, startOf, added, postRefused, postOf, chooseOf, ticked, stayed, departed, laxityOf, answered, emptyUnit, servedOf, unitOf};
+ghost use Rattle.rules.specs.Steps.{fresh, startOf, postRefused, postOf, chooseOf, ticked, stayed, departed, laxityOf, answered, emptyUnit, servedOf, unitOf};
 ghost use Rattle.scheduler.specs.Serving.{Servable};
 use choosing::Found;
 use rules::ChooseAnswer;
@@ -64,18 +62,6 @@ fn refuse_post(s: State, why: Refusal) -> PostResult
     }
 }
 
-// The message goes last.
-fn add(s: State, m: Message) -> State
-    requires { ⌜ s .count < 64 ⌝ }
-    ensures { λ r. ⌜ r ≡ added s m ⌝ }
-{
-    let at = s.count;
-    let mut next = s;
-    next.messages[at] = m;
-    next.count = at + 1;
-    next
-}
-
 // A message of the stream k, or 12, 1 or 2.
 pub fn post(s: State, k: usize) -> PostResult
     ensures { λ r. ⌜ r ≡ postOf s k ⌝ }
@@ -86,14 +72,14 @@ pub fn post(s: State, k: usize) -> PostResult
             if s.count < 64 {
                 let x = set.streams[k];
                 let d = s.clock + x.deadline;
-                let next = add(
-                    s,
-                    Message {
-                        stream: k,
-                        deadline: d,
-                        used: 0,
-                    },
-                );
+                let at = s.count;
+                let mut next = s;
+                next.messages[at] = Message {
+                    stream: k,
+                    deadline: d,
+                    used: 0,
+                };
+                next.count = at + 1;
                 let a = PostAnswer::Posted(k, d);
                 return PostResult {
                     answer: a,
@@ -137,66 +123,67 @@ fn laxity(deadline: u32, clock: u32) -> i64
     d - c
 }
 
-// The messages without the one at i, in their order, and a zero place at the end.
-fn without(a: [Message; 64], i: usize) -> [Message; 64]
-    requires { ⌜ i < 64 ⌝ }
-    ensures { λ r. ⌜ r ≡ remove noMessage i a ⌝ }
-{
-    let mut b = a;
-    let mut k = i;
-    while k < 63 {
-        let m = b[k + 1];
-        b[k] = m;
-        k = k + 1;
-    }
-    b[63] = Message {
-        stream: 0,
-        deadline: 0,
-        used: 0,
-    };
-    b
-}
-
-fn tick(s: State) -> State
-    requires { ⌜ s .clock < 4000000000 ⌝ }
-    ensures { λ r. ⌜ r ≡ ticked s ⌝ }
-{
-    let mut next = s;
-    next.clock = s.clock + 1;
-    next
-}
-
-fn stay(s: State, i: usize) -> State
-    requires { ⌜ Servable s i ⌝ }
-    ensures { λ r. ⌜ r ≡ stayed s i ⌝ }
-{
-    let mut m = s.messages[i];
-    m.used = m.used + 1;
-    let mut next = s;
-    next.messages[i] = m;
-    next.clock = s.clock + 1;
-    next
-}
-
-fn leave(s: State, i: usize) -> State
-    requires { ⌜ Servable s i ⌝ }
-    ensures { λ r. ⌜ r ≡ departed s i ⌝ }
-{
-    let a = s.messages;
-    let b = without(a, i);
-    let mut next = s;
-    next.messages = b;
-    next.count = s.count - 1;
-    next.clock = s.clock + 1;
-    next
-}
-
 fn answer(s: State, a: UnitAnswer) -> UnitResult
     ensures { λ r. ⌜ r ≡ answered s a ⌝ }
 {
     UnitResult {
         answer: a,
         state: s,
+    }
+}
+
+// Only the clock moves.
+fn tick(s: State) -> UnitResult
+    requires { ⌜ s .clock < 4000000000 ⌝ }
+    ensures { λ r. ⌜ r ≡ answered (ticked s) UnitAnswer.Idle ⌝ }
+{
+    let mut next = s;
+    next.clock = s.clock + 1;
+    let a = UnitAnswer::Idle;
+    UnitResult {
+        answer: a,
+        state: next,
+    }
+}
+
+// The message at i gains a unit and stays.
+fn stay(s: State, i: usize, a: UnitAnswer) -> UnitResult
+    requires { ⌜ Servable s i ⌝ }
+    ensures { λ r. ⌜ r ≡ answered (stayed s i) a ⌝ }
+{
+    let mut m = s.messages[i];
+    m.used = m.used + 1;
+    let mut next = s;
+    next.messages[i] = m;
+    next.clock = s.clock + 1;
+    UnitResult {
+        answer: a,
+        state: next,
+    }
+}
+
+// The message at i leaves: those behind it move up, in their order, and the last place is zero.
+fn leave(s: State, i: usize, a: UnitAnswer) -> UnitResult
+    requires { ⌜ Servable s i ⌝ }
+    ensures { λ r. ⌜ r ≡ answered (departed s i) a ⌝ }
+{
+    let mut next = s;
+    let mut k = i;
+    while k < 63 {
+        let m = next.messages[k + 1];
+        next.messages[k] = m;
+        k = k + 1;
+    }
+    next.messages[63] = Message {
+        stream: 0,
+        deadline: 0,
+        used: 0,
+    };
+    next.count = s.count - 1;
+    next.clock = s.clock + 1;
+    UnitResult {
+        answer: a,
+        state: next,
     }
 }
 
@@ -210,18 +197,20 @@ fn serve(s: State, i: usize, done: bool) -> UnitResult
     let k = m.stream;
     let x = set.streams[k];
     if done {
-        return answer(
-            leave(s, i),
+        return leave(
+            s,
+            i,
             UnitAnswer::Finished(x.task, k, laxity(m.deadline, s.clock + 1)),
         );
     }
     if m.used + 1 == x.cost {
-        return answer(
-            leave(s, i),
+        return leave(
+            s,
+            i,
             UnitAnswer::Cut(x.task, k, laxity(m.deadline, s.clock + 1)),
         );
     }
-    answer(stay(s, i), UnitAnswer::Ran(x.task, k))
+    stay(s, i, UnitAnswer::Ran(x.task, k))
 }
 
 // A unit with nothing pending.
@@ -232,7 +221,7 @@ fn rest(s: State, done: bool) -> UnitResult
     if done {
         return answer(s, UnitAnswer::Refused(Refusal::NothingPending));
     }
-    answer(tick(s), UnitAnswer::Idle)
+    tick(s)
 }
 
 // A unit of running, or 12, 3 or 4.

@@ -6,7 +6,7 @@ use mathlib.Core.Path.{_≡_, refl, ap, ap₂, subst, sym, _∙_}
 use Rattle.rules.specs.Streams.{streamsOf}
 use Rattle.rules.proofs.Valid.{valid-set}
 use Rattle.load.proofs.Bounds.{dues-fit, blockings-fit}
-use Rattle.load.proofs.Between.{demand-is, demand-refused}
+use Rattle.load.proofs.Steady.{demand-is, demand-refused}
 use Rattle.load.proofs.demand.Statement.{statement}
 use Rattle.load.proofs.demand.Tie as tie
 

@@ -22,11 +22,17 @@ element-copy-out-x c = post-place (c .before .before .before .before .before .be
 add-d : tie.Need-add-d
 add-d c = omega (arith, post-fits (c .before .before .before .before .before .before .before .before .before .args .s) (c .before .before .before .before .before .before .before .before .before .args .k) (sym (c .before .before .before .before .before .before .before .before .well-formed .ensures) ∙ c .before .before .before .before .before .before .before .if1 .taken) (c .before .before .before .before .before .if2 .taken) (sized _ (c .before .before .before .before .before .before .before .before .before .args .s .set .streams) 16 (c .before .before .before .before .before .before .before .before .before .good .0 .1 .1 .0 .1 .1 .1 .0 .1 .0 .1)))
 
-add-requires : tie.Need-add-requires
-add-requires c κs = search needs
+mul-t13 : tie.Need-mul-t13
+mul-t13 c = search needs
+
+element-set-from-next : tie.Need-element-set-from-next
+element-set-from-next c = search needs
+
+add-next : tie.Need-add-next
+add-next c = search needs
 
 returns : tie.Need-returns
-returns c = posted (c .before .before .before .before .before .before .before .before .before .before .args .s) (c .before .before .before .before .before .before .before .before .before .before .args .k) (sym (c .before .before .before .before .before .before .before .before .before .well-formed .ensures) ∙ c .before .before .before .before .before .before .before .before .if1 .taken) (c .before .before .before .before .before .before .if2 .taken) (sized _ (c .before .before .before .before .before .before .before .before .before .before .args .s .set .streams) 16 (c .before .before .before .before .before .before .before .before .before .before .good .0 .1 .1 .0 .1 .1 .1 .0 .1 .0 .1)) _ (c .add .ensures) (c .before .before .before .before .if3 .taken)
+returns c = posted (c .before .before .before .before .before .before .before .before .before .args .s) (c .before .before .before .before .before .before .before .before .before .args .k) (sym (c .before .before .before .before .before .before .before .before .well-formed .ensures) ∙ c .before .before .before .before .before .before .before .if1 .taken) (c .before .before .before .before .before .if2 .taken) (sized _ (c .before .before .before .before .before .before .before .before .before .args .s .set .streams) 16 (c .before .before .before .before .before .before .before .before .before .good .0 .1 .1 .0 .1 .1 .1 .0 .1 .0 .1)) (c .before .before .before .if3 .taken)
 
 refuse-post-requires : tie.Need-refuse-post-requires
 refuse-post-requires c κs = search needs
@@ -54,7 +60,9 @@ post-spec =
     mul-x
     element-copy-out-x
     add-d
-    add-requires
+    mul-t13
+    element-set-from-next
+    add-next
     returns
     refuse-post-requires
     returns-2

@@ -14,11 +14,8 @@ returns c = c .answer .ensures ∙ rest-4 (c .before .before .args .s) (c .befor
 tick-requires : tie.Need-tick-requires
 tick-requires c κs = search needs
 
-answer-requires-2 : tie.Need-answer-requires-2
-answer-requires-2 c κs = search needs
-
 returns-2 : tie.Need-returns-2
-returns-2 c = c .answer2 .ensures ∙ rest-idle (c .before .before .before .args .s) (c .before .before .before .args .done) _ (c .before .tick .ensures) (c .before .before .if1 .left)
+returns-2 c = c .tick .ensures ∙ rest-idle (c .before .before .args .s) (c .before .before .args .done) (c .before .if1 .left)
 
 pub rest-spec : {M : Type 1} → statement M
-rest-spec = tie.close (tie.spec answer-requires returns tick-requires answer-requires-2 returns-2)
+rest-spec = tie.close (tie.spec answer-requires returns tick-requires returns-2)

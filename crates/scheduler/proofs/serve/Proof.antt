@@ -25,26 +25,20 @@ mul-x c = search needs
 element-copy-out-x : tie.Need-element-copy-out-x
 element-copy-out-x c = search needs
 
-leave-requires : tie.Need-leave-requires
-leave-requires c κs = search needs
-
 add-laxity : tie.Need-add-laxity
 add-laxity c = search needs
 
 laxity-requires : tie.Need-laxity-requires
 laxity-requires c κs = search needs
 
-answer-requires : tie.Need-answer-requires
-answer-requires c κs = search needs
+leave-requires : tie.Need-leave-requires
+leave-requires c κs = search needs
 
 returns : tie.Need-returns
-returns c = served-done (c .before .before .before .before .before .before .before .args .t1) (c .before .before .before .before .before .before .before .args .i) (c .before .before .before .before .before .before .before .args .done) (getD (c .before .before .before .before .before .before .before .args .t1 .set .streams) (getD (c .before .before .before .before .before .before .before .args .t1 .messages) (c .before .before .before .before .before .before .before .args .i) noMessage .stream) blank) (getD-any (c .before .before .before .before .before .before .before .args .t1 .set .streams) (getD (c .before .before .before .before .before .before .before .args .t1 .messages) (c .before .before .before .before .before .before .before .args .i) noMessage .stream) blank noStream (omega (arith, c .before .before .before .before .before .before .before .pre .stream, (sized _ (c .before .before .before .before .before .before .before .args .t1 .set .streams) 16 (c .before .before .before .before .before .before .before .good .0 .1 .1 .0 .1 .1 .1 .0 .1 .0 .1))))) _ _ _ (c .answer .ensures) (c .before .before .leave .ensures) (kept (getD (c .before .before .before .before .before .before .before .args .t1 .messages) (c .before .before .before .before .before .before .before .args .i) noMessage .deadline) (c .before .before .before .before .before .before .before .args .t1 .clock + 1) _ (c .before .laxity .ensures) (c .before .before .before .before .before .before .before .pre .deadline) (omega (arith, c .before .before .before .before .before .before .before .pre .clock))) (c .before .before .before .if1 .taken)
+returns c = served-done (c .before .before .before .before .before .before .args .t1) (c .before .before .before .before .before .before .args .i) (c .before .before .before .before .before .before .args .done) (getD (c .before .before .before .before .before .before .args .t1 .set .streams) (getD (c .before .before .before .before .before .before .args .t1 .messages) (c .before .before .before .before .before .before .args .i) noMessage .stream) blank) (getD-any (c .before .before .before .before .before .before .args .t1 .set .streams) (getD (c .before .before .before .before .before .before .args .t1 .messages) (c .before .before .before .before .before .before .args .i) noMessage .stream) blank noStream (omega (arith, c .before .before .before .before .before .before .pre .stream, (sized _ (c .before .before .before .before .before .before .args .t1 .set .streams) 16 (c .before .before .before .before .before .before .good .0 .1 .1 .0 .1 .1 .1 .0 .1 .0 .1))))) _ _ (c .leave .ensures) (kept (getD (c .before .before .before .before .before .before .args .t1 .messages) (c .before .before .before .before .before .before .args .i) noMessage .deadline) (c .before .before .before .before .before .before .args .t1 .clock + 1) _ (c .before .laxity .ensures) (c .before .before .before .before .before .before .pre .deadline) (omega (arith, c .before .before .before .before .before .before .pre .clock))) (c .before .before .if1 .taken)
 
 add-if2 : tie.Need-add-if2
 add-if2 c = search needs
-
-leave-requires-2 : tie.Need-leave-requires-2
-leave-requires-2 c κs = search needs
 
 add-laxity-2 : tie.Need-add-laxity-2
 add-laxity-2 c = search needs
@@ -52,20 +46,17 @@ add-laxity-2 c = search needs
 laxity-requires-2 : tie.Need-laxity-requires-2
 laxity-requires-2 c κs = search needs
 
-answer-requires-2 : tie.Need-answer-requires-2
-answer-requires-2 c κs = search needs
+leave-requires-2 : tie.Need-leave-requires-2
+leave-requires-2 c κs = search needs
 
 returns-2 : tie.Need-returns-2
-returns-2 c = served-cut (c .before .before .before .before .before .before .before .before .before .before .args .t1) (c .before .before .before .before .before .before .before .before .before .before .args .i) (c .before .before .before .before .before .before .before .before .before .before .args .done) (getD (c .before .before .before .before .before .before .before .before .before .before .args .t1 .set .streams) (getD (c .before .before .before .before .before .before .before .before .before .before .args .t1 .messages) (c .before .before .before .before .before .before .before .before .before .before .args .i) noMessage .stream) blank) (getD-any (c .before .before .before .before .before .before .before .before .before .before .args .t1 .set .streams) (getD (c .before .before .before .before .before .before .before .before .before .before .args .t1 .messages) (c .before .before .before .before .before .before .before .before .before .before .args .i) noMessage .stream) blank noStream (omega (arith, c .before .before .before .before .before .before .before .before .before .before .pre .stream, (sized _ (c .before .before .before .before .before .before .before .before .before .before .args .t1 .set .streams) 16 (c .before .before .before .before .before .before .before .before .before .before .good .0 .1 .1 .0 .1 .1 .1 .0 .1 .0 .1))))) _ _ _ (c .answer2 .ensures) (c .before .before .leave2 .ensures) (kept (getD (c .before .before .before .before .before .before .before .before .before .before .args .t1 .messages) (c .before .before .before .before .before .before .before .before .before .before .args .i) noMessage .deadline) (c .before .before .before .before .before .before .before .before .before .before .args .t1 .clock + 1) _ (c .before .laxity2 .ensures) (c .before .before .before .before .before .before .before .before .before .before .pre .deadline) (omega (arith, c .before .before .before .before .before .before .before .before .before .before .pre .clock))) (c .before .before .before .before .before .before .if1 .left) (c .before .before .before .if2 .taken)
+returns-2 c = served-cut (c .before .before .before .before .before .before .before .before .before .args .t1) (c .before .before .before .before .before .before .before .before .before .args .i) (c .before .before .before .before .before .before .before .before .before .args .done) (getD (c .before .before .before .before .before .before .before .before .before .args .t1 .set .streams) (getD (c .before .before .before .before .before .before .before .before .before .args .t1 .messages) (c .before .before .before .before .before .before .before .before .before .args .i) noMessage .stream) blank) (getD-any (c .before .before .before .before .before .before .before .before .before .args .t1 .set .streams) (getD (c .before .before .before .before .before .before .before .before .before .args .t1 .messages) (c .before .before .before .before .before .before .before .before .before .args .i) noMessage .stream) blank noStream (omega (arith, c .before .before .before .before .before .before .before .before .before .pre .stream, (sized _ (c .before .before .before .before .before .before .before .before .before .args .t1 .set .streams) 16 (c .before .before .before .before .before .before .before .before .before .good .0 .1 .1 .0 .1 .1 .1 .0 .1 .0 .1))))) _ _ (c .leave2 .ensures) (kept (getD (c .before .before .before .before .before .before .before .before .before .args .t1 .messages) (c .before .before .before .before .before .before .before .before .before .args .i) noMessage .deadline) (c .before .before .before .before .before .before .before .before .before .args .t1 .clock + 1) _ (c .before .laxity2 .ensures) (c .before .before .before .before .before .before .before .before .before .pre .deadline) (omega (arith, c .before .before .before .before .before .before .before .before .before .pre .clock))) (c .before .before .before .before .before .if1 .left) (c .before .before .if2 .taken)
 
 stay-requires : tie.Need-stay-requires
 stay-requires c κs = search needs
 
-answer-requires-3 : tie.Need-answer-requires-3
-answer-requires-3 c κs = search needs
-
 returns-3 : tie.Need-returns-3
-returns-3 c = served-ran (c .before .before .before .before .before .before .before .before .before .args .t1) (c .before .before .before .before .before .before .before .before .before .args .i) (c .before .before .before .before .before .before .before .before .before .args .done) (getD (c .before .before .before .before .before .before .before .before .before .args .t1 .set .streams) (getD (c .before .before .before .before .before .before .before .before .before .args .t1 .messages) (c .before .before .before .before .before .before .before .before .before .args .i) noMessage .stream) blank) (getD-any (c .before .before .before .before .before .before .before .before .before .args .t1 .set .streams) (getD (c .before .before .before .before .before .before .before .before .before .args .t1 .messages) (c .before .before .before .before .before .before .before .before .before .args .i) noMessage .stream) blank noStream (omega (arith, c .before .before .before .before .before .before .before .before .before .pre .stream, (sized _ (c .before .before .before .before .before .before .before .before .before .args .t1 .set .streams) 16 (c .before .before .before .before .before .before .before .before .before .good .0 .1 .1 .0 .1 .1 .1 .0 .1 .0 .1))))) _ _ (c .answer3 .ensures) (c .before .stay .ensures) (c .before .before .before .before .before .if1 .left) (c .before .before .if2 .left)
+returns-3 c = served-ran (c .before .before .before .before .before .before .before .before .args .t1) (c .before .before .before .before .before .before .before .before .args .i) (c .before .before .before .before .before .before .before .before .args .done) (getD (c .before .before .before .before .before .before .before .before .args .t1 .set .streams) (getD (c .before .before .before .before .before .before .before .before .args .t1 .messages) (c .before .before .before .before .before .before .before .before .args .i) noMessage .stream) blank) (getD-any (c .before .before .before .before .before .before .before .before .args .t1 .set .streams) (getD (c .before .before .before .before .before .before .before .before .args .t1 .messages) (c .before .before .before .before .before .before .before .before .args .i) noMessage .stream) blank noStream (omega (arith, c .before .before .before .before .before .before .before .before .pre .stream, (sized _ (c .before .before .before .before .before .before .before .before .args .t1 .set .streams) 16 (c .before .before .before .before .before .before .before .before .good .0 .1 .1 .0 .1 .1 .1 .0 .1 .0 .1))))) _ (c .stay .ensures) (c .before .before .before .before .if1 .left) (c .before .if2 .left)
 
 pub serve-spec : {M : Type 1} → statement M
 serve-spec =
@@ -75,17 +66,14 @@ serve-spec =
     element-copy-out-m
     mul-x
     element-copy-out-x
-    leave-requires
     add-laxity
     laxity-requires
-    answer-requires
+    leave-requires
     returns
     add-if2
-    leave-requires-2
     add-laxity-2
     laxity-requires-2
-    answer-requires-2
+    leave-requires-2
     returns-2
     stay-requires
-    answer-requires-3
     returns-3)

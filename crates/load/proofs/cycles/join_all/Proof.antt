@@ -5,7 +5,8 @@ use Prim.Native.Nat.{ℕ, _+_, _-_, _*_, _/_, _≤_, _<_, max}
 use mathlib.Core.Path.{_≡_, refl, ap, ap₂, subst, sym, _∙_}
 use lib.ListN.{length, getD, take}
 use lib.Dec.{lit≤}
-use Rattle.laws.proofs.Sums.{length-of-map, all-take-at}
+use Rattle.laws.proofs.Parts.{sized}
+use Rattle.laws.proofs.Sums.{all-take-at}
 use Rattle.rules.specs.Load.{CyclesIn}
 use Rattle.rules.proofs.Valid.{ValidStream}
 use Rattle.rules.proofs.Cycles.{cycles-up}
@@ -22,7 +23,7 @@ abbrev μ-loop : tie.MeasureT-loop
 μ-loop x n acc₀ k₀ acc k = n - k
 
 loop-holds : tie.Need-loop-holds Inv-loop μ-loop
-loop-holds c = (search (needs, length-of-map), omega arith, so-far CyclesIn 1 _ (record { low = lit≤ tt; high = lit≤ tt }))
+loop-holds c = (search (needs, sized), omega arith, so-far CyclesIn 1 _ (record { low = lit≤ tt; high = lit≤ tt }))
 
 mul-s : tie.Need-mul-s Inv-loop μ-loop
 mul-s c = omega (arith, c .before .before .pre .count)

@@ -4,7 +4,8 @@ use borrow.Author.Needs.{needs}
 use Prim.Native.Nat.{ℕ, _+_, _-_, _*_, _/_, _≤_, _<_, max}
 use mathlib.Core.Path.{_≡_, refl, ap, ap₂, subst, sym, _∙_}
 use lib.ListN.{length, getD, take}
-use Rattle.laws.proofs.Sums.{length-of-map, all-take-at}
+use Rattle.laws.proofs.Parts.{sized}
+use Rattle.laws.proofs.Sums.{all-take-at}
 use Rattle.rules.specs.Streams.{noTuple}
 use Rattle.rules.specs.Load.{PlaceIn}
 use Rattle.rules.proofs.Valid.{ValidPlace}
@@ -22,7 +23,7 @@ abbrev μ-loop : tie.MeasureT-loop
 μ-loop h s n acc₀ j₀ acc j = n - j
 
 loop-holds : tie.Need-loop-holds Inv-loop μ-loop
-loop-holds c = (search (needs, length-of-map), omega arith, so-far PlaceIn _ _ (c .pre .0))
+loop-holds c = (search (needs, sized), omega arith, so-far PlaceIn _ _ (c .pre .0))
 
 mul-p : tie.Need-mul-p Inv-loop μ-loop
 mul-p c = omega (arith, c .before .before .pre .1 .count .high)

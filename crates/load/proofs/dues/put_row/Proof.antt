@@ -1,7 +1,7 @@
 -- `load::dues::put_row` meets its contract. Assumes nothing.
 use borrow.Author.Needs.{needs}
 use mathlib.Core.Path.{_≡_, refl, ap, ap₂, subst, sym, _∙_}
-use Rattle.laws.proofs.Sums.{length-of-map}
+use Rattle.laws.proofs.Parts.{sized}
 use Rattle.load.proofs.RowLaws.{grows-row}
 use Rattle.load.proofs.dues.put_row.Statement.{statement}
 use Rattle.load.proofs.dues.put_row.Tie as tie
@@ -28,7 +28,7 @@ add-r : tie.Need-add-r
 add-r c = search needs
 
 returns : tie.Need-returns
-returns c = grows-row _ _ _ _ (search (needs, length-of-map)) (search (needs, length-of-map)) (search (needs, length-of-map)) (c .pre .0) (c .pre .1) (c .pre .2) (c .pre .3)
+returns c = grows-row _ _ _ _ (search (needs, sized)) (search (needs, sized)) (search (needs, sized)) (c .pre .0) (c .pre .1) (c .pre .2) (c .pre .3)
 
 pub put-row-spec : {M : Type 1} → statement M
 put-row-spec =

@@ -4,7 +4,8 @@ use borrow.Author.Needs.{needs}
 use Prim.Native.Nat.{ℕ, _+_, _-_, _*_, _/_, _≤_, _<_, max}
 use mathlib.Core.Path.{_≡_, refl, ap, ap₂, subst, sym, _∙_}
 use lib.ListN.{length, getD, take}
-use Rattle.laws.proofs.Sums.{length-of-map, all-take-at}
+use Rattle.laws.proofs.Parts.{sized}
+use Rattle.laws.proofs.Sums.{all-take-at}
 use Rattle.rules.specs.Streams.{noTuple}
 use Rattle.rules.proofs.Valid.{ValidPlace}
 use Rattle.load.specs.Dues.{Grows}
@@ -19,7 +20,7 @@ abbrev μ-loop : tie.MeasureT-loop
 μ-loop s n cost deadline r₀ j₀ r j = n - j
 
 loop-holds : tie.Need-loop-holds Inv-loop μ-loop
-loop-holds c = (search (needs, length-of-map), omega arith, front-start _ _ _ (c .pre .1))
+loop-holds c = (search (needs, sized), omega arith, front-start _ _ _ (c .pre .1))
 
 mul-p : tie.Need-mul-p Inv-loop μ-loop
 mul-p c = omega (arith, c .before .before .pre .2 .count .high)

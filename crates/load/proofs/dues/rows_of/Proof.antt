@@ -4,7 +4,8 @@ use borrow.Author.Needs.{needs}
 use Prim.Native.Nat.{ℕ, _+_, _-_, _*_, _/_, _≤_, _<_, max}
 use mathlib.Core.Path.{_≡_, refl, ap, ap₂, subst, sym, _∙_}
 use lib.ListN.{length, getD, take}
-use Rattle.laws.proofs.Sums.{length-of-map, all-take-at}
+use Rattle.laws.proofs.Parts.{sized}
+use Rattle.laws.proofs.Sums.{all-take-at}
 use Rattle.rules.proofs.Valid.{ValidStream}
 use Rattle.load.specs.Dues.{RowsOf}
 use Rattle.load.proofs.Bounds.{blank}
@@ -22,7 +23,7 @@ no-rows-requires : tie.Need-no-rows-requires Inv-loop μ-loop
 no-rows-requires c κs = search needs
 
 loop-holds : tie.Need-loop-holds Inv-loop μ-loop
-loop-holds c = (search (needs, length-of-map), omega arith, omega (arith, c .no-rows .ensures), rows-start _ (c .no-rows .ensures))
+loop-holds c = (search (needs, sized), omega arith, omega (arith, c .no-rows .ensures), rows-start _ (c .no-rows .ensures))
 
 mul-s : tie.Need-mul-s Inv-loop μ-loop
 mul-s c = omega (arith, c .before .before .before .pre .count)

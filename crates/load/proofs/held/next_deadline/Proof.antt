@@ -4,10 +4,10 @@ use borrow.Author.Needs.{needs}
 use Prim.Native.Nat.{ℕ, _+_, _-_, _*_, _/_, _≤_, _<_, max}
 use mathlib.Core.Path.{_≡_, refl, ap, ap₂, subst, sym, _∙_}
 use lib.ListN.{length, getD, take}
+use Rattle.laws.proofs.Parts.{sized}
 use Rattle.laws.specs.Lists.{All}
-use Rattle.laws.proofs.Sums.{length-of-map}
 use Rattle.load.specs.Held.{ApartFrom}
-use Rattle.load.proofs.Between.{apart-none, apart-more}
+use Rattle.load.proofs.Steady.{apart-none, apart-more}
 use Rattle.load.proofs.held.next_deadline.Statement.{statement}
 use Rattle.load.proofs.held.next_deadline.Tie as tie
 
@@ -18,7 +18,7 @@ abbrev μ-loop : tie.MeasureT-loop
 μ-loop i end x n nearest₀ k₀ nearest k = n - k
 
 loop-holds : tie.Need-loop-holds Inv-loop μ-loop
-loop-holds c = (search (needs, length-of-map), omega arith, c .pre .1, omega arith, tt)
+loop-holds c = (search (needs, sized), omega arith, c .pre .1, omega arith, tt)
 
 mul-s : tie.Need-mul-s Inv-loop μ-loop
 mul-s c = omega (arith, c .before .before .pre .0 .count)

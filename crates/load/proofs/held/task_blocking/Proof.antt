@@ -5,11 +5,12 @@ use Prim.Native.Nat.{ℕ, _+_, _-_, _*_, _/_, _≤_, _<_, max}
 use mathlib.Core.Path.{_≡_, refl, ap, ap₂, subst, sym, _∙_}
 use lib.ListN.{length, getD, take}
 use mathlib.Core.Bool.{Bool, true, false, cond, _||_}
+use Rattle.laws.proofs.Parts.{sized}
 use Rattle.laws.specs.Lists.{any as some, top}
-use Rattle.laws.proofs.Sums.{length-of-map, top-none, top-take, any-take}
+use Rattle.laws.proofs.Sums.{top-none, top-take, any-take}
 use Rattle.rules.specs.Load.{urgent, held, blocking}
 use Rattle.load.proofs.Bounds.{blank}
-use Rattle.load.proofs.Between.{blocking-by}
+use Rattle.load.proofs.Steady.{blocking-by}
 use Rattle.load.proofs.held.task_blocking.Statement.{statement}
 use Rattle.load.proofs.held.task_blocking.Tie as tie
 
@@ -21,7 +22,7 @@ abbrev μ-loop : tie.MeasureT-loop
 
 loop-holds : tie.Need-loop-holds Inv-loop μ-loop
 unfolding some
-loop-holds c = (search (needs, length-of-map), omega arith, refl, sym (top-none _))
+loop-holds c = (search (needs, sized), omega arith, refl, sym (top-none _))
 
 mul-s : tie.Need-mul-s Inv-loop μ-loop
 mul-s c = omega (arith, c .before .before .pre .count)

@@ -4,8 +4,9 @@ use borrow.Author.Needs.{needs}
 use Prim.Native.Nat.{ℕ, _+_, _-_, _*_, _/_, _≤_, _<_, max}
 use mathlib.Core.Path.{_≡_, refl, ap, ap₂, subst, sym, _∙_}
 use lib.ListN.{length, getD, take}
+use Rattle.laws.proofs.Parts.{sized}
 use Rattle.laws.specs.Lists.{top}
-use Rattle.laws.proofs.Sums.{length-of-map, top-none, top-take, all-take-at}
+use Rattle.laws.proofs.Sums.{top-none, top-take, all-take-at}
 use Rattle.rules.proofs.Valid.{ValidStream}
 use Rattle.rules.proofs.Finite.{streamOffset, greatestOffset}
 use Rattle.load.proofs.Bounds.{blank}
@@ -19,7 +20,7 @@ abbrev μ-loop : tie.MeasureT-loop
 μ-loop x n most₀ k₀ most k = n - k
 
 loop-holds : tie.Need-loop-holds Inv-loop μ-loop
-loop-holds c = (search (needs, length-of-map), omega arith, sym (top-none streamOffset))
+loop-holds c = (search (needs, sized), omega arith, sym (top-none streamOffset))
 
 mul-s : tie.Need-mul-s Inv-loop μ-loop
 mul-s c = omega (arith, c .before .before .pre .count)
