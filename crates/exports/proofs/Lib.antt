@@ -1,2 +1,2 @@
 -- Laws that the functions' proofs cite. Assumes nothing.
-pub mod Reading
+pub mod Calls

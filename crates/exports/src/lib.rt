@@ -1,76 +1,20 @@
-// The load check for a caller in another language: a set comes as a row of numbers, the verdict goes as three.
+// Questions about a sheet for a caller in another language: bytes come in, one number goes out.
 ghost use mathlib.Core.Path.{_≡_};
-ghost use Prim.Native.Nat.{_<_};
 ghost use Rattle.rules.specs.Numbers.{number};
-ghost use Rattle.exports.specs.Rows.{at, tupleAt, streamIn, setIn, kindOf, lengthOf, demandIn, told, Told};
+ghost use Rattle.rules.specs.Sheet.{readOf};
+ghost use Rattle.exports.specs.Told.{halves, answerNumber, readTold, kindOf, lengthOf, verdictTold, SheetVerdict, VerdictOfSheet, calledOf, afterOf, stateTold, runTold};
+use rules::ReadAnswer;
 use rules::Refusal;
 use rules::Set;
-use rules::Stream;
-use rules::Tuple;
-use rules::TuplePlace;
+use rules::State;
 use rules::Verdict;
 
-// ---- the set
-
-fn number_at(ns: &[u32], k: usize) -> u32
-    ensures { λ r. ⌜ r ≡ at (now (ns .entry)) k ⌝ }
+// Two numbers in one, each by its lowest 32 bits.
+fn in_halves(upper: u64, lower: u64) -> u64
+    ensures { λ r. ⌜ r ≡ halves upper lower ⌝ }
 {
-    if k < ns.len() { ns[k] } else { 0 }
+    upper % 4294967296 * 4294967296 + lower % 4294967296
 }
-
-fn size_at(ns: &[u32], k: usize) -> usize
-    ensures { λ r. ⌜ r ≡ at (now (ns .entry)) k ⌝ }
-{
-    number_at(ns, k) as usize
-}
-
-fn tuple_at(ns: &[u32], k: usize) -> TuplePlace
-    requires { ⌜ k < 200 ⌝ }
-    ensures { λ r. ⌜ r ≡ tupleAt (now (ns .entry)) k ⌝ }
-{
-    let cycle = number_at(ns, k);
-    let offset = number_at(ns, k + 1);
-    if cycle == 0 {
-        let once = Tuple::Once(offset);
-        return TuplePlace { tuple: once };
-    }
-    let every = Tuple::Every(cycle, offset);
-    TuplePlace { tuple: every }
-}
-
-fn stream_in(ns: &[u32], k: usize) -> Stream
-    requires { ⌜ k < 190 ⌝ }
-    ensures { λ r. ⌜ r ≡ streamIn (now (ns .entry)) k ⌝ }
-{
-    let tuples = [
-        tuple_at(ns, k + 4),
-        tuple_at(ns, k + 6),
-        tuple_at(ns, k + 8),
-        tuple_at(ns, k + 10),
-    ];
-    Stream {
-        task: size_at(ns, k),
-        cost: number_at(ns, k + 1),
-        deadline: number_at(ns, k + 2),
-        count: size_at(ns, k + 3),
-        tuples,
-    }
-}
-
-fn set_in(ns: &[u32]) -> Set
-    ensures { λ r. ⌜ r ≡ setIn (now (ns .entry)) ⌝ }
-{
-    let mut x = streams::empty_set();
-    x.count = size_at(ns, 0);
-    let mut k: usize = 0;
-    while k < 16 {
-        x.streams[k] = stream_in(ns, 1 + k * 12);
-        k = k + 1;
-    }
-    x
-}
-
-// ---- the verdict
 
 fn number_of(why: Refusal) -> u64
     ensures { λ r. ⌜ r ≡ number why ⌝ }
@@ -91,13 +35,38 @@ fn number_of(why: Refusal) -> u64
     }
 }
 
+// ---- reading
+
+fn answer_number(a: ReadAnswer) -> u64
+    ensures { λ r. ⌜ r ≡ answerNumber a ⌝ }
+{
+    match a {
+        ReadAnswer::Read => 0,
+        ReadAnswer::Refused(why) => number_of(why),
+    }
+}
+
+// What the bytes read as: the answer's number, and the deadline of stream k, 0 where there is none.
+#[no_mangle]
+pub extern "C" fn sheet_read(bytes: &[u8], k: usize) -> u64
+    ensures { λ r. ⌜ r ≡ readTold (readOf (now (bytes .entry))) k ⌝ }
+{
+    let r = sheet::read(bytes);
+    let a = r.answer;
+    let set = r.set;
+    let s = streams::stream_at(set, k);
+    in_halves(answer_number(a), s.deadline as u64)
+}
+
+// ---- the verdict
+
 fn kind_of(v: Verdict) -> u64
     ensures { λ r. ⌜ r ≡ kindOf v ⌝ }
 {
     match v {
         Verdict::Accept => 0,
-        Verdict::Late(_, _) => 1,
-        Verdict::Overload => 2,
+        Verdict::Late(_, _) => 13,
+        Verdict::Overload => 14,
         Verdict::Refused(why) => number_of(why),
     }
 }
@@ -106,42 +75,75 @@ fn length_of(v: Verdict) -> u64
     ensures { λ r. ⌜ r ≡ lengthOf v ⌝ }
 {
     match v {
+        Verdict::Accept => 0,
         Verdict::Late(i, _) => i,
-        Verdict::Accept => 0,
         Verdict::Overload => 0,
         Verdict::Refused(_) => 0,
     }
 }
 
-fn demand_in(v: Verdict) -> u64
-    ensures { λ r. ⌜ r ≡ demandIn v ⌝ }
+fn verdict_by(a: ReadAnswer, x: Set) -> Verdict
+    ensures { λ r. ⌜ SheetVerdict a x r ⌝ }
 {
-    match v {
-        Verdict::Late(_, w) => w,
-        Verdict::Accept => 0,
-        Verdict::Overload => 0,
-        Verdict::Refused(_) => 0,
+    match a {
+        ReadAnswer::Read => load::verdict(x),
+        ReadAnswer::Refused(why) => Verdict::Refused(why),
     }
 }
 
-fn tell(v: Verdict, out: &mut [u64])
-    ensures { λ r. ⌜ now (out .exit) ≡ told v (now (out .entry)) ⌝ }
-{
-    let kind = kind_of(v);
-    let length = length_of(v);
-    let demand = demand_in(v);
-    if 3 <= out.len() {
-        out[0] = kind;
-        out[1] = length;
-        out[2] = demand;
-    }
-}
-
-// The verdict of the set that the numbers say. A row lent for it that is shorter than three stays as it is.
+// The verdict of the sheet: 0 accept, 13 late, 14 overload or the refusal's number, and the late length.
 #[no_mangle]
-pub extern "C" fn crane_verdict(ns: &[u32], out: &mut [u64])
-    ensures { λ r. ⌜ Told (now (ns .entry)) (now (out .entry)) (now (out .exit)) ⌝ }
+pub extern "C" fn sheet_verdict(bytes: &[u8]) -> u64
+    ensures { λ r. ⌜ VerdictOfSheet (readOf (now (bytes .entry))) r ⌝ }
 {
-    let v = load::verdict(set_in(ns));
-    tell(v, out);
+    let r = sheet::read(bytes);
+    let a = r.answer;
+    let set = r.set;
+    let v = verdict_by(a, set);
+    in_halves(kind_of(v), length_of(v))
+}
+
+// ---- calls
+
+fn wide(b: u8) -> usize
+    ensures { λ r. ⌜ r ≡ b ⌝ }
+{
+    b as usize
+}
+
+// One call: a byte below 16 posts to that stream, 16 is a unit, any other a unit with done.
+fn called(s: State, b: u8) -> State
+    ensures { λ r. ⌜ r ≡ calledOf s b ⌝ }
+{
+    if b < 16 {
+        let p = scheduler::post(s, wide(b));
+        return p.state;
+    }
+    let u = scheduler::unit(s, !(b == 16));
+    u.state
+}
+
+fn after(s: State, calls: &[u8]) -> State
+    ensures { λ r. ⌜ r ≡ afterOf s (now (calls .entry)) ⌝ }
+{
+    let mut next = s;
+    let mut k: usize = 0;
+    while k < calls.len() {
+        next = called(next, calls[k]);
+        k = k + 1;
+    }
+    next
+}
+
+// The state after the calls, from the start of the set that the bytes read as: how many are pending, and the clock.
+#[no_mangle]
+pub extern "C" fn sheet_run(bytes: &[u8], calls: &[u8]) -> u64
+    ensures { λ r. ⌜ r ≡ runTold (now (bytes .entry)) (now (calls .entry)) ⌝ }
+{
+    let r = sheet::read(bytes);
+    let set = r.set;
+    let begun = scheduler::start(set);
+    let first = begun.state;
+    let last = after(first, calls);
+    in_halves(last.count as u64, last.clock as u64)
 }

@@ -1,0 +1,92 @@
+//! speed [SECONDS]: the proved program's speed, as ratios to plain Rust programs that do the same.
+//!
+//! First all results are compared, also with the second program's. Then each row of the table is
+//! measured: the two programs by turns, on the same bytes, for SECONDS (5 if left out). Nothing is
+//! cleared between two measurements, and both write their result to a register only.
+
+mod inputs;
+mod measure;
+mod plain;
+mod proved;
+mod slow;
+
+use std::process::ExitCode;
+
+/// Stops at the first result that differs. Every sheet is read, judged and run.
+fn compare(cases: u32) {
+    let mut random = inputs::Random(88_172_645_463_325_252);
+    for case in 0..cases {
+        let (sheet, calls, k) = (random.sheet(), random.calls(), random.below(17) as usize);
+        same(case, proved::read(&sheet, k), plain::read(&sheet, k), slow::read(&sheet, k));
+        same(case, proved::verdict(&sheet), plain::verdict(&sheet), slow::verdict(&sheet));
+        same(case, proved::run(&sheet, &calls), plain::run(&sheet, &calls), slow::run(&sheet, &calls));
+    }
+}
+
+fn same(case: u32, proved: u64, plain: u64, slow: u64) {
+    if proved != plain || proved != slow {
+        eprintln!("case {case} differs: proved {proved:x}, plain {plain:x}, second {slow:x}");
+        std::process::exit(1);
+    }
+}
+
+struct Table {
+    seconds: u64,
+    within: bool,
+}
+
+impl Table {
+    fn row(&mut self, what: &str, limit: f64, proved: &dyn Fn() -> u64, plain: &dyn Fn() -> u64) {
+        let (a, b) = (proved(), plain());
+        assert_eq!(a, b, "{what}: the two programs differ");
+        let (ratio, rounds) = measure::ratio(proved, plain, self.seconds);
+        println!("| {what} | {ratio:.2} | {limit:.1} | {rounds} |");
+        self.within &= ratio <= limit;
+    }
+
+    fn steps(&mut self, streams: usize, tuples: u32) {
+        let sheet = inputs::steps_set(streams as u32, tuples);
+        for pending in [1, 16, 64] {
+            let on = format!("{pending} pending, {streams} streams of {tuples}");
+            let calls = inputs::posts_and_units(streams, pending, 20_000);
+            let what = format!("a post and a unit with done, {on}");
+            self.row(&what, 1.5, &|| proved::run(&sheet, &calls), &|| plain::run(&sheet, &calls));
+            let calls = inputs::units(streams, pending, 20_000);
+            let what = format!("a unit that runs, {on}");
+            self.row(&what, 1.5, &|| proved::run(&sheet, &calls), &|| plain::run(&sheet, &calls));
+        }
+    }
+}
+
+fn main() -> ExitCode {
+    let seconds = std::env::args().nth(1).map_or(Some(5), |word| word.parse().ok());
+    let Some(seconds) = seconds else {
+        eprintln!("usage: speed [SECONDS]");
+        return ExitCode::from(2);
+    };
+    let cases = 20_000;
+    compare(cases);
+    println!("{cases} random sheets read, judged and run: 0 differ\n");
+    println!("| what | proved / plain | limit | rounds |\n|---|---|---|---|");
+    let mut table = Table {
+        seconds,
+        within: true,
+    };
+    for tuples in [1, 4] {
+        let sheet = inputs::long_check(tuples);
+        let what = format!("load check, accepted, H = 1,000,000, 16 streams of {tuples}");
+        assert_eq!(proved::verdict(&sheet), 0, "{what}: not accepted");
+        table.row(&what, 1.2, &|| proved::verdict(&sheet), &|| plain::verdict(&sheet));
+    }
+    let sheet = inputs::long_check(4);
+    assert_eq!(sheet.len(), 378);
+    let what = "reading a full sheet of 378 bytes";
+    table.row(what, 1.5, &|| proved::read(&sheet, 15), &|| plain::read(&sheet, 15));
+    table.steps(16, 4);
+    table.steps(1, 1);
+    if table.within {
+        ExitCode::SUCCESS
+    } else {
+        ExitCode::FAILURE
+    }
+}

@@ -1,0 +1,47 @@
+//! Plain Rust programs that do the same work as the proved ones, written as a Rust programmer
+//! would: references, early returns, slices, and nothing computed twice.
+
+pub mod load;
+pub mod set;
+pub mod sheet;
+pub mod steps;
+
+/// Two numbers in one, each by its lowest 32 bits.
+fn halves(upper: u64, lower: u64) -> u64 {
+    upper << 32 | lower & 0xffff_ffff
+}
+
+/// As [`crate::proved::read`].
+pub fn read(sheet: &[u8], k: usize) -> u64 {
+    match sheet::read(sheet) {
+        Ok(set) => halves(0, set.streams.get(k).map_or(0, |s| s.deadline.into())),
+        Err(number) => halves(number.into(), 0),
+    }
+}
+
+/// As [`crate::proved::verdict`].
+pub fn verdict(sheet: &[u8]) -> u64 {
+    match sheet::read(sheet) {
+        Ok(set) => match load::verdict(&set) {
+            load::Verdict::Accept => halves(0, 0),
+            load::Verdict::Late(length, _) => halves(13, length),
+            load::Verdict::Overload => halves(14, 0),
+            load::Verdict::Refused(number) => halves(number.into(), 0),
+        },
+        Err(number) => halves(number.into(), 0),
+    }
+}
+
+/// As [`crate::proved::run`].
+pub fn run(sheet: &[u8], calls: &[u8]) -> u64 {
+    let set = sheet::read(sheet).unwrap_or(set::Set::EMPTY);
+    let mut state = steps::State::start(&set);
+    for &call in calls {
+        match call {
+            0..=15 => drop(state.post(call.into())),
+            16 => drop(state.unit(false)),
+            _ => drop(state.unit(true)),
+        }
+    }
+    halves(state.count as u64, state.clock.into())
+}

@@ -1,0 +1,98 @@
+//! Streams and sets.
+
+#[derive(Clone, Copy)]
+pub enum Tuple {
+    Once(u32),
+    Every(u32, u32),
+}
+
+#[derive(Clone, Copy)]
+pub struct Stream {
+    pub task: usize,
+    pub cost: u32,
+    pub deadline: u32,
+    pub count: usize,
+    pub tuples: [Tuple; 4],
+}
+
+#[derive(Clone, Copy)]
+pub struct Set {
+    pub count: usize,
+    pub streams: [Stream; 16],
+}
+
+impl Tuple {
+    pub fn offset(self) -> u32 {
+        match self {
+            Tuple::Once(offset) | Tuple::Every(_, offset) => offset,
+        }
+    }
+
+    fn unused(&self) -> bool {
+        matches!(self, Tuple::Once(0))
+    }
+}
+
+impl Stream {
+    pub const UNUSED: Stream = Stream {
+        task: 0,
+        cost: 0,
+        deadline: 0,
+        count: 0,
+        tuples: [Tuple::Once(0); 4],
+    };
+
+    fn unused(&self) -> bool {
+        self.task == 0
+            && self.cost == 0
+            && self.deadline == 0
+            && self.count == 0
+            && self.tuples.iter().all(Tuple::unused)
+    }
+
+    pub fn used_tuples(&self) -> &[Tuple] {
+        &self.tuples[..self.count]
+    }
+
+    fn in_rule(&self) -> bool {
+        if self.task > 15
+            || !(1..=65_535).contains(&self.cost)
+            || !(1..=200_000).contains(&self.deadline)
+            || !(1..=4).contains(&self.count)
+            || self.tuples[0].offset() != 0
+        {
+            return false;
+        }
+        let mut before = 0;
+        for tuple in self.used_tuples() {
+            let offset = tuple.offset();
+            if offset < before || offset > 100_000 {
+                return false;
+            }
+            if let Tuple::Every(cycle, _) = *tuple {
+                if !(1..=1_000_000).contains(&cycle) {
+                    return false;
+                }
+            }
+            before = offset;
+        }
+        self.tuples[self.count..].iter().all(Tuple::unused)
+    }
+}
+
+impl Set {
+    pub const EMPTY: Set = Set {
+        count: 0,
+        streams: [Stream::UNUSED; 16],
+    };
+
+    pub fn used_streams(&self) -> &[Stream] {
+        &self.streams[..self.count]
+    }
+
+    pub fn valid(&self) -> bool {
+        self.count <= 16
+            && self.used_streams().iter().all(Stream::in_rule)
+            && self.streams[self.count..].iter().all(Stream::unused)
+    }
+}

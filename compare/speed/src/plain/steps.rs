@@ -1,0 +1,169 @@
+//! The state and the steps post and unit. Every call tests the whole state first.
+
+use super::set::{Set, Stream};
+
+#[derive(Clone, Copy)]
+pub struct Message {
+    stream: usize,
+    deadline: u32,
+    used: u32,
+}
+
+pub struct State {
+    set: Set,
+    pub clock: u32,
+    pub count: usize,
+    messages: [Message; 64],
+}
+
+#[allow(dead_code)] // what a caller would read
+pub enum Answer {
+    Posted(usize, u32),
+    Ran(usize, usize),
+    Finished(usize, usize, i64),
+    Cut(usize, usize, i64),
+    Idle,
+    Refused(u8),
+}
+
+const LAST_CLOCK: u32 = 4_000_000_000;
+
+impl Message {
+    const UNUSED: Message = Message {
+        stream: 0,
+        deadline: 0,
+        used: 0,
+    };
+
+    fn unused(&self) -> bool {
+        self.stream == 0 && self.deadline == 0 && self.used == 0
+    }
+}
+
+impl State {
+    pub fn start(set: &Set) -> State {
+        State {
+            set: if set.valid() { *set } else { Set::EMPTY },
+            clock: 0,
+            count: 0,
+            messages: [Message::UNUSED; 64],
+        }
+    }
+
+    fn pending(&self) -> &[Message] {
+        &self.messages[..self.count]
+    }
+
+    fn stream_of(&self, message: &Message) -> &Stream {
+        &self.set.streams[message.stream]
+    }
+
+    fn well_formed(&self) -> bool {
+        if !self.set.valid() || self.count > 64 || self.clock > LAST_CLOCK {
+            return false;
+        }
+        let mut before = 0;
+        let mut started = [false; 16];
+        for message in self.pending() {
+            if message.stream >= self.set.count {
+                return false;
+            }
+            let stream = self.stream_of(message);
+            if message.used >= stream.cost || message.deadline < stream.deadline {
+                return false;
+            }
+            let posted = message.deadline - stream.deadline;
+            if posted > self.clock || posted < before {
+                return false;
+            }
+            before = posted;
+            if message.used > 0 {
+                if started[stream.task] {
+                    return false;
+                }
+                started[stream.task] = true;
+            }
+        }
+        self.messages[self.count..].iter().all(Message::unused)
+    }
+
+    pub fn post(&mut self, stream: usize) -> Answer {
+        if !self.well_formed() {
+            return Answer::Refused(12);
+        }
+        if stream >= self.set.count {
+            return Answer::Refused(1);
+        }
+        if self.count == 64 {
+            return Answer::Refused(2);
+        }
+        let deadline = self.clock + self.set.streams[stream].deadline;
+        self.messages[self.count] = Message {
+            stream,
+            deadline,
+            used: 0,
+        };
+        self.count += 1;
+        Answer::Posted(stream, deadline)
+    }
+
+    /// The place of the message that is served; something is pending.
+    fn place(&self) -> usize {
+        let mut least = [u64::MAX; 16];
+        for message in self.pending() {
+            let task = self.stream_of(message).task;
+            least[task] = least[task].min(message.deadline.into());
+        }
+        let mut task = 0;
+        for other in 1..16 {
+            if least[other] < least[task] {
+                task = other;
+            }
+        }
+        let of_task = |m: &Message| self.stream_of(m).task == task;
+        let started = self.pending().iter().position(|m| m.used > 0 && of_task(m));
+        let urgent = |m: &Message| u64::from(m.deadline) == least[task] && of_task(m);
+        started.unwrap_or_else(|| self.pending().iter().position(urgent).unwrap_or(0))
+    }
+
+    fn leave(&mut self, place: usize) {
+        self.messages.copy_within(place + 1..self.count, place);
+        self.count -= 1;
+        self.messages[self.count] = Message::UNUSED;
+    }
+
+    pub fn unit(&mut self, done: bool) -> Answer {
+        if !self.well_formed() {
+            return Answer::Refused(12);
+        }
+        if self.clock == LAST_CLOCK {
+            return Answer::Refused(3);
+        }
+        if self.count == 0 {
+            if done {
+                return Answer::Refused(4);
+            }
+            self.clock += 1;
+            return Answer::Idle;
+        }
+        let place = self.place();
+        let Message {
+            stream,
+            deadline,
+            used,
+        } = self.messages[place];
+        let Stream { task, cost, .. } = self.set.streams[stream];
+        self.clock += 1;
+        let laxity = i64::from(deadline) - i64::from(self.clock);
+        if done {
+            self.leave(place);
+            return Answer::Finished(task, stream, laxity);
+        }
+        if used + 1 == cost {
+            self.leave(place);
+            return Answer::Cut(task, stream, laxity);
+        }
+        self.messages[place].used += 1;
+        Answer::Ran(task, stream)
+    }
+}

@@ -1,0 +1,23 @@
+-- `exports::verdict_by` meets its contract. Assumes nothing.
+use borrow.Author.Needs.{needs}
+use mathlib.Core.Path.{refl}
+use Rattle.exports.proofs.verdict_by.Statement.{statement}
+use Rattle.exports.proofs.verdict_by.Tie as tie
+
+enum-told : tie.Need-enum-told
+enum-told c = search needs
+
+verdict-requires : tie.Need-verdict-requires
+verdict-requires c κs = search needs
+
+enum-known-a : tie.Need-enum-known-a
+enum-known-a c = search needs
+
+returns : tie.Need-returns
+returns c = rw (c .before .enum-told .given .1) (c .verdict .ensures)
+
+returns-2 : tie.Need-returns-2
+returns-2 c = rw (c .before .a .given .1) refl
+
+pub verdict-by-spec : {M : Type 1} → statement M
+verdict-by-spec = tie.close (tie.spec enum-told verdict-requires enum-known-a returns returns-2)

@@ -1,0 +1,82 @@
+-- What a caller in another language is told: one number for each question about a sheet.
+-- Assumes nothing.
+use Prim.Native.Nat.{ℕ, _+_, _*_, _%_}
+use mathlib.Core.Bool.{Bool, cond, not}
+use mathlib.Core.List.{List, [], _∷_}
+use mathlib.Core.Path.{_≡_}
+use lib.Dec.{ltb, eqb}
+use Rattle.rules.specs.declared.Set.{Set}
+use Rattle.rules.specs.declared.State.{State}
+use Rattle.rules.specs.declared.ReadAnswer.{ReadAnswer}
+use Rattle.rules.specs.declared.ReadAnswer.the-variants.{Read, Refused as ReadRefused}
+use Rattle.rules.specs.declared.ReadResult.{ReadResult}
+use Rattle.rules.specs.declared.Verdict.{Verdict}
+use Rattle.rules.specs.declared.Verdict.the-variants.{Accept, Late, Overload, Refused}
+use Rattle.rules.specs.Streams.{streamAt}
+use Rattle.rules.specs.Steps.{startOf, postOf, unitOf}
+use Rattle.rules.specs.Load.{VerdictOf}
+use Rattle.rules.specs.Sheet.{readOf}
+use Rattle.rules.specs.Numbers.{number}
+
+-- two numbers in one of 64 bits, each by its lowest 32
+unfoldable pub halves : ℕ → ℕ → ℕ
+halves upper lower = upper % 4294967296 * 4294967296 + lower % 4294967296
+
+-- ---- reading
+
+-- 0 for a set that was read, else the refusal's number
+abbrev pub answerNumber : ReadAnswer → ℕ
+answerNumber Read = 0
+answerNumber (ReadRefused why) = number why
+
+-- the answer's number, and the deadline of stream k
+unfoldable pub readTold : ReadResult → ℕ → ℕ
+readTold r k = halves (answerNumber (r .answer)) (streamAt (r .set) k .deadline)
+
+-- ---- the verdict
+
+-- 0 accept, 13 late, 14 overload, else the refusal's number
+abbrev pub kindOf : Verdict → ℕ
+kindOf Accept = 0
+kindOf (Late i w) = 13
+kindOf Overload = 14
+kindOf (Refused why) = number why
+
+-- the least late length, 0 where there is none
+abbrev pub lengthOf : Verdict → ℕ
+lengthOf Accept = 0
+lengthOf (Late i w) = i
+lengthOf Overload = 0
+lengthOf (Refused why) = 0
+
+unfoldable pub verdictTold : Verdict → ℕ
+verdictTold v = halves (kindOf v) (lengthOf v)
+
+-- the verdict of the set that was read; a sheet that is refused has no other verdict than that
+abbrev pub SheetVerdict : ReadAnswer → Set → Verdict → Type 0
+SheetVerdict Read x v = VerdictOf x v
+SheetVerdict (ReadRefused why) x v = v ≡ Refused why
+
+pub record VerdictOfSheet (r : ReadResult) (n : ℕ) : Type 0 where
+  pub given : Verdict
+  pub is-verdict : SheetVerdict (r .answer) (r .set) given
+  pub told : n ≡ verdictTold given
+
+-- ---- calls
+
+-- a byte below 16 posts to that stream, 16 is a unit, any other a unit with done
+unfoldable pub calledOf : State → ℕ → State
+calledOf s b = cond (ltb b 16) (postOf s b .state) (unitOf s (not (eqb b 16)) .state)
+
+-- the calls one after the other, the first first
+unfoldable pub afterOf : State → List ℕ → State
+afterOf s [] = s
+afterOf s (b ∷ bs) = afterOf (calledOf s b) bs
+
+-- how many messages are pending, and the clock
+unfoldable pub stateTold : State → ℕ
+stateTold s = halves (s .count) (s .clock)
+
+-- the state after the calls, from the start of the set that the sheet reads as
+unfoldable pub runTold : List ℕ → List ℕ → ℕ
+runTold sheet calls = stateTold (afterOf (startOf (readOf sheet .set) .state) calls)
