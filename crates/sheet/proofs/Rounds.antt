@@ -25,7 +25,7 @@ use Rattle.rules.specs.declared.ReadAnswer.{ReadAnswer}
 use Rattle.rules.specs.declared.ReadAnswer.the-variants.{Read, Refused}
 use Rattle.rules.specs.declared.WriteAnswer.{WriteAnswer}
 use Rattle.rules.specs.declared.WriteAnswer.the-variants.{Wrote, Refused as NotWritten}
-use Rattle.rules.specs.Streams.{Placed, streamsOf, tuplesOf, valid}
+use Rattle.rules.specs.Streams.{Placed, emptySet, streamsOf, tuplesOf, valid}
 use Rattle.rules.specs.Sheet.{bufferBy, bufferOf, isZero, noSet, placeBits, readBits, readEnd, readOf, setOf, sheetBits, sheetOf, streamBits, tupleBits, writeOf}
 use Rattle.rules.proofs.Valid.{valid-set}
 use Rattle.sheet.proofs.Filled.{cond-elim}
@@ -57,22 +57,22 @@ never e = absurd (omega arith)
 
 -- what holds of every answer to a string of bits
 abbrev ToldWhy : List ℕ → Refusal → Type 0
-ToldWhy bs NoStream = Unit {0}
-ToldWhy bs Full = Unit {0}
-ToldWhy bs LastClock = Unit {0}
-ToldWhy bs NothingPending = Unit {0}
+ToldWhy bs NoStream = ⊥
+ToldWhy bs Full = ⊥
+ToldWhy bs LastClock = ⊥
+ToldWhy bs NothingPending = ⊥
 ToldWhy bs BitsMissing = Unit {0}
 ToldWhy bs BadVersion = (4 ≤ length bs) × (value (take 4 bs) ≡ 1 → ⊥)
 ToldWhy bs OutOfRule = Unit {0}
-ToldWhy bs LongCycles = Unit {0}
-ToldWhy bs BadByte = Unit {0}
+ToldWhy bs LongCycles = ⊥
+ToldWhy bs BadByte = ⊥
 ToldWhy bs Leftover = Begins bs
-ToldWhy bs ShortBuffer = Unit {0}
-ToldWhy bs IllFormed = Unit {0}
+ToldWhy bs ShortBuffer = ⊥
+ToldWhy bs IllFormed = ⊥
 
 abbrev Told : List ℕ → ReadAnswer → Set → Type 0
 Told bs Read x = Accepted bs x
-Told bs (Refused why) x = ToldWhy bs why
+Told bs (Refused why) x = (x ≡ emptySet) × ToldWhy bs why
 
 abbrev Tells : List ℕ → ReadResult → Type 0
 Tells bs r = Told bs (r .answer) (r .set)
@@ -91,22 +91,22 @@ end-tells bs x rest v p e =
     (λ t. let u = and-parts (ltb (length rest) 8) (all isZero rest) t in
     subst (Accepted bs) (sym (whole-set x (set-holds x (valid-set x v) p)))
     (record { ok = v; placed = p; pads = length rest; few = ltb-true (length rest) 8 (u .0); same = e ∙ ap (λ (l : List ℕ). sheetBits x ++ l) (zeros-of rest (u .1)) }))
-    (λ t. record { set = x; ok = v; placed = p; rest = rest; same = e; bad = t })
+    (λ t. (refl, record { set = x; ok = v; placed = p; rest = rest; same = e; bad = t }))
 
 reading-tells : (bs : List ℕ) → AreBits bs → Tells bs (readBits bs)
 unfolding readBits sheetBits
 reading-tells bs b =
     let v : ℕ = value (take 4 bs) in
-    field-ends (Tells bs) tt tt 4 bs versionNext
+    field-ends (Tells bs) (refl, tt) (refl, tt) 4 bs versionNext
     (λ w. cond-elim (Tells bs) (eqb v 1) _ (noSet BadVersion)
-    (λ e. count-ends (Tells bs) tt tt (drop 4 bs) (all-drop IsBit 4 bs b)
+    (λ e. count-ends (Tells bs) (refl, tt) (refl, tt) (drop 4 bs) (all-drop IsBit 4 bs b)
     (λ x rest k p s.
     end-tells bs x rest k p
     (sym
     (append-assoc (toBits 4 1) (toBits 5 (x .count) ++ flat streamBits (streamsOf x)) rest
     ∙ ap (λ (l : List ℕ). toBits 4 1 ++ l) (append-assoc (toBits 5 (x .count)) (flat streamBits (streamsOf x)) rest ∙ s)
     ∙ ap (λ (n : ℕ). toBits 4 n ++ drop 4 bs) (sym (eqb-true v 1 e)) ∙ taken-split 4 bs b w))))
-    (λ e. (w, eqb-false v 1 e)))
+    (λ e. (refl, (w, eqb-false v 1 e))))
 
 -- ---- a set and its sheet determine each other
 
@@ -197,10 +197,47 @@ full-sheet x n h =
 
 -- ---- "Given exactly when"
 
+-- a refusal comes with the empty set, and is 5, 6, 7 or 10
+pub refused-empty : (s : List ℕ) (why : Refusal) → readOf s .answer ≡ Refused why → readOf s .set ≡ emptySet
+unfolding readOf
+refused-empty s why e = subst (λ (a : ReadAnswer). Told (bits s) a (readOf s .set)) e (reading-tells (bits s) (bits-bits s)) .0
+
+abbrev pub OfSheets : Refusal → Type 0
+OfSheets NoStream = ⊥
+OfSheets Full = ⊥
+OfSheets LastClock = ⊥
+OfSheets NothingPending = ⊥
+OfSheets BitsMissing = Unit {0}
+OfSheets BadVersion = Unit {0}
+OfSheets OutOfRule = Unit {0}
+OfSheets LongCycles = ⊥
+OfSheets BadByte = ⊥
+OfSheets Leftover = Unit {0}
+OfSheets ShortBuffer = ⊥
+OfSheets IllFormed = ⊥
+
+of-sheets : (bs : List ℕ) (why : Refusal) → ToldWhy bs why → OfSheets why
+of-sheets bs NoStream t = t
+of-sheets bs Full t = t
+of-sheets bs LastClock t = t
+of-sheets bs NothingPending t = t
+of-sheets bs BitsMissing t = tt
+of-sheets bs BadVersion t = tt
+of-sheets bs OutOfRule t = tt
+of-sheets bs LongCycles t = t
+of-sheets bs BadByte t = t
+of-sheets bs Leftover t = tt
+of-sheets bs ShortBuffer t = t
+of-sheets bs IllFormed t = t
+
+pub refusals : (s : List ℕ) (why : Refusal) → readOf s .answer ≡ Refused why → OfSheets why
+unfolding readOf
+refusals s why e = of-sheets (bits s) why (subst (λ (a : ReadAnswer). Told (bits s) a (readOf s .set)) e (reading-tells (bits s) (bits-bits s)) .1)
+
 -- 6: there are bits for the version, and they are not 1
 pub six-exactly : (s : List ℕ) → readOf s ≡ noSet BadVersion → (4 ≤ length (bits s)) × (value (take 4 (bits s)) ≡ 1 → ⊥)
 unfolding readOf
-six-exactly s e = subst (Tells (bits s)) e (reading-tells (bits s) (bits-bits s))
+six-exactly s e = subst (Tells (bits s)) e (reading-tells (bits s) (bits-bits s)) .1
 
 pub six-given : (s : List ℕ) → 4 ≤ length (bits s) → (value (take 4 (bits s)) ≡ 1 → ⊥) → readOf s ≡ noSet BadVersion
 unfolding readOf readBits
@@ -209,7 +246,7 @@ six-given s h n = simp (le-leb 4 (length (bits s)) h, ne-eqb (value (take 4 (bit
 -- 10: the bits begin with the fields of a valid set, and what comes behind is not fewer than eight zero bits
 pub ten-exactly : (s : List ℕ) → readOf s ≡ noSet Leftover → Begins (bits s)
 unfolding readOf
-ten-exactly s e = subst (Tells (bits s)) e (reading-tells (bits s) (bits-bits s))
+ten-exactly s e = subst (Tells (bits s)) e (reading-tells (bits s) (bits-bits s)) .1
 
 pub ten-given : (s : List ℕ) → Begins (bits s) → readOf s ≡ noSet Leftover
 unfolding readOf readEnd

@@ -63,17 +63,21 @@ fn byte(b: u8) {
     io::write_all(1, b" ");
 }
 
+// The sheet of a set, written to the first `room` bytes of a buffer.
+fn part(set: Set, buf: &mut [u8], room: usize) {
+    if room <= buf.len() {
+        wrote(sheet::write(set, &mut buf[..room]));
+    }
+}
+
 // The sheet of W12 written to a part of a buffer, and the buffer's bytes 0, 10, 11 and 15 then.
 fn lent(room: usize) {
-    if 16 < room {
-        return;
-    }
     let r = sheet::read(b"\x10\x98\x00\x10\x00\x0a\x00\x00\x50\x00\x00");
     let set = r.set;
     let mut buf = [238u8; 16];
     number(room);
     io::write_all(1, b" bytes: ");
-    wrote(sheet::write(set, &mut buf[..room]));
+    part(set, &mut buf, room);
     byte(buf[0]);
     byte(buf[10]);
     byte(buf[11]);
