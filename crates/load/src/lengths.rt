@@ -1,9 +1,10 @@
 // Which lengths there are to test, and the testing of a range of them.
 ghost use mathlib.Core.Path.{_≡_};
+ghost use mathlib.Core.Bool.{true};
 ghost use Prim.Native.Nat.{_+_, _≤_, _<_};
 ghost use Rattle.rules.proofs.Valid.{ValidStream, ValidSet};
 ghost use Rattle.rules.proofs.Finite.{greatestDeadline, streamOffset, greatestOffset};
-ghost use Rattle.rules.specs.Streams.{streamsOf};
+ghost use Rattle.rules.specs.Streams.{streamsOf, valid};
 ghost use Rattle.load.specs.Dues.{Sound};
 ghost use Rattle.load.specs.Lengths.{OpeningOf, Spanned, Ranged};
 use crate::Joined;
@@ -76,13 +77,11 @@ fn end_after(h: u32, deadline: u32, offset: u32) -> u32
     h + deadline + offset + 1
 }
 
-// 7, 8 and overload stop a check before any length. Else the lengths to test are those from 1 up to the end.
-pub(crate) fn opening(x: Set) -> Opening
+// Of a valid set: 8 and overload stop a check.
+fn open_valid(x: Set) -> Opening
+    requires { ⌜ valid x ≡ true ⌝ }
     ensures { λ r. ⌜ OpeningOf x r ⌝ }
 {
-    if !streams::is_valid(x) {
-        return Opening::Stops(Verdict::Refused(Refusal::OutOfRule));
-    }
     let joined = cycles::join_all(x);
     match joined {
         Joined::Above => Opening::Stops(Verdict::Refused(Refusal::LongCycles)),
@@ -92,6 +91,17 @@ pub(crate) fn opening(x: Set) -> Opening
             }
             Opening::Until(end_after(h, greatest_deadline(x), greatest_offset(x)))
         }
+    }
+}
+
+// 7, 8 and overload stop a check before any length. Else the lengths to test are those from 1 up to the end.
+pub(crate) fn opening(x: Set) -> Opening
+    ensures { λ r. ⌜ OpeningOf x r ⌝ }
+{
+    if streams::is_valid(x) {
+        open_valid(x)
+    } else {
+        Opening::Stops(Verdict::Refused(Refusal::OutOfRule))
     }
 }
 

@@ -3,9 +3,8 @@ use native.Mathlib.Omega.{arith}
 use borrow.Author.Needs.{needs}
 use Prim.Native.Nat.{_-_}
 use mathlib.Core.Path.{subst}
-use Rattle.rules.specs.Streams.{streamsOf}
 use Rattle.rules.proofs.Valid.{valid-set}
-use Rattle.load.specs.Lengths.{OpeningOf, GoesOn, Ranged}
+use Rattle.load.specs.Lengths.{OpeningOf, GoesOn}
 use Rattle.load.proofs.Settle.{verdict-clear, verdict-late}
 use Rattle.load.proofs.verdict.Statement.{statement}
 use Rattle.load.proofs.verdict.Tie as tie
@@ -35,14 +34,11 @@ returns c = subst (OpeningOf (c .before .before .before .before .args .x)) (c .b
 
 returns-2 : tie.Need-returns-2
 returns-2 c =
-    verdict-clear (c .before .before .before .before .before .before .before .args .x) (c .before .before .before .before .begun2 .given .0 .0) (subst (OpeningOf (c .before .before .before .before .before .before .before .args .x)) (c .before .before .before .before .begun2 .given .1) (c .before .before .before .before .before .before .opening .ensures))
-    (subst (Ranged (streamsOf (c .before .before .before .before .before .before .before .args .x)) 1 (c .before .before .before .before .begun2 .given .0 .0)) (c .enum-told .given .1) (c .before .before .test-range .ensures))
+    verdict-clear (c .before .before .before .before .before .before .before .args .x) (c .before .before .before .before .before .before .opening .ensures) (c .before .before .before .before .begun2 .given .1) (c .before .before .test-range .ensures) (c .enum-told .given .1)
 
 returns-3 : tie.Need-returns-3
 returns-3 c =
-    verdict-late (c .before .before .before .before .before .before .before .before .args .x) (c .before .before .before .before .before .begun2 .given .0 .0) (c .before .found .given .0 .0) (c .before .found .given .0 .1 .0)
-    (subst (OpeningOf (c .before .before .before .before .before .before .before .before .args .x)) (c .before .before .before .before .before .begun2 .given .1) (c .before .before .before .before .before .before .before .opening .ensures))
-    (subst (Ranged (streamsOf (c .before .before .before .before .before .before .before .before .args .x)) 1 (c .before .before .before .before .before .begun2 .given .0 .0)) (c .before .found .given .1) (c .before .before .before .test-range .ensures))
+    verdict-late (c .before .before .before .before .before .before .before .before .args .x) (c .before .before .before .before .before .before .before .opening .ensures) (c .before .before .before .before .before .begun2 .given .1) (c .before .before .before .test-range .ensures) (c .before .found .given .1)
 
 pub verdict-spec : {M : Type 1} → statement M
 verdict-spec =
