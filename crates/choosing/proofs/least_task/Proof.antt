@@ -43,10 +43,16 @@ loop-less : tie.Need-loop-less Inv-loop μ-loop
 loop-less c = search needs
 
 loop-again : tie.Need-loop-again Inv-loop μ-loop
-loop-again c = (c .before .before .loop .inv .0, rw (c .better .ensures) (least-in (ltb (getD (c .before .before .before .args .t1) (c .before .before .loop .t) 0) (getD (c .before .before .before .args .t1) (c .before .before .loop .best) 0)) (c .before .before .loop .t) (c .before .before .loop .best) 16 (c .before .loop-test .taken) (c .before .before .loop .inv .1)), omega (arith, c .before .loop-test .taken), least-go (at (c .before .before .before .args .t1)) (c .before .before .loop .t) (c .before .before .loop .best) _ (c .before .before .loop .inv .3) (c .better .ensures))
+loop-again c =
+    let start = c .before .before .before in
+    let loop = c .before .before .loop in
+    (loop .inv .0, rw (c .better .ensures) (least-in (ltb (getD (start .args .t1) (loop .t) 0) (getD (start .args .t1) (loop .best) 0)) (loop .t) (loop .best) 16 (c .before .loop-test .taken) (loop .inv .1)), omega (arith, c .before .loop-test .taken), least-go (at (start .args .t1)) (loop .t) (loop .best) _ (loop .inv .3) (c .better .ensures))
 
 returns : tie.Need-returns Inv-loop μ-loop
-returns c = (c .before .loop .inv .1, c .before .loop .inv .3 ∙ ap (firstLeast (at (c .before .before .args .t1))) (let z : c .before .loop .t ≡ 16 = omega (arith, c .loop-test .left, c .before .loop .inv .2) in z))
+returns c =
+    let start = c .before .before in
+    let loop = c .before .loop in
+    (loop .inv .1, loop .inv .3 ∙ ap (firstLeast (at (start .args .t1))) (let z : loop .t ≡ 16 = omega (arith, c .loop-test .left, loop .inv .2) in z))
 
 pub least-task-spec : {M : Type 1} → statement M
 least-task-spec =

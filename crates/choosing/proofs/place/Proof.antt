@@ -16,7 +16,9 @@ started-at-requires : tie.Need-started-at-requires
 started-at-requires c κs = search needs
 
 returns : tie.Need-returns
-returns c = place-started (c .before .before .before .before .before .args .s) (c .before .before .before .before .task-deadlines .result) (c .before .before .before .least-task .result) (c .before .before .started-at .result) (c .before .before .before .before .before .pre .few) (sized _ (c .before .before .before .before .before .args .s .messages) 64 (c .before .before .before .before .before .good .0 .1 .1 .1 .1 .1 .0 .1 .0 .1)) (c .before .before .before .before .task-deadlines .ensures) (c .before .before .before .least-task .ensures .1) (c .before .before .before .least-task .ensures .0) (c .before .before .started-at .ensures) (c .if1 .taken)
+returns c =
+    let start = c .before .before .before .before .before in
+    place-started (start .args .s) (c .before .before .before .before .task-deadlines .result) (c .before .before .before .least-task .result) (c .before .before .started-at .result) (start .pre .few) (sized _ (start .args .s .messages) 64 (start .good .0 .1 .1 .1 .1 .1 .0 .1 .0 .1)) (c .before .before .before .before .task-deadlines .ensures) (c .before .before .before .least-task .ensures .1) (c .before .before .before .least-task .ensures .0) (c .before .before .started-at .ensures) (c .if1 .taken)
 
 mul-due-at : tie.Need-mul-due-at
 mul-due-at c = search needs
@@ -28,7 +30,9 @@ due-at-requires : tie.Need-due-at-requires
 due-at-requires c κs = search needs
 
 returns-2 : tie.Need-returns-2
-returns-2 c = place-due (c .before .before .before .before .before .before .args .s) (c .before .before .before .before .before .task-deadlines .result) (c .before .before .before .before .least-task .result) (c .before .before .before .started-at .result) (c .before .before .before .before .before .before .pre .few) (sized _ (c .before .before .before .before .before .before .args .s .messages) 64 (c .before .before .before .before .before .before .good .0 .1 .1 .1 .1 .1 .0 .1 .0 .1)) (c .before .before .before .before .before .task-deadlines .ensures) (c .before .before .before .before .least-task .ensures .1) (c .before .before .before .before .least-task .ensures .0) (c .before .before .before .started-at .ensures) _ (c .due-at .ensures) (c .before .if1 .left)
+returns-2 c =
+    let start = c .before .before .before .before .before .before in
+    place-due (start .args .s) (c .before .before .before .before .before .task-deadlines .result) (c .before .before .before .before .least-task .result) (c .before .before .before .started-at .result) (start .pre .few) (sized _ (start .args .s .messages) 64 (start .good .0 .1 .1 .1 .1 .1 .0 .1 .0 .1)) (c .before .before .before .before .before .task-deadlines .ensures) (c .before .before .before .before .least-task .ensures .1) (c .before .before .before .before .least-task .ensures .0) (c .before .before .before .started-at .ensures) _ (c .due-at .ensures) (c .before .if1 .left)
 
 pub place-spec : {M : Type 1} → statement M
 place-spec =

@@ -39,7 +39,9 @@ loop-less : tie.Need-loop-less Inv-loop μ-loop
 loop-less c = search needs
 
 loop-again : tie.Need-loop-again Inv-loop μ-loop
-loop-again c = (omega arith, moving-go _ _ _ _ (c .before .before .loop .inv .1) (c .before .loop-test .taken))
+loop-again c =
+    let loop = c .before .before .loop in
+    (omega arith, moving-go _ _ _ _ (loop .inv .1) (c .before .loop-test .taken))
 
 element-set-from-next : tie.Need-element-set-from-next Inv-loop μ-loop
 element-set-from-next c = search needs
@@ -51,7 +53,9 @@ add-next : tie.Need-add-next Inv-loop μ-loop
 add-next c = search needs
 
 returns : tie.Need-returns Inv-loop μ-loop
-returns c = moved-up _ _ _ _ _ (c .before .before .before .loop .inv .1) (omega (arith, c .before .before .loop-test .left, c .before .before .before .loop .inv .0))
+returns c =
+    let loop = c .before .before .before .loop in
+    moved-up _ _ _ _ _ (loop .inv .1) (omega (arith, c .before .before .loop-test .left, loop .inv .0))
 
 pub leave-spec : {M : Type 1} → statement M
 leave-spec =

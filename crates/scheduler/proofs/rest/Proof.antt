@@ -10,13 +10,17 @@ tick-requires : tie.Need-tick-requires
 tick-requires c κs = search needs
 
 returns : tie.Need-returns
-returns c = c .tick .ensures ∙ rest-idle (c .before .before .args .s) (c .before .before .args .done) (not-true _ (c .before .if1 .taken))
+returns c =
+    let start = c .before .before in
+    c .tick .ensures ∙ rest-idle (start .args .s) (start .args .done) (not-true _ (c .before .if1 .taken))
 
 answer-requires : tie.Need-answer-requires
 answer-requires c κs = search needs
 
 returns-2 : tie.Need-returns-2
-returns-2 c = c .answer .ensures ∙ rest-4 (c .before .before .args .s) (c .before .before .args .done) (not-false _ (c .before .if1 .left))
+returns-2 c =
+    let start = c .before .before in
+    c .answer .ensures ∙ rest-4 (start .args .s) (start .args .done) (not-false _ (c .before .if1 .left))
 
 pub rest-spec : {M : Type 1} → statement M
 rest-spec = tie.close (tie.spec tick-requires returns answer-requires returns-2)

@@ -35,7 +35,9 @@ leave-requires : tie.Need-leave-requires
 leave-requires c κs = search needs
 
 returns : tie.Need-returns
-returns c = served-done (c .before .before .before .before .before .before .args .t1) (c .before .before .before .before .before .before .args .i) (c .before .before .before .before .before .before .args .done) (getD (c .before .before .before .before .before .before .args .t1 .set .streams) (getD (c .before .before .before .before .before .before .args .t1 .messages) (c .before .before .before .before .before .before .args .i) noMessage .stream) blank) (getD-any (c .before .before .before .before .before .before .args .t1 .set .streams) (getD (c .before .before .before .before .before .before .args .t1 .messages) (c .before .before .before .before .before .before .args .i) noMessage .stream) blank noStream (omega (arith, c .before .before .before .before .before .before .pre .stream, (sized _ (c .before .before .before .before .before .before .args .t1 .set .streams) 16 (c .before .before .before .before .before .before .good .0 .1 .1 .0 .1 .1 .1 .0 .1 .0 .1))))) _ _ (c .leave .ensures) (kept (getD (c .before .before .before .before .before .before .args .t1 .messages) (c .before .before .before .before .before .before .args .i) noMessage .deadline) (c .before .before .before .before .before .before .args .t1 .clock + 1) _ (c .before .laxity .ensures) (c .before .before .before .before .before .before .pre .deadline) (omega (arith, c .before .before .before .before .before .before .pre .clock))) (c .before .before .if1 .taken)
+returns c =
+    let start = c .before .before .before .before .before .before in
+    served-done (start .args .t1) (start .args .i) (start .args .done) (getD (start .args .t1 .set .streams) (getD (start .args .t1 .messages) (start .args .i) noMessage .stream) blank) (getD-any (start .args .t1 .set .streams) (getD (start .args .t1 .messages) (start .args .i) noMessage .stream) blank noStream (omega (arith, start .pre .stream, (sized _ (start .args .t1 .set .streams) 16 (start .good .0 .1 .1 .0 .1 .1 .1 .0 .1 .0 .1))))) _ _ (c .leave .ensures) (kept (getD (start .args .t1 .messages) (start .args .i) noMessage .deadline) (start .args .t1 .clock + 1) _ (c .before .laxity .ensures) (start .pre .deadline) (omega (arith, start .pre .clock))) (c .before .before .if1 .taken)
 
 add-if2 : tie.Need-add-if2
 add-if2 c = search needs
@@ -50,13 +52,17 @@ leave-requires-2 : tie.Need-leave-requires-2
 leave-requires-2 c κs = search needs
 
 returns-2 : tie.Need-returns-2
-returns-2 c = served-cut (c .before .before .before .before .before .before .before .before .before .args .t1) (c .before .before .before .before .before .before .before .before .before .args .i) (c .before .before .before .before .before .before .before .before .before .args .done) (getD (c .before .before .before .before .before .before .before .before .before .args .t1 .set .streams) (getD (c .before .before .before .before .before .before .before .before .before .args .t1 .messages) (c .before .before .before .before .before .before .before .before .before .args .i) noMessage .stream) blank) (getD-any (c .before .before .before .before .before .before .before .before .before .args .t1 .set .streams) (getD (c .before .before .before .before .before .before .before .before .before .args .t1 .messages) (c .before .before .before .before .before .before .before .before .before .args .i) noMessage .stream) blank noStream (omega (arith, c .before .before .before .before .before .before .before .before .before .pre .stream, (sized _ (c .before .before .before .before .before .before .before .before .before .args .t1 .set .streams) 16 (c .before .before .before .before .before .before .before .before .before .good .0 .1 .1 .0 .1 .1 .1 .0 .1 .0 .1))))) _ _ (c .leave2 .ensures) (kept (getD (c .before .before .before .before .before .before .before .before .before .args .t1 .messages) (c .before .before .before .before .before .before .before .before .before .args .i) noMessage .deadline) (c .before .before .before .before .before .before .before .before .before .args .t1 .clock + 1) _ (c .before .laxity2 .ensures) (c .before .before .before .before .before .before .before .before .before .pre .deadline) (omega (arith, c .before .before .before .before .before .before .before .before .before .pre .clock))) (c .before .before .before .before .before .if1 .left) (c .before .before .if2 .taken)
+returns-2 c =
+    let start = c .before .before .before .before .before .before .before .before .before in
+    served-cut (start .args .t1) (start .args .i) (start .args .done) (getD (start .args .t1 .set .streams) (getD (start .args .t1 .messages) (start .args .i) noMessage .stream) blank) (getD-any (start .args .t1 .set .streams) (getD (start .args .t1 .messages) (start .args .i) noMessage .stream) blank noStream (omega (arith, start .pre .stream, (sized _ (start .args .t1 .set .streams) 16 (start .good .0 .1 .1 .0 .1 .1 .1 .0 .1 .0 .1))))) _ _ (c .leave2 .ensures) (kept (getD (start .args .t1 .messages) (start .args .i) noMessage .deadline) (start .args .t1 .clock + 1) _ (c .before .laxity2 .ensures) (start .pre .deadline) (omega (arith, start .pre .clock))) (c .before .before .before .before .before .if1 .left) (c .before .before .if2 .taken)
 
 stay-requires : tie.Need-stay-requires
 stay-requires c κs = search needs
 
 returns-3 : tie.Need-returns-3
-returns-3 c = served-ran (c .before .before .before .before .before .before .before .before .args .t1) (c .before .before .before .before .before .before .before .before .args .i) (c .before .before .before .before .before .before .before .before .args .done) (getD (c .before .before .before .before .before .before .before .before .args .t1 .set .streams) (getD (c .before .before .before .before .before .before .before .before .args .t1 .messages) (c .before .before .before .before .before .before .before .before .args .i) noMessage .stream) blank) (getD-any (c .before .before .before .before .before .before .before .before .args .t1 .set .streams) (getD (c .before .before .before .before .before .before .before .before .args .t1 .messages) (c .before .before .before .before .before .before .before .before .args .i) noMessage .stream) blank noStream (omega (arith, c .before .before .before .before .before .before .before .before .pre .stream, (sized _ (c .before .before .before .before .before .before .before .before .args .t1 .set .streams) 16 (c .before .before .before .before .before .before .before .before .good .0 .1 .1 .0 .1 .1 .1 .0 .1 .0 .1))))) _ (c .stay .ensures) (c .before .before .before .before .if1 .left) (c .before .if2 .left)
+returns-3 c =
+    let start = c .before .before .before .before .before .before .before .before in
+    served-ran (start .args .t1) (start .args .i) (start .args .done) (getD (start .args .t1 .set .streams) (getD (start .args .t1 .messages) (start .args .i) noMessage .stream) blank) (getD-any (start .args .t1 .set .streams) (getD (start .args .t1 .messages) (start .args .i) noMessage .stream) blank noStream (omega (arith, start .pre .stream, (sized _ (start .args .t1 .set .streams) 16 (start .good .0 .1 .1 .0 .1 .1 .1 .0 .1 .0 .1))))) _ (c .stay .ensures) (c .before .before .before .before .if1 .left) (c .before .if2 .left)
 
 pub serve-spec : {M : Type 1} → statement M
 serve-spec =

@@ -32,10 +32,14 @@ enum-known-found : tie.Need-enum-known-found
 enum-known-found c = search needs
 
 serve-requires : tie.Need-serve-requires
-serve-requires c κs = servable _ _ (serves (c .before .before .before .before .before .before .args .s) (c .before .before .before .before .before .look .result) (c .before .before .before .before .before .look .ensures) _ (c .before .before .before .found .given .1)) (sized _ (c .before .before .before .before .before .before .args .s .messages) 64 (c .before .before .before .before .before .before .good .0 .1 .1 .1 .1 .1 .0 .1 .0 .1)) (sized _ (c .before .before .before .before .before .before .args .s .set .streams) 16 (c .before .before .before .before .before .before .good .0 .1 .1 .0 .1 .1 .1 .0 .1 .0 .1)) (c .if2 .taken)
+serve-requires c κs =
+    let start = c .before .before .before .before .before .before in
+    servable _ _ (serves (start .args .s) (c .before .before .before .before .before .look .result) (c .before .before .before .before .before .look .ensures) _ (c .before .before .before .found .given .1)) (sized _ (start .args .s .messages) 64 (start .good .0 .1 .1 .1 .1 .1 .0 .1 .0 .1)) (sized _ (start .args .s .set .streams) 16 (start .good .0 .1 .1 .0 .1 .1 .1 .0 .1 .0 .1)) (c .if2 .taken)
 
 returns-2 : tie.Need-returns-2
-returns-2 c = unit-serves _ _ _ _ (serves (c .before .before .before .before .before .before .before .args .s) (c .before .before .before .before .before .before .look .result) (c .before .before .before .before .before .before .look .ensures) _ (c .before .before .before .before .found .given .1)) (c .before .if2 .taken) (c .serve .ensures)
+returns-2 c =
+    let start = c .before .before .before .before .before .before .before in
+    unit-serves _ _ _ _ (serves (start .args .s) (c .before .before .before .before .before .before .look .result) (c .before .before .before .before .before .before .look .ensures) _ (c .before .before .before .before .found .given .1)) (c .before .if2 .taken) (c .serve .ensures)
 
 answer-requires-3 : tie.Need-answer-requires-3
 answer-requires-3 c κs = search needs
@@ -47,7 +51,9 @@ returns-4 : tie.Need-returns-4
 returns-4 c = unit-rests _ _ _ (rests _ _ (c .before .before .before .before .before .look .ensures) (c .before .before .before .enum-told2 .given .1)) (c .before .if1 .left) (c .rest .ensures)
 
 returns-5 : tie.Need-returns-5
-returns-5 c = c .answer3 .ensures ∙ unit-3 _ _ ((serves (c .before .before .before .before .before .before .before .args .s) (c .before .before .before .before .before .before .look .result) (c .before .before .before .before .before .before .look .ensures) _ (c .before .before .before .before .found .given .1)) .formed) (c .before .if2 .left)
+returns-5 c =
+    let start = c .before .before .before .before .before .before .before in
+    c .answer3 .ensures ∙ unit-3 _ _ ((serves (start .args .s) (c .before .before .before .before .before .before .look .result) (c .before .before .before .before .before .before .look .ensures) _ (c .before .before .before .before .found .given .1)) .formed) (c .before .if2 .left)
 
 pub unit-spec : {M : Type 1} → statement M
 unit-spec =

@@ -24,10 +24,14 @@ abbrev μ-loop : tie.MeasureT-loop
 
 loop-holds : tie.Need-loop-holds Inv-loop μ-loop
 unfolding messagesOk part
-loop-holds c = ((sized _ (c .before .args .t1 .messages) 64 (c .before .good .0 .1 .1 .1 .1 .1 .0 .1 .0 .1)), (sized _ (c .before .args .t1 .set .streams) 16 (c .before .good .0 .1 .1 .0 .1 .1 .1 .0 .1 .0 .1)), refl)
+loop-holds c =
+    let start = c .before in
+    ((sized _ (start .args .t1 .messages) 64 (start .good .0 .1 .1 .1 .1 .1 .0 .1 .0 .1)), (sized _ (start .args .t1 .set .streams) 16 (start .good .0 .1 .1 .0 .1 .1 .1 .0 .1 .0 .1)), refl)
 
 returns : tie.Need-returns Inv-loop μ-loop
-returns c = scan-end _ _ _ _ _ _ _ (c .before .before .loop .inv .2) (inl (search needs))
+returns c =
+    let loop = c .before .before .loop in
+    scan-end _ _ _ _ _ _ _ (loop .inv .2) (inl (search needs))
 
 mul-m : tie.Need-mul-m Inv-loop μ-loop
 mul-m c = search needs
@@ -36,19 +40,29 @@ element-copy-out-m : tie.Need-element-copy-out-m Inv-loop μ-loop
 element-copy-out-m c = search needs
 
 returns-2 : tie.Need-returns-2 Inv-loop μ-loop
-returns-2 c = scan-no _ _ _ _ _ _ _ noMessage _ (c .before .before .before .before .loop .inv .2) refl (message-out (c .before .before .before .before .before .before .args .t1 .set) (c .before .before .before .before .before .before .args .t1 .clock) (c .before .before .before .before .loop .before) (getD (c .before .before .before .before .before .before .args .t1 .messages) (c .before .before .before .before .loop .k) noMessage) (c .if2 .taken)) (search needs) (omega arith)
+returns-2 c =
+    let start = c .before .before .before .before .before .before in
+    let loop = c .before .before .before .before .loop in
+    scan-no _ _ _ _ _ _ _ noMessage _ (loop .inv .2) refl (message-out (start .args .t1 .set) (start .args .t1 .clock) (loop .before) (getD (start .args .t1 .messages) (loop .k) noMessage) (c .if2 .taken)) (search needs) (omega arith)
 
 mul-x : tie.Need-mul-x Inv-loop μ-loop
-mul-x c = omega (arith, c .if2 .left, c .before .before .before .before .before .before .pre)
+mul-x c =
+    let start = c .before .before .before .before .before .before in
+    omega (arith, c .if2 .left, start .pre)
 
 element-copy-out-x : tie.Need-element-copy-out-x Inv-loop μ-loop
-element-copy-out-x c = omega (arith, c .if2 .left, c .before .before .before .before .before .before .pre)
+element-copy-out-x c =
+    let start = c .before .before .before .before .before .before in
+    omega (arith, c .if2 .left, start .pre)
 
 less-requires : tie.Need-less-requires Inv-loop μ-loop
 less-requires c κs = search needs
 
 returns-3 : tie.Need-returns-3 Inv-loop μ-loop
-returns-3 c = scan-no _ _ _ _ _ _ _ noMessage _ (c .before .before .before .before .before .before .before .before .before .before .before .loop .inv .2) refl (sym (message-by (c .before .before .before .before .before .before .before .before .before .before .before .before .before .args .t1 .set) (c .before .before .before .before .before .before .before .before .before .before .before .before .before .args .t1 .clock) (c .before .before .before .before .before .before .before .before .before .before .before .loop .before) (getD (c .before .before .before .before .before .before .before .before .before .before .before .before .before .args .t1 .messages) (c .before .before .before .before .before .before .before .before .before .before .before .loop .k) noMessage) (getD (c .before .before .before .before .before .before .before .before .before .before .before .before .before .args .t1 .set .streams) ((getD (c .before .before .before .before .before .before .before .before .before .before .before .before .before .args .t1 .messages) (c .before .before .before .before .before .before .before .before .before .before .before .loop .k) noMessage) .stream) blank) (c .before .before .before .before .before .less .result) (c .before .before .before .before .before .before .before .if2 .left) (getD-any (c .before .before .before .before .before .before .before .before .before .before .before .before .before .args .t1 .set .streams) ((getD (c .before .before .before .before .before .before .before .before .before .before .before .before .before .args .t1 .messages) (c .before .before .before .before .before .before .before .before .before .before .before .loop .k) noMessage) .stream) blank noStream (omega (arith, c .before .before .before .before .before .before .before .before .before .before .before .loop .inv .1, c .before .before .before .before .before .before .before .if2 .left, c .before .before .before .before .before .before .before .before .before .before .before .before .before .pre))) (c .before .before .before .before .before .less .ensures)) ∙ not-true _ (c .if3 .taken)) (search needs) (omega arith)
+returns-3 c =
+    let start = c .before .before .before .before .before .before .before .before .before .before .before .before .before in
+    let loop = c .before .before .before .before .before .before .before .before .before .before .before .loop in
+    scan-no _ _ _ _ _ _ _ noMessage _ (loop .inv .2) refl (sym (message-by (start .args .t1 .set) (start .args .t1 .clock) (loop .before) (getD (start .args .t1 .messages) (loop .k) noMessage) (getD (start .args .t1 .set .streams) ((getD (start .args .t1 .messages) (loop .k) noMessage) .stream) blank) (c .before .before .before .before .before .less .result) (c .before .before .before .before .before .before .before .if2 .left) (getD-any (start .args .t1 .set .streams) ((getD (start .args .t1 .messages) (loop .k) noMessage) .stream) blank noStream (omega (arith, loop .inv .1, c .before .before .before .before .before .before .before .if2 .left, start .pre))) (c .before .before .before .before .before .less .ensures)) ∙ not-true _ (c .if3 .taken)) (search needs) (omega arith)
 
 add-k : tie.Need-add-k Inv-loop μ-loop
 add-k c = search needs
@@ -57,10 +71,15 @@ loop-less : tie.Need-loop-less Inv-loop μ-loop
 loop-less c = search needs
 
 loop-again : tie.Need-loop-again Inv-loop μ-loop
-loop-again c = (c .before .before .before .before .before .before .before .before .before .before .before .loop .inv .0, c .before .before .before .before .before .before .before .before .before .before .before .loop .inv .1, scan-go _ _ _ _ _ _ _ _ noMessage _ (c .before .before .before .before .before .before .before .before .before .before .before .loop .inv .2) refl (c .before .before .before .before .before .less .ensures ∙ ap (λ (y : Stream). (getD (c .before .before .before .before .before .before .before .before .before .before .before .before .before .args .t1 .messages) (c .before .before .before .before .before .before .before .before .before .before .before .loop .k) noMessage) .deadline - y .deadline) (getD-any (c .before .before .before .before .before .before .before .before .before .before .before .before .before .args .t1 .set .streams) ((getD (c .before .before .before .before .before .before .before .before .before .before .before .before .before .args .t1 .messages) (c .before .before .before .before .before .before .before .before .before .before .before .loop .k) noMessage) .stream) blank noStream (omega (arith, c .before .before .before .before .before .before .before .before .before .before .before .loop .inv .1, c .before .before .before .before .before .before .before .if2 .left, c .before .before .before .before .before .before .before .before .before .before .before .before .before .pre)))) (sym (message-by (c .before .before .before .before .before .before .before .before .before .before .before .before .before .args .t1 .set) (c .before .before .before .before .before .before .before .before .before .before .before .before .before .args .t1 .clock) (c .before .before .before .before .before .before .before .before .before .before .before .loop .before) (getD (c .before .before .before .before .before .before .before .before .before .before .before .before .before .args .t1 .messages) (c .before .before .before .before .before .before .before .before .before .before .before .loop .k) noMessage) (getD (c .before .before .before .before .before .before .before .before .before .before .before .before .before .args .t1 .set .streams) ((getD (c .before .before .before .before .before .before .before .before .before .before .before .before .before .args .t1 .messages) (c .before .before .before .before .before .before .before .before .before .before .before .loop .k) noMessage) .stream) blank) (c .before .before .before .before .before .less .result) (c .before .before .before .before .before .before .before .if2 .left) (getD-any (c .before .before .before .before .before .before .before .before .before .before .before .before .before .args .t1 .set .streams) ((getD (c .before .before .before .before .before .before .before .before .before .before .before .before .before .args .t1 .messages) (c .before .before .before .before .before .before .before .before .before .before .before .loop .k) noMessage) .stream) blank noStream (omega (arith, c .before .before .before .before .before .before .before .before .before .before .before .loop .inv .1, c .before .before .before .before .before .before .before .if2 .left, c .before .before .before .before .before .before .before .before .before .before .before .before .before .pre))) (c .before .before .before .before .before .less .ensures)) ∙ not-false _ (c .if3 .left)) (search needs) (omega arith))
+loop-again c =
+    let start = c .before .before .before .before .before .before .before .before .before .before .before .before .before in
+    let loop = c .before .before .before .before .before .before .before .before .before .before .before .loop in
+    (loop .inv .0, loop .inv .1, scan-go _ _ _ _ _ _ _ _ noMessage _ (loop .inv .2) refl (c .before .before .before .before .before .less .ensures ∙ ap (λ (y : Stream). (getD (start .args .t1 .messages) (loop .k) noMessage) .deadline - y .deadline) (getD-any (start .args .t1 .set .streams) ((getD (start .args .t1 .messages) (loop .k) noMessage) .stream) blank noStream (omega (arith, loop .inv .1, c .before .before .before .before .before .before .before .if2 .left, start .pre)))) (sym (message-by (start .args .t1 .set) (start .args .t1 .clock) (loop .before) (getD (start .args .t1 .messages) (loop .k) noMessage) (getD (start .args .t1 .set .streams) ((getD (start .args .t1 .messages) (loop .k) noMessage) .stream) blank) (c .before .before .before .before .before .less .result) (c .before .before .before .before .before .before .before .if2 .left) (getD-any (start .args .t1 .set .streams) ((getD (start .args .t1 .messages) (loop .k) noMessage) .stream) blank noStream (omega (arith, loop .inv .1, c .before .before .before .before .before .before .before .if2 .left, start .pre))) (c .before .before .before .before .before .less .ensures)) ∙ not-false _ (c .if3 .left)) (search needs) (omega arith))
 
 returns-4 : tie.Need-returns-4 Inv-loop μ-loop
-returns-4 c = scan-end _ _ _ _ _ _ _ (c .before .loop .inv .2) (inr (omega arith))
+returns-4 c =
+    let loop = c .before .loop in
+    scan-end _ _ _ _ _ _ _ (loop .inv .2) (inr (omega arith))
 
 pub messages-ok-spec : {M : Type 1} → statement M
 messages-ok-spec =

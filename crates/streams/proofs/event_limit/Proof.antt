@@ -18,11 +18,15 @@ limit-of-requires c κs = search needs
 
 returns : tie.Need-returns
 unfolding limitOf
-returns c = simp (c .limit-of .ensures, c .before .stream-at .ensures, ap (λ b. b && ltb (c .before .before .before .before .before .args .k) (c .before .before .before .before .before .args .x .count)) (sym (c .before .before .before .before .is-valid .ensures)) ∙ c .before .before .if1 .taken)
+returns c =
+    let start = c .before .before .before .before .before in
+    simp (c .limit-of .ensures, c .before .stream-at .ensures, ap (λ b. b && ltb (start .args .k) (start .args .x .count)) (sym (c .before .before .before .before .is-valid .ensures)) ∙ c .before .before .if1 .taken)
 
 returns-2 : tie.Need-returns-2
 unfolding limitOf
-returns-2 c = simp (ap (λ b. b && ltb (c .before .before .before .args .k) (c .before .before .before .args .x .count)) (sym (c .before .before .is-valid .ensures)) ∙ c .if1 .left)
+returns-2 c =
+    let start = c .before .before .before in
+    simp (ap (λ b. b && ltb (start .args .k) (start .args .x .count)) (sym (c .before .before .is-valid .ensures)) ∙ c .if1 .left)
 
 pub event-limit-spec : {M : Type 1} → statement M
 event-limit-spec =

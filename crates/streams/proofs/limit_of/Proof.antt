@@ -24,7 +24,9 @@ unfolding limit part
 loop-holds c = ((sized _ (c .args .t1 .tuples) 4 (c .good .0 .1 .1 .1 .1 .1 .1 .0 .1 .0 .1)), omega arith, zero-add _)
 
 returns : tie.Need-returns Inv-loop μ-loop
-returns c = sum-end _ _ _ _ _ _ (c .before .before .loop .inv .2) (inl (search needs))
+returns c =
+    let loop = c .before .before .loop in
+    sum-end _ _ _ _ _ _ (loop .inv .2) (inl (search needs))
 
 mul-p : tie.Need-mul-p Inv-loop μ-loop
 mul-p c = search needs
@@ -36,7 +38,10 @@ events-of-requires : tie.Need-events-of-requires Inv-loop μ-loop
 events-of-requires c κs = search needs
 
 add-sum : tie.Need-add-sum Inv-loop μ-loop
-add-sum c = omega (arith, c .events-of .ensures, events-le (getD (c .before .before .before .before .before .args .t1 .tuples) (c .before .before .before .before .loop .k) noTuple .tuple) (c .before .before .before .before .before .args .i))
+add-sum c =
+    let start = c .before .before .before .before .before in
+    let loop = c .before .before .before .before .loop in
+    omega (arith, c .events-of .ensures, events-le (getD (start .args .t1 .tuples) (loop .k) noTuple .tuple) (start .args .i))
 
 add-k : tie.Need-add-k Inv-loop μ-loop
 add-k c = search needs
@@ -46,10 +51,15 @@ loop-less c = search needs
 
 loop-again : tie.Need-loop-again Inv-loop μ-loop
 unfolding events
-loop-again c = (c .before .before .before .before .loop .inv .0, omega (arith, c .events-of .ensures, events-le (getD (c .before .before .before .before .before .args .t1 .tuples) (c .before .before .before .before .loop .k) noTuple .tuple) (c .before .before .before .before .before .args .i)), rw (c .events-of .ensures) (sum-go _ _ _ _ _ _ noTuple _ (c .before .before .before .before .loop .inv .2) refl (search needs) (omega arith)))
+loop-again c =
+    let start = c .before .before .before .before .before in
+    let loop = c .before .before .before .before .loop in
+    (loop .inv .0, omega (arith, c .events-of .ensures, events-le (getD (start .args .t1 .tuples) (loop .k) noTuple .tuple) (start .args .i)), rw (c .events-of .ensures) (sum-go _ _ _ _ _ _ noTuple _ (loop .inv .2) refl (search needs) (omega arith)))
 
 returns-2 : tie.Need-returns-2 Inv-loop μ-loop
-returns-2 c = sum-end _ _ _ _ _ _ (c .before .loop .inv .2) (inr (omega arith))
+returns-2 c =
+    let loop = c .before .loop in
+    sum-end _ _ _ _ _ _ (loop .inv .2) (inr (omega arith))
 
 pub limit-of-spec : {M : Type 1} → statement M
 limit-of-spec =

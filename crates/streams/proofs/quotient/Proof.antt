@@ -11,7 +11,9 @@ returns : tie.Need-returns
 returns c = (simp (c .if1 .taken, div-zero), search needs)
 
 returns-2 : tie.Need-returns-2
-returns-2 c = (search needs, div-le-self (c .before .args .x) (c .before .args .z))
+returns-2 c =
+    let start = c .before in
+    (search needs, div-le-self (start .args .x) (start .args .z))
 
 pub quotient-spec : {M : Type 1} → statement M
 quotient-spec = tie.close (tie.spec div-result returns returns-2)

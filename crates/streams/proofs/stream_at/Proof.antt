@@ -17,10 +17,14 @@ no-stream-requires : tie.Need-no-stream-requires
 no-stream-requires c κs = search needs
 
 returns : tie.Need-returns
-returns c = getD-any (c .before .before .args .t1 .streams) (c .before .before .args .k) _ noStream (omega (arith, (sized _ (c .before .before .args .t1 .streams) 16 (c .before .before .good .0 .1 .1 .1 .0 .1 .0 .1))))
+returns c =
+    let start = c .before .before in
+    getD-any (start .args .t1 .streams) (start .args .k) _ noStream (omega (arith, (sized _ (start .args .t1 .streams) 16 (start .good .0 .1 .1 .1 .0 .1 .0 .1))))
 
 returns-2 : tie.Need-returns-2
-returns-2 c = c .no-stream .ensures ∙ past (c .before .before .args .t1 .streams) (c .before .before .args .k) noStream (omega (arith, (sized _ (c .before .before .args .t1 .streams) 16 (c .before .before .good .0 .1 .1 .1 .0 .1 .0 .1))))
+returns-2 c =
+    let start = c .before .before in
+    c .no-stream .ensures ∙ past (start .args .t1 .streams) (start .args .k) noStream (omega (arith, (sized _ (start .args .t1 .streams) 16 (start .good .0 .1 .1 .1 .0 .1 .0 .1))))
 
 pub stream-at-spec : {M : Type 1} → statement M
 stream-at-spec =

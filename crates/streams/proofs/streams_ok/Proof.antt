@@ -23,7 +23,9 @@ unfolding part
 loop-holds c = ((sized _ (c .args .t1 .streams) 16 (c .good .0 .1 .1 .1 .0 .1 .0 .1)), refl)
 
 returns : tie.Need-returns Inv-loop μ-loop
-returns c = all-end _ _ _ _ _ (c .before .before .loop .inv .1) (inl (search needs))
+returns c =
+    let loop = c .before .before .loop in
+    all-end _ _ _ _ _ (loop .inv .1) (inl (search needs))
 
 mul-s : tie.Need-mul-s Inv-loop μ-loop
 mul-s c = search needs
@@ -35,7 +37,9 @@ stream-ok-requires : tie.Need-stream-ok-requires Inv-loop μ-loop
 stream-ok-requires c κs = search needs
 
 returns-2 : tie.Need-returns-2 Inv-loop μ-loop
-returns-2 c = all-no _ _ _ _ _ _ _ (c .before .before .before .before .before .loop .inv .1) refl (sym (c .before .stream-ok .ensures) ∙ not-true _ (c .if2 .taken)) (search needs) (omega arith)
+returns-2 c =
+    let loop = c .before .before .before .before .before .loop in
+    all-no _ _ _ _ _ _ _ (loop .inv .1) refl (sym (c .before .stream-ok .ensures) ∙ not-true _ (c .if2 .taken)) (search needs) (omega arith)
 
 add-k : tie.Need-add-k Inv-loop μ-loop
 add-k c = search needs
@@ -44,10 +48,14 @@ loop-less : tie.Need-loop-less Inv-loop μ-loop
 loop-less c = search needs
 
 loop-again : tie.Need-loop-again Inv-loop μ-loop
-loop-again c = (c .before .before .before .before .before .loop .inv .0, all-go _ _ _ _ _ _ _ (c .before .before .before .before .before .loop .inv .1) refl (sym (c .before .stream-ok .ensures) ∙ not-false _ (c .if2 .left)) (search needs) (omega arith))
+loop-again c =
+    let loop = c .before .before .before .before .before .loop in
+    (loop .inv .0, all-go _ _ _ _ _ _ _ (loop .inv .1) refl (sym (c .before .stream-ok .ensures) ∙ not-false _ (c .if2 .left)) (search needs) (omega arith))
 
 returns-3 : tie.Need-returns-3 Inv-loop μ-loop
-returns-3 c = all-end _ _ _ _ _ (c .before .loop .inv .1) (inr (omega arith))
+returns-3 c =
+    let loop = c .before .loop in
+    all-end _ _ _ _ _ (loop .inv .1) (inr (omega arith))
 
 pub streams-ok-spec : {M : Type 1} → statement M
 streams-ok-spec =

@@ -23,7 +23,9 @@ unfolding tuplesOk part
 loop-holds c = ((sized _ (c .args .t1 .tuples) 4 (c .good .0 .1 .1 .1 .1 .1 .1 .0 .1 .0 .1)), refl)
 
 returns : tie.Need-returns Inv-loop μ-loop
-returns c = scan-end _ _ _ _ _ _ _ (c .before .before .loop .inv .1) (inl (search needs))
+returns c =
+    let loop = c .before .before .loop in
+    scan-end _ _ _ _ _ _ _ (loop .inv .1) (inl (search needs))
 
 mul-p : tie.Need-mul-p Inv-loop μ-loop
 mul-p c = search needs
@@ -35,7 +37,9 @@ tuple-ok-requires : tie.Need-tuple-ok-requires Inv-loop μ-loop
 tuple-ok-requires c κs = search needs
 
 returns-2 : tie.Need-returns-2 Inv-loop μ-loop
-returns-2 c = scan-no _ _ _ _ _ _ _ noTuple _ (c .before .before .before .before .before .loop .inv .1) refl (sym (c .before .tuple-ok .ensures) ∙ not-true _ (c .if2 .taken)) (search needs) (omega arith)
+returns-2 c =
+    let loop = c .before .before .before .before .before .loop in
+    scan-no _ _ _ _ _ _ _ noTuple _ (loop .inv .1) refl (sym (c .before .tuple-ok .ensures) ∙ not-true _ (c .if2 .taken)) (search needs) (omega arith)
 
 offset-of-requires : tie.Need-offset-of-requires Inv-loop μ-loop
 offset-of-requires c κs = search needs
@@ -47,10 +51,14 @@ loop-less : tie.Need-loop-less Inv-loop μ-loop
 loop-less c = search needs
 
 loop-again : tie.Need-loop-again Inv-loop μ-loop
-loop-again c = (c .before .before .before .before .before .before .loop .inv .0, scan-go _ _ _ _ _ _ _ _ noTuple _ (c .before .before .before .before .before .before .loop .inv .1) refl (c .offset-of .ensures) (sym (c .before .before .tuple-ok .ensures) ∙ not-false _ (c .before .if2 .left)) (search needs) (omega arith))
+loop-again c =
+    let loop = c .before .before .before .before .before .before .loop in
+    (loop .inv .0, scan-go _ _ _ _ _ _ _ _ noTuple _ (loop .inv .1) refl (c .offset-of .ensures) (sym (c .before .before .tuple-ok .ensures) ∙ not-false _ (c .before .if2 .left)) (search needs) (omega arith))
 
 returns-3 : tie.Need-returns-3 Inv-loop μ-loop
-returns-3 c = scan-end _ _ _ _ _ _ _ (c .before .loop .inv .1) (inr (omega arith))
+returns-3 c =
+    let loop = c .before .loop in
+    scan-end _ _ _ _ _ _ _ (loop .inv .1) (inr (omega arith))
 
 pub tuples-ok-spec : {M : Type 1} → statement M
 tuples-ok-spec =

@@ -31,7 +31,9 @@ tuple-unused-requires : tie.Need-tuple-unused-requires Inv-loop μ-loop
 tuple-unused-requires c κs = search needs
 
 returns : tie.Need-returns Inv-loop μ-loop
-returns c = all-no _ _ _ _ _ noTuple _ (c .before .before .before .before .loop .inv .1) refl (sym (c .before .tuple-unused .ensures) ∙ not-true _ (c .if1 .taken)) (search needs) (omega arith)
+returns c =
+    let loop = c .before .before .before .before .loop in
+    all-no _ _ _ _ _ noTuple _ (loop .inv .1) refl (sym (c .before .tuple-unused .ensures) ∙ not-true _ (c .if1 .taken)) (search needs) (omega arith)
 
 add-k : tie.Need-add-k Inv-loop μ-loop
 add-k c = search needs
@@ -40,10 +42,14 @@ loop-less : tie.Need-loop-less Inv-loop μ-loop
 loop-less c = search needs
 
 loop-again : tie.Need-loop-again Inv-loop μ-loop
-loop-again c = (c .before .before .before .before .loop .inv .0, all-go _ _ _ _ _ noTuple _ (c .before .before .before .before .loop .inv .1) refl (sym (c .before .tuple-unused .ensures) ∙ not-false _ (c .if1 .left)) (search needs) (omega arith))
+loop-again c =
+    let loop = c .before .before .before .before .loop in
+    (loop .inv .0, all-go _ _ _ _ _ noTuple _ (loop .inv .1) refl (sym (c .before .tuple-unused .ensures) ∙ not-false _ (c .if1 .left)) (search needs) (omega arith))
 
 returns-2 : tie.Need-returns-2 Inv-loop μ-loop
-returns-2 c = all-end _ _ _ _ _ (c .before .loop .inv .1) (inl (search needs))
+returns-2 c =
+    let loop = c .before .loop in
+    all-end _ _ _ _ _ (loop .inv .1) (inl (search needs))
 
 pub tuples-unused-spec : {M : Type 1} → statement M
 tuples-unused-spec =
