@@ -6,8 +6,8 @@ use mathlib.Core.Path.{_≡_, refl, sym, ap, _∙_}
 use mathlib.Core.Bool.{Bool, true, false, cond, _&&_}
 use mathlib.Core.List.{List, [], _∷_, _++_, map}
 use native.Mathlib.Numerals.{add-one}
-use lib.ListN.{length, getD, take, set, length-map, length-append}
-use lib.Seq.{paste, paste-suc, take-paste, length-paste, take-append-seam}
+use lib.ListN.{length, getD, take, drop, set, length-map, length-append}
+use lib.Seq.{paste, paste-suc, take-paste, drop-paste, length-paste, take-append-seam}
 use lib.Dec.{leb}
 use borrow.Author.Tests.{le-leb, lt-leb}
 use Rattle.laws.specs.Bits.{zeros}
@@ -67,6 +67,10 @@ module _ (out w : List ℕ) (at : ℕ) (h : length w ≤ 128) (g : at + length w
   pub same-size : length (appended out at (holding w)) ≡ length out
   unfolding appended holding
   same-size = rw there (length-paste out at (w ++ zeros (128 - length w)) (length w) g inside)
+
+  pub rest-stays : drop (at + length w) (appended out at (holding w)) ≡ drop (at + length w) out
+  unfolding appended holding
+  rest-stays = rw there (drop-paste out at (w ++ zeros (128 - length w)) (length w) (omega arith) inside)
 
 -- an array's length, as the machine tells it
 pub sized : (l : List ℕ) (n : ℕ) → length (map (λ (v : ℕ). v) l) ≡ n → length l ≡ n

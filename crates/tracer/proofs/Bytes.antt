@@ -6,8 +6,8 @@ use native.Mathlib.Numerals.{add-one}
 use mathlib.Core.Path.{_≡_, refl, sym, ap, _∙_}
 use mathlib.Core.Bool.{Bool, true, false, cond, _&&_}
 use mathlib.Core.List.{List, [], _∷_, _++_, append-assoc, append-nil}
-use lib.ListN.{length, getD, take, drop, drop-of-length-le, length-append}
-use lib.Seq.{drop-cons}
+use lib.ListN.{length, getD, take, drop, drop-of-length-le, length-append, take-append-drop}
+use lib.Seq.{drop-cons, drop-drop, length-take-le}
 use Rattle.rules.specs.declared.State.{State}
 use Rattle.rules.specs.declared.PostResult.{PostResult}
 use Rattle.rules.specs.declared.UnitResult.{UnitResult}
@@ -24,7 +24,7 @@ use Rattle.traced.specs.declared.Heard.{Heard}
 use Rattle.traced.specs.declared.Heard.the-variants.{Skip, More, Post, Unit, Done, Bad}
 use Rattle.traced.specs.Steps.{heardOf, endOf as atEnd}
 use Rattle.page.specs.Pages.{appended, endOf}
-use Rattle.page.proofs.Rooms.{end-at, holds-then, same-size}
+use Rattle.page.proofs.Rooms.{end-at, holds-then, same-size, rest-stays}
 use Rattle.tracer.specs.declared.Run.{Run}
 use Rattle.tracer.specs.declared.Turn.{Turn}
 use Rattle.tracer.specs.Turns.{nextRun, nextText, runAfter, textAfter, runOn, textOn, textEnd}
@@ -125,20 +125,55 @@ pub text-end : (r₀ r : Run) (piece w : List ℕ) (i : ℕ) → length piece �
 unfolding textOn
 text-end r₀ r piece w i h f = sym (append-nil w) ∙ (rw (drop-of-length-le piece h) at f)
 
+-- what has not been printed on stays as it was
+rest-turn : (out out₀ w : List ℕ) (at : ℕ) → length w ≤ 128 → at + length w ≤ length out → drop at out ≡ drop at out₀
+    → drop (at + length w) (appended out at (holding w)) ≡ drop (at + length w) out₀
+rest-turn out out₀ w at h g e =
+    rest-stays out w at h g ∙ sym (drop-drop (length w) at out) ∙ ap (λ (l : List ℕ). drop (length w) l) e ∙ drop-drop (length w) at out₀
+
 -- the whole of it: what holds at the head of the loop holds again
-pub feed-turn : (r₀ r : Run) (piece out o : List ℕ) (i at a n : ℕ) (t : Turn) → i < length piece
-    → t ≡ record { run = runAfter r (getD piece i 0); line = holding (textAfter r (getD piece i 0)) } → length piece * 128 ≤ n
-    → length out ≡ n → at ≤ i * 128 → runOn r (drop i piece) ≡ runOn r₀ piece → take at out ++ textOn r (drop i piece) ≡ textOn r₀ piece
-    → a ≡ endOf out at (t .line) → o ≡ appended out at (t .line)
-    → (i + 1 ≤ length piece) × (length o ≡ n) × (a ≤ (i + 1) * 128) × (runOn (t .run) (drop (i + 1) piece) ≡ runOn r₀ piece)
-    × (take a o ++ textOn (t .run) (drop (i + 1) piece) ≡ textOn r₀ piece)
-feed-turn r₀ r piece out o i at a n t h e m size low f g x y =
-    let room : at + 128 ≤ length out = omega arith in (
-      omega arith,
-      ap length y ∙ size-turn r₀ r piece out i at t h e room ∙ size,
-      omega (arith, x, at-turn r₀ r piece out i at t h e room),
-      run-turn r₀ r piece out i at t h e f,
-      rw (x, y) (text-turn r₀ r piece out i at t h e room g),
+pub record Going (r₀ r : Run) (piece out₀ out : List ℕ) (i at : ℕ) : Type 0 where
+  pub inside : i ≤ length piece
+  pub size : length out ≡ length out₀
+  pub low : at ≤ i * 128
+  pub run : runOn r (drop i piece) ≡ runOn r₀ piece
+  pub text : take at out ++ textOn r (drop i piece) ≡ textOn r₀ piece
+  pub rest : drop at out ≡ drop at out₀
+
+pub feed-turn : (r₀ r : Run) (piece out₀ out o : List ℕ) (i at a : ℕ) (t : Turn) → i < length piece
+    → t ≡ record { run = runAfter r (getD piece i 0); line = holding (textAfter r (getD piece i 0)) } → length piece * 128 ≤ length out₀
+    → Going r₀ r piece out₀ out i at → a ≡ endOf out at (t .line) → o ≡ appended out at (t .line)
+    → Going r₀ (t .run) piece out₀ o (i + 1) a
+feed-turn r₀ r piece out₀ out o i at a t h e m g x y =
+    let room : at + 128 ≤ length out = omega (arith, g .size, g .low) in
+    let short : length (textAfter r (getD piece i 0)) ≤ 128 = text-short r (getD piece i 0) in
+    let fits : at + length (textAfter r (getD piece i 0)) ≤ length out = omega arith in
+    record {
+      inside = omega arith;
+      size = ap length y ∙ size-turn r₀ r piece out i at t h e room ∙ g .size;
+      low = omega (arith, x, at-turn r₀ r piece out i at t h e room, g .low);
+      run = run-turn r₀ r piece out i at t h e (g .run);
+      text = rw (x, y) (text-turn r₀ r piece out i at t h e room (g .text));
+      rest =
+          rw (x, y, e, end-at out (textAfter r (getD piece i 0)) at short fits)
+          (rest-turn out out₀ (textAfter r (getD piece i 0)) at short fits (g .rest));
+    }
+
+-- behind the last byte: the run, and the page with what was printed at its front
+pub feed-end : (r₀ r : Run) (piece out₀ out : List ℕ) (i at : ℕ) → length piece ≤ i → length piece * 128 ≤ length out₀
+    → Going r₀ r piece out₀ out i at
+    → (r ≡ runOn r₀ piece) × ((at ≡ length (textOn r₀ piece)) × (out ≡ textOn r₀ piece ++ drop (length (textOn r₀ piece)) out₀))
+feed-end r₀ r piece out₀ out i at h m g =
+    let printed : take at out ≡ textOn r₀ piece = text-end r₀ r piece (take at out) i h (g .text) in
+    let inside : at ≤ length out = omega (arith, g .low, g .inside, g .size) in
+    let end : at ≡ length (textOn r₀ piece) = sym (length-take-le at out inside) ∙ ap length printed in (
+      run-end r₀ r piece i h (g .run),
+      (
+        end,
+        sym (take-append-drop at out)
+            ∙ ap (λ (l : List ℕ). l ++ drop at out) printed
+            ∙ ap (λ (l : List ℕ). textOn r₀ piece ++ l) (g .rest ∙ ap (λ (n : ℕ). drop n out₀) end),
+      ),
     )
 
 -- the end of the trace, with a p that waits and without

@@ -2,7 +2,7 @@
 -- Assumes nothing.
 use Prim.Native.Nat.{ℕ, _*_, _≤_, _<_}
 use mathlib.Core.Path.{_≡_}
-use lib.ListN.{length, take}
+use lib.ListN.{length, drop}
 use mathlib.Core.Bool.{Bool, true, false, cond}
 use mathlib.Core.List.{List, [], _∷_, _++_}
 use Rattle.rules.specs.declared.State.{State}
@@ -56,8 +56,10 @@ textOn r (b ∷ l) = textAfter r b ++ textOn (runAfter r b) l
 unfoldable pub textEnd : Run → List ℕ
 textEnd r = cond (r .live) (nextText (r .state) (endOf (r .waiting))) []
 
--- a piece of the trace that is taken: the run after it, and the page with what it prints at its front. With less than 128 bytes
+-- a piece of the trace that is taken: the run after it, and the page with what it prints at its
+-- front and the rest as it was. With less than 128 bytes
 -- of the page for each byte of the piece nothing is taken.
 pub record Taken (r : Run) (piece out : List ℕ) (s : Run) (len : ℕ) (page : List ℕ) : Type 0 where
-  pub room : length piece * 128 ≤ length out → (s ≡ runOn r piece) × ((take len page ≡ textOn r piece) × (len ≤ length page))
+  pub room : length piece * 128 ≤ length out
+      → (s ≡ runOn r piece) × ((len ≡ length (textOn r piece)) × (page ≡ textOn r piece ++ drop (length (textOn r piece)) out))
   pub none : length out < length piece * 128 → (s ≡ r) × ((len ≡ 0) × (page ≡ out))

@@ -3,7 +3,7 @@ ghost use mathlib.Core.Path.{_≡_};
 ghost use mathlib.Core.Bool.{true, false};
 ghost use mathlib.Core.List.{_++_, []};
 ghost use Prim.Native.Nat.{_+_, _*_, _≤_};
-ghost use lib.ListN.{length, take};
+ghost use lib.ListN.{length, drop};
 ghost use Rattle.text.specs.Held.{holding};
 ghost use Rattle.tracer.specs.Turns.{nextRun, nextText, runAfter, textAfter, runOn, textOn, textEnd, Taken};
 use rules::Refusal;
@@ -127,7 +127,7 @@ pub struct Fed {
 // The bytes of a piece one after the other, their lines on the page: 128 bytes of it for each are enough.
 fn feed(run: Run, piece: &[u8], out: &mut [u8]) -> Fed
     requires { ⌜ length (now piece) * 128 ≤ length (now out) ⌝ }
-    ensures { λ r. ⌜ (r .run ≡ runOn run (now (piece .entry))) × ((take (r .len) (now (out .exit)) ≡ textOn run (now (piece .entry))) × (r .len ≤ length (now (out .exit)))) ⌝ }
+    ensures { λ r. ⌜ (r .run ≡ runOn run (now (piece .entry))) × ((r .len ≡ length (textOn run (now (piece .entry)))) × (now (out .exit) ≡ textOn run (now (piece .entry)) ++ drop (length (textOn run (now (piece .entry)))) (now (out .entry)))) ⌝ }
 {
     let mut r = run;
     let mut at = 0;

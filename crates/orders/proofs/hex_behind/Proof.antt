@@ -1,49 +1,37 @@
+-- `orders::hex_behind` meets its contract.
+-- Assumes nothing.
 use Rattle.orders.proofs.Nexts.{hex-none, hex-other, hex-empty, hex-text}
-use native.Mathlib.Omega.{arith}
 use borrow.Author.Needs.{needs}
 use Rattle.orders.proofs.hex_behind.Statement.{statement}
 use Rattle.orders.proofs.hex_behind.Tie as tie
-use Rattle.orders.proofs.hex_behind.Reads as reads
-use Rattle.orders.proofs.hex_behind.Lts as lts
-use Rattle.orders.proofs.is_hex_text.Reads as is-hex-text-reads
 
--- src/lib.rt:174:9
 returns : tie.Need-returns
 returns c = hex-none _ _ (c .if1 .taken)
 
--- src/lib.rt:176:8
 shared-slice-read-if2 : tie.Need-shared-slice-read-if2
 shared-slice-read-if2 c = search needs
 
--- src/lib.rt:177:9
 returns-2 : tie.Need-returns-2
 returns-2 c = hex-other _ _ (c .before .before .if1 .left) (c .if2 .taken)
 
--- src/lib.rt:179:17
 add-start : tie.Need-add-start
 add-start c = search needs
 
--- src/lib.rt:181:9
 returns-3 : tie.Need-returns-3
 returns-3 c = hex-empty _ _ (c .before .before .before .if1 .left) (c .before .if2 .left) (c .if3 .taken)
 
--- src/lib.rt:183:17
 sub-is-hex-text : tie.Need-sub-is-hex-text
 sub-is-hex-text c = search needs
 
--- src/lib.rt:183:17
 part-is-hex-text-start : tie.Need-part-is-hex-text-start
 part-is-hex-text-start c = search needs
 
--- src/lib.rt:183:17
 part-is-hex-text-end : tie.Need-part-is-hex-text-end
 part-is-hex-text-end c = search needs
 
--- src/lib.rt:183:5
 is-hex-text-requires : tie.Need-is-hex-text-requires
 is-hex-text-requires c κs = search needs
 
--- src/lib.rt:169:1
 returns-4 : tie.Need-returns-4
 returns-4 c = hex-text _ _ (c .before .before .before .before .before .if1 .left) (c .before .before .before .if2 .left) _ (c .before .before .if3 .left) (c .is-hex-text .ensures)
 

@@ -1,3 +1,5 @@
+-- `orders::is_hex_text` meets its contract.
+-- Assumes nothing.
 use Prim.Native.Nat.{_-_, _%_}
 use mathlib.Core.Path.{_≡_, refl, sym, _∙_}
 use lib.ListN.{length, drop}
@@ -9,9 +11,6 @@ use native.Mathlib.Omega.{arith}
 use borrow.Author.Needs.{needs}
 use Rattle.orders.proofs.is_hex_text.Statement.{statement}
 use Rattle.orders.proofs.is_hex_text.Tie as tie
-use Rattle.orders.proofs.is_hex_text.Reads as reads
-use Rattle.orders.proofs.is_hex_text.Lts as lts
-use Rattle.text.proofs.is_hex.Reads as is-hex-reads
 
 abbrev Inv-loop : tie.InvT-loop
 Inv-loop w i₀ i = (length w % 2 ≡ 0) × (all isHex (drop i w) ≡ all isHex w)
@@ -19,39 +18,30 @@ Inv-loop w i₀ i = (length w % 2 ≡ 0) × (all isHex (drop i w) ≡ all isHex 
 abbrev μ-loop : tie.MeasureT-loop
 μ-loop w i₀ i = length w - i
 
--- src/lib.rt:157:9
 returns : tie.Need-returns Inv-loop μ-loop
 returns c = sym (hex-odd _ (c .if1 .taken))
 
--- src/lib.rt:160:5
 loop-holds : tie.Need-loop-holds Inv-loop μ-loop
 loop-holds c = (c .if1 .left, refl)
 
--- src/lib.rt:161:26
 shared-slice-read-is-hex : tie.Need-shared-slice-read-is-hex Inv-loop μ-loop
 shared-slice-read-is-hex c = omega arith
 
--- src/lib.rt:161:13
 is-hex-requires : tie.Need-is-hex-requires Inv-loop μ-loop
 is-hex-requires c κs = search needs
 
--- src/lib.rt:162:13
 returns-2 : tie.Need-returns-2 Inv-loop μ-loop
 returns-2 c = sym (hex-even _ (c .before .before .before .before .loop .inv .0) ∙ sym (c .before .before .before .before .loop .inv .1) ∙ all-off isHex (c .before .before .before .before .before .before .before .args .w .now) (c .before .before .before .before .loop .i) (omega arith) (sym (c .before .is-hex .ensures) ∙ not-true _ (c .if2 .taken)))
 
--- src/lib.rt:164:9
 add-i : tie.Need-add-i Inv-loop μ-loop
 add-i c = omega arith
 
--- src/lib.rt:160:5
 loop-less : tie.Need-loop-less Inv-loop μ-loop
 loop-less c = omega arith
 
--- src/lib.rt:160:5
 loop-again : tie.Need-loop-again Inv-loop μ-loop
 loop-again c = (c .before .before .before .before .loop .inv .0, all-on isHex (c .before .before .before .before .before .before .before .args .w .now) (c .before .before .before .before .loop .i) (omega arith) (sym (c .before .is-hex .ensures) ∙ not-false _ (c .if2 .left)) ∙ c .before .before .before .before .loop .inv .1)
 
--- src/lib.rt:153:1
 returns-3 : tie.Need-returns-3 Inv-loop μ-loop
 returns-3 c = sym (hex-even _ (c .before .loop .inv .0) ∙ sym (c .before .loop .inv .1) ∙ all-end isHex (c .before .before .before .before .args .w .now) (c .before .loop .i) (omega arith))
 

@@ -1,62 +1,47 @@
+-- `orders::next_number` meets its contract.
+-- Assumes nothing.
 use Rattle.orders.proofs.Nexts.{word-inside, next-none, next-other, next-is, next-bad}
 use native.Mathlib.Omega.{arith}
 use borrow.Author.Needs.{needs}
 use Rattle.orders.proofs.next_number.Statement.{statement}
 use Rattle.orders.proofs.next_number.Tie as tie
-use Rattle.orders.proofs.next_number.Reads as reads
-use Rattle.orders.proofs.next_number.Lts as lts
-use Rattle.orders.proofs.number_of.Reads as number-of-reads
-use Rattle.orders.proofs.word_end.Reads as word-end-reads
 
--- src/lib.rt:90:9
 returns : tie.Need-returns
 returns c = next-none _ _ _ (c .if1 .taken)
 
--- src/lib.rt:92:8
 shared-slice-read-if2 : tie.Need-shared-slice-read-if2
 shared-slice-read-if2 c = search needs
 
--- src/lib.rt:93:9
 returns-2 : tie.Need-returns-2
 returns-2 c = next-other _ _ _ (c .before .before .if1 .left) (c .if2 .taken)
 
--- src/lib.rt:95:17
 add-start : tie.Need-add-start
 add-start c = search needs
 
--- src/lib.rt:96:9
 word-end-requires : tie.Need-word-end-requires
 word-end-requires c κs = search needs
 
--- src/lib.rt:97:21
 sub-number-of : tie.Need-sub-number-of
 sub-number-of c = search needs
 
--- src/lib.rt:97:21
 part-number-of-start : tie.Need-part-number-of-start
 part-number-of-start c = search needs
 
--- src/lib.rt:97:21
 part-number-of-end : tie.Need-part-number-of-end
 part-number-of-end c = word-inside (c .before .before .before .before .before .args .line .now) _ _ (c .word-end .ensures) (omega arith)
 
--- src/lib.rt:97:11
 number-of-requires : tie.Need-number-of-requires
 number-of-requires c κs = search needs
 
--- src/lib.rt:98:17
 enum-known-n : tie.Need-enum-known-n
 enum-known-n c = search needs
 
--- src/lib.rt:99:21
 enum-told : tie.Need-enum-told
 enum-told c = search needs
 
--- src/lib.rt:85:1
 returns-3 : tie.Need-returns-3
 returns-3 c = next-is _ _ _ (c .before .before .before .before .before .before .before .before .if1 .left) (c .before .before .before .before .before .before .if2 .left) _ _ _ (c .before .before .before .before .before .word-end .ensures) (c .before .before .before .number-of .ensures) (c .before .n .given .1)
 
--- src/lib.rt:85:1
 returns-4 : tie.Need-returns-4
 returns-4 c = next-bad _ _ _ (c .before .before .before .before .before .before .before .if1 .left) (c .before .before .before .before .before .if2 .left) _ _ (c .before .before .before .before .word-end .ensures) (c .before .before .number-of .ensures) (c .enum-told .given .1)
 

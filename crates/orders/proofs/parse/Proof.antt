@@ -1,85 +1,61 @@
+-- `orders::parse` meets its contract.
+-- Assumes nothing.
 use mathlib.Core.Path.{sym, _∙_}
 use mathlib.Core.Bool.{true, false}
 use lib.Seq.{length-take-le}
 use Rattle.orders.proofs.Orders.{empty, long, inside, hexed, named}
-use native.Mathlib.Omega.{arith}
 use borrow.Author.Needs.{needs}
 use Rattle.orders.proofs.parse.Statement.{statement}
 use Rattle.orders.proofs.parse.Tie as tie
-use Rattle.orders.proofs.parse.Reads as reads
-use Rattle.orders.proofs.parse.Lts as lts
-use Rattle.orders.proofs.bare.Reads as bare-reads
-use Rattle.orders.proofs.hex_behind.Reads as hex-behind-reads
-use Rattle.orders.proofs.numbers.Reads as numbers-reads
-use Rattle.orders.proofs.word_end.Reads as word-end-reads
-use Rattle.rows.proofs.row_of.Reads as row-of-reads
-use Rattle.rows.proofs.same.Reads as same-reads
 
--- src/lib.rt:191:9
 bare-requires : tie.Need-bare-requires
 bare-requires c κs = search needs
 
--- src/lib.rt:191:9
 returns : tie.Need-returns
 returns c = empty _ _ (c .before .if1 .taken) (c .bare .ensures)
 
--- src/lib.rt:194:9
 bare-requires-2 : tie.Need-bare-requires-2
 bare-requires-2 c κs = search needs
 
--- src/lib.rt:194:9
 returns-2 : tie.Need-returns-2
 returns-2 c = long _ _ (c .before .before .if1 .left) (c .before .if2 .taken) (c .bare2 .ensures)
 
--- src/lib.rt:196:9
 word-end-requires : tie.Need-word-end-requires
 word-end-requires c κs = search needs
 
--- src/lib.rt:197:19
 slice-aggregate-same : tie.Need-slice-aggregate-same
 slice-aggregate-same c = sym (length-take-le _ _ (inside (c .before .before .before .before .before .args .line .now) _ (c .before .word-end .ensures)))
 
--- src/lib.rt:197:33
 slice-aggregate-same-2 : tie.Need-slice-aggregate-same-2
 slice-aggregate-same-2 c = search needs
 
--- src/lib.rt:197:8
 same-requires : tie.Need-same-requires
 same-requires c κs = search needs
 
--- src/lib.rt:198:12
 hex-behind-requires : tie.Need-hex-behind-requires
 hex-behind-requires c κs = inside (c .before .before .before .before .before .before .before .before .args .line .now) _ (c .before .before .before .before .word-end .ensures)
 
--- src/lib.rt:199:13
 bare-requires-3 : tie.Need-bare-requires-3
 bare-requires-3 c κs = search needs
 
--- src/lib.rt:201:13
 bare-requires-4 : tie.Need-bare-requires-4
 bare-requires-4 c κs = search needs
 
--- src/lib.rt:204:41
 slice-aggregate-row-of : tie.Need-slice-aggregate-row-of
 slice-aggregate-row-of c = sym (length-take-le _ _ (inside (c .before .before .before .before .before .before .before .before .before .args .line .now) _ (c .before .before .before .before .before .word-end .ensures)))
 
--- src/lib.rt:204:28
 row-of-requires : tie.Need-row-of-requires
 row-of-requires c κs = search needs
 
--- src/lib.rt:204:9
 numbers-requires : tie.Need-numbers-requires
 numbers-requires c κs = inside (c .before .before .before .before .before .before .before .before .before .before .args .line .now) _ (c .before .before .before .before .before .before .word-end .ensures)
 
--- src/lib.rt:187:1
 returns-3 : tie.Need-returns-3
 returns-3 c = hexed (c .before .before .before .before .before .before .before .before .before .before .before .args .line .now) _ (c .before .before .before .before .before .before .before .word-end .ensures) (c .before .before .before .before .before .before .before .before .before .if1 .left) (c .before .before .before .before .before .before .before .before .if2 .left) _ (c .before .before .before .before .same .ensures) true _ (c .before .before .before .if3 .taken) (sym (c .before .if4 .taken) ∙ c .before .before .hex-behind .ensures) (c .bare3 .ensures)
 
--- src/lib.rt:187:1
 returns-4 : tie.Need-returns-4
 returns-4 c = hexed (c .before .before .before .before .before .before .before .before .before .before .before .args .line .now) _ (c .before .before .before .before .before .before .before .word-end .ensures) (c .before .before .before .before .before .before .before .before .before .if1 .left) (c .before .before .before .before .before .before .before .before .if2 .left) _ (c .before .before .before .before .same .ensures) false _ (c .before .before .before .if3 .taken) (sym (c .before .if4 .left) ∙ c .before .before .hex-behind .ensures) (c .bare4 .ensures)
 
--- src/lib.rt:187:1
 returns-5 : tie.Need-returns-5
 returns-5 c = named (c .before .before .before .before .before .before .before .before .before .before .before .args .line .now) _ (c .before .before .before .before .before .before .before .word-end .ensures) (c .before .before .before .before .before .before .before .before .before .if1 .left) (c .before .before .before .before .before .before .before .before .if2 .left) _ (c .before .before .before .before .same .ensures) _ _ (c .before .before .before .if3 .left) (c .before .row-of .ensures) (c .numbers .ensures)
 

@@ -1,45 +1,35 @@
+-- `page::append` meets its contract.
+-- Assumes nothing.
 use Rattle.page.proofs.Rooms.{room, too-long, past-end, too-full, stays, goes, sized}
 use native.Mathlib.Omega.{arith}
 use borrow.Author.Needs.{needs}
 use Rattle.page.proofs.append.Statement.{statement}
 use Rattle.page.proofs.append.Tie as tie
-use Rattle.page.proofs.append.Reads as reads
-use Rattle.page.proofs.append.Lts as lts
-use Rattle.page.proofs.copy.Reads as copy-reads
 
--- src/lib.rt:27:9
 returns : tie.Need-returns
 returns c = stays (c .before .before .args .out .now) (c .before .before .args .at) (c .before .before .args .l) (too-long (c .before .before .args .out .now) (c .before .before .args .at) (c .before .before .args .l) (c .if1 .taken))
 
--- src/lib.rt:30:9
 returns-2 : tie.Need-returns-2
 returns-2 c = stays (c .before .before .before .args .out .now) (c .before .before .before .args .at) (c .before .before .before .args .l) (past-end (c .before .before .before .args .out .now) (c .before .before .before .args .at) (c .before .before .before .args .l) (c .if2 .taken))
 
--- src/lib.rt:32:8
 sub-if3 : tie.Need-sub-if3
 sub-if3 c = search needs
 
--- src/lib.rt:33:9
 returns-3 : tie.Need-returns-3
 returns-3 c = stays (c .before .before .before .before .args .out .now) (c .before .before .before .before .args .at) (c .before .before .before .before .args .l) (too-full (c .before .before .before .before .args .out .now) (c .before .before .before .before .args .at) (c .before .before .before .before .args .l) (c .if3 .taken))
 
--- src/lib.rt:36:10
 slice-aggregate-copy : tie.Need-slice-aggregate-copy
 slice-aggregate-copy c = search needs
 
--- src/lib.rt:36:5
 copy-requires : tie.Need-copy-requires
 copy-requires c κs = (omega (arith, c .before .before .before .before .before .if1 .left, sized (c .before .before .before .before .before .before .before .args .l .bytes) 128 (c .before .before .before .before .before .before .before .good .1 .1 .0 .1 .1 .0 .1 .0 .1)), omega (arith, c .before .before .before .before .if2 .left, c .before .before .before .if3 .left))
 
--- src/lib.rt:37:5
 add-result : tie.Need-add-result
 add-result c = search needs
 
--- src/lib.rt:22:1
 same-length : tie.Need-same-length
 same-length c = search needs
 
--- src/lib.rt:22:1
 returns-4 : tie.Need-returns-4
 returns-4 c = goes (c .before .before .before .before .before .before .before .before .before .before .args .out .now) (c .before .before .before .before .before .before .before .before .before .before .args .at) (c .before .before .before .before .before .before .before .before .before .before .args .l) _ (room (c .before .before .before .before .before .before .before .before .before .before .args .out .now) (c .before .before .before .before .before .before .before .before .before .before .args .at) (c .before .before .before .before .before .before .before .before .before .before .args .l) (c .before .before .before .before .before .before .before .before .if1 .left) (c .before .before .before .before .before .before .before .if2 .left) (c .before .before .before .before .before .before .if3 .left)) (c .before .before .copy .ensures)
 

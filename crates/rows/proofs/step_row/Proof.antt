@@ -1,122 +1,92 @@
+-- `rows::step_row` meets its contract.
+-- Assumes nothing.
 use mathlib.Core.Path.{sym, _∙_}
 use Rattle.rows.specs.Rows.{stepRow}
-use native.Mathlib.Omega.{arith}
 use borrow.Author.Needs.{needs}
 use Rattle.rows.proofs.step_row.Statement.{statement}
 use Rattle.rows.proofs.step_row.Tie as tie
-use Rattle.rows.proofs.step_row.Reads as reads
-use Rattle.rows.proofs.step_row.Lts as lts
-use Rattle.rows.proofs.asks.Reads as asks-reads
-use Rattle.rows.proofs.same.Reads as same-reads
-use Rattle.rows.proofs.state_row.Reads as state-row-reads
 
--- src/lib.rt:92:16
 slice-aggregate-same : tie.Need-slice-aggregate-same
 slice-aggregate-same c = search needs
 
--- src/lib.rt:92:8
 same-requires : tie.Need-same-requires
 same-requires c κs = search needs
 
--- src/lib.rt:93:9
 asks-requires : tie.Need-asks-requires
 asks-requires c κs = search needs
 
--- src/lib.rt:93:9
 returns : tie.Need-returns
 unfolding stepRow
 returns c = rw (sym (c .before .before .same .ensures) ∙ c .before .if1 .taken) (c .asks .ensures)
 
--- src/lib.rt:95:16
 slice-aggregate-same-2 : tie.Need-slice-aggregate-same-2
 slice-aggregate-same-2 c = search needs
 
--- src/lib.rt:95:8
 same-requires-2 : tie.Need-same-requires-2
 same-requires-2 c κs = search needs
 
--- src/lib.rt:96:9
 asks-requires-2 : tie.Need-asks-requires-2
 asks-requires-2 c κs = search needs
 
--- src/lib.rt:96:9
 returns-2 : tie.Need-returns-2
 unfolding stepRow
 returns-2 c = rw (sym (c .before .before .before .before .before .same .ensures) ∙ c .before .before .before .before .if1 .left, sym (c .before .before .same2 .ensures) ∙ c .before .if2 .taken) (c .asks2 .ensures)
 
--- src/lib.rt:98:16
 slice-aggregate-same-3 : tie.Need-slice-aggregate-same-3
 slice-aggregate-same-3 c = search needs
 
--- src/lib.rt:98:8
 same-requires-3 : tie.Need-same-requires-3
 same-requires-3 c κs = search needs
 
--- src/lib.rt:99:9
 asks-requires-3 : tie.Need-asks-requires-3
 asks-requires-3 c κs = search needs
 
--- src/lib.rt:99:9
 returns-3 : tie.Need-returns-3
 unfolding stepRow
 returns-3 c = rw (sym (c .before .before .before .before .before .before .before .before .same .ensures) ∙ c .before .before .before .before .before .before .before .if1 .left, sym (c .before .before .before .before .before .same2 .ensures) ∙ c .before .before .before .before .if2 .left, sym (c .before .before .same3 .ensures) ∙ c .before .if3 .taken) (c .asks3 .ensures)
 
--- src/lib.rt:101:16
 slice-aggregate-same-4 : tie.Need-slice-aggregate-same-4
 slice-aggregate-same-4 c = search needs
 
--- src/lib.rt:101:8
 same-requires-4 : tie.Need-same-requires-4
 same-requires-4 c κs = search needs
 
--- src/lib.rt:102:9
 asks-requires-4 : tie.Need-asks-requires-4
 asks-requires-4 c κs = search needs
 
--- src/lib.rt:102:9
 returns-4 : tie.Need-returns-4
 unfolding stepRow
 returns-4 c = rw (sym (c .before .before .before .before .before .before .before .before .before .before .before .same .ensures) ∙ c .before .before .before .before .before .before .before .before .before .before .if1 .left, sym (c .before .before .before .before .before .before .before .before .same2 .ensures) ∙ c .before .before .before .before .before .before .before .if2 .left, sym (c .before .before .before .before .before .same3 .ensures) ∙ c .before .before .before .before .if3 .left, sym (c .before .before .same4 .ensures) ∙ c .before .if4 .taken) (c .asks4 .ensures)
 
--- src/lib.rt:104:16
 slice-aggregate-same-5 : tie.Need-slice-aggregate-same-5
 slice-aggregate-same-5 c = search needs
 
--- src/lib.rt:104:8
 same-requires-5 : tie.Need-same-requires-5
 same-requires-5 c κs = search needs
 
--- src/lib.rt:105:9
 asks-requires-5 : tie.Need-asks-requires-5
 asks-requires-5 c κs = search needs
 
--- src/lib.rt:105:9
 returns-5 : tie.Need-returns-5
 unfolding stepRow
 returns-5 c = rw (sym (c .before .before .before .before .before .before .before .before .before .before .before .before .before .before .same .ensures) ∙ c .before .before .before .before .before .before .before .before .before .before .before .before .before .if1 .left, sym (c .before .before .before .before .before .before .before .before .before .before .before .same2 .ensures) ∙ c .before .before .before .before .before .before .before .before .before .before .if2 .left, sym (c .before .before .before .before .before .before .before .before .same3 .ensures) ∙ c .before .before .before .before .before .before .before .if3 .left, sym (c .before .before .before .before .before .same4 .ensures) ∙ c .before .before .before .before .if4 .left, sym (c .before .before .same5 .ensures) ∙ c .before .if5 .taken) (c .asks5 .ensures)
 
--- src/lib.rt:107:16
 slice-aggregate-same-6 : tie.Need-slice-aggregate-same-6
 slice-aggregate-same-6 c = search needs
 
--- src/lib.rt:107:8
 same-requires-6 : tie.Need-same-requires-6
 same-requires-6 c κs = search needs
 
--- src/lib.rt:108:9
 asks-requires-6 : tie.Need-asks-requires-6
 asks-requires-6 c κs = search needs
 
--- src/lib.rt:108:9
 returns-6 : tie.Need-returns-6
 unfolding stepRow
 returns-6 c = rw (sym (c .before .before .before .before .before .before .before .before .before .before .before .before .before .before .before .before .before .same .ensures) ∙ c .before .before .before .before .before .before .before .before .before .before .before .before .before .before .before .before .if1 .left, sym (c .before .before .before .before .before .before .before .before .before .before .before .before .before .before .same2 .ensures) ∙ c .before .before .before .before .before .before .before .before .before .before .before .before .before .if2 .left, sym (c .before .before .before .before .before .before .before .before .before .before .before .same3 .ensures) ∙ c .before .before .before .before .before .before .before .before .before .before .if3 .left, sym (c .before .before .before .before .before .before .before .before .same4 .ensures) ∙ c .before .before .before .before .before .before .before .if4 .left, sym (c .before .before .before .before .before .same5 .ensures) ∙ c .before .before .before .before .if5 .left, sym (c .before .before .same6 .ensures) ∙ c .before .if6 .taken) (c .asks6 .ensures)
 
--- src/lib.rt:110:5
 state-row-requires : tie.Need-state-row-requires
 state-row-requires c κs = search needs
 
--- src/lib.rt:89:1
 returns-7 : tie.Need-returns-7
 unfolding stepRow
 returns-7 c = rw (sym (c .before .before .before .before .before .before .before .before .before .before .before .before .before .before .before .before .before .same .ensures) ∙ c .before .before .before .before .before .before .before .before .before .before .before .before .before .before .before .before .if1 .left, sym (c .before .before .before .before .before .before .before .before .before .before .before .before .before .before .same2 .ensures) ∙ c .before .before .before .before .before .before .before .before .before .before .before .before .before .if2 .left, sym (c .before .before .before .before .before .before .before .before .before .before .before .same3 .ensures) ∙ c .before .before .before .before .before .before .before .before .before .before .if3 .left, sym (c .before .before .before .before .before .before .before .before .same4 .ensures) ∙ c .before .before .before .before .before .before .before .if4 .left, sym (c .before .before .before .before .before .same5 .ensures) ∙ c .before .before .before .before .if5 .left, sym (c .before .before .same6 .ensures) ∙ c .before .if6 .left) (c .state-row .ensures)

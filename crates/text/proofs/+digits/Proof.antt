@@ -1,3 +1,5 @@
+-- `text::digits` meets its contract.
+-- Assumes nothing.
 use mathlib.Core.Path.{refl}
 use Rattle.text.proofs.Puts.{none, small, large}
 use native.Mathlib.Omega.{arith}
@@ -21,7 +23,6 @@ digits-at t = and 0 digits-kinds.ps (is 0 digits-kinds.ps μ-digits t) digits.Pr
 abbrev digits-below : ℕ → In 0 digits-kinds.ps
 digits-below t = and 0 digits-kinds.ps (falls 0 digits-kinds.ps _<_ μ-digits t) digits.Pre
 
--- src/lib.rt:59:21
 digits-cast-put : (t : ℕ) → digits-lts.Need-cast-put (
   put-reads.Asked,
   put-reads.Learnt,
@@ -30,7 +31,6 @@ digits-cast-put : (t : ℕ) → digits-lts.Need-cast-put (
 ) (digits-at t) digits.Post
 digits-cast-put t c = search needs
 
--- src/lib.rt:59:16
 digits-add-put : (t : ℕ) → digits-lts.Need-add-put (
   put-reads.Asked,
   put-reads.Learnt,
@@ -39,7 +39,6 @@ digits-add-put : (t : ℕ) → digits-lts.Need-add-put (
 ) (digits-at t) digits.Post
 digits-add-put t c = search needs
 
--- src/lib.rt:59:9
 digits-put-requires : (t : ℕ) → digits-lts.Need-put-requires (
   put-reads.Asked,
   put-reads.Learnt,
@@ -48,7 +47,6 @@ digits-put-requires : (t : ℕ) → digits-lts.Need-put-requires (
 ) (digits-at t) digits.Post
 digits-put-requires t c κs = search needs
 
--- src/lib.rt:61:31
 digits-sub-digits : (t : ℕ) → digits-lts.Need-sub-digits (
   put-reads.Asked,
   put-reads.Learnt,
@@ -57,7 +55,6 @@ digits-sub-digits : (t : ℕ) → digits-lts.Need-sub-digits (
 ) (digits-at t) digits.Post
 digits-sub-digits t c = search needs
 
--- src/lib.rt:61:13
 digits-digits-requires : (t : ℕ) → digits-lts.Need-digits-requires (
   put-reads.Asked,
   put-reads.Learnt,
@@ -66,7 +63,6 @@ digits-digits-requires : (t : ℕ) → digits-lts.Need-digits-requires (
 ) (digits-at t) digits.Post
 digits-digits-requires t c κs = (omega arith, tt)
 
--- src/lib.rt:61:44
 digits-cast-put-2 : (t : ℕ) → digits-lts.Need-cast-put-2 (
   put-reads.Asked,
   put-reads.Learnt,
@@ -75,7 +71,6 @@ digits-cast-put-2 : (t : ℕ) → digits-lts.Need-cast-put-2 (
 ) (digits-at t) digits.Post
 digits-cast-put-2 t c = search needs
 
--- src/lib.rt:61:39
 digits-add-put-2 : (t : ℕ) → digits-lts.Need-add-put-2 (
   put-reads.Asked,
   put-reads.Learnt,
@@ -84,7 +79,6 @@ digits-add-put-2 : (t : ℕ) → digits-lts.Need-add-put-2 (
 ) (digits-at t) digits.Post
 digits-add-put-2 t c = search needs
 
--- src/lib.rt:61:9
 digits-put-requires-2 : (t : ℕ) → digits-lts.Need-put-requires-2 (
   put-reads.Asked,
   put-reads.Learnt,
@@ -93,7 +87,6 @@ digits-put-requires-2 : (t : ℕ) → digits-lts.Need-put-requires-2 (
 ) (digits-at t) digits.Post
 digits-put-requires-2 t c κs = search needs
 
--- src/lib.rt:53:1
 digits-returns : (t : ℕ) → digits-lts.Need-returns (
   put-reads.Asked,
   put-reads.Learnt,
@@ -102,7 +95,6 @@ digits-returns : (t : ℕ) → digits-lts.Need-returns (
 ) (digits-at t) digits.Post
 digits-returns t c = none _ _ _ (c .if1 .taken)
 
--- src/lib.rt:53:1
 digits-returns-2 : (t : ℕ) → digits-lts.Need-returns-2 (
   put-reads.Asked,
   put-reads.Learnt,
@@ -111,7 +103,6 @@ digits-returns-2 : (t : ℕ) → digits-lts.Need-returns-2 (
 ) (digits-at t) digits.Post
 digits-returns-2 t c = small _ _ _ _ _ (c .before .before .if1 .left) (c .before .if2 .taken) refl (c .put .ensures)
 
--- src/lib.rt:53:1
 digits-returns-3 : (t : ℕ) → digits-lts.Need-returns-3 (
   put-reads.Asked,
   put-reads.Learnt,

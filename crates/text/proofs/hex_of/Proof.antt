@@ -1,25 +1,20 @@
+-- `text::hex_of` meets its contract.
+-- Assumes nothing.
 use mathlib.Core.Path.{refl}
 use Rattle.text.proofs.Nibbles.{low, high}
 use native.Mathlib.Omega.{arith}
-use borrow.Author.Needs.{needs}
 use Rattle.text.proofs.hex_of.Statement.{statement}
 use Rattle.text.proofs.hex_of.Tie as tie
-use Rattle.text.proofs.hex_of.Reads as reads
-use Rattle.text.proofs.hex_of.Lts as lts
 
--- src/lib.rt:124:1
 returns : tie.Need-returns
 returns c = low (c .before .args .b) 0 (omega arith) (omega arith)
 
--- src/lib.rt:124:1
 returns-2 : tie.Need-returns-2
 returns-2 c = low _ _ (c .if2 .taken) refl
 
--- src/lib.rt:124:1
 returns-3 : tie.Need-returns-3
 returns-3 c = high (c .before .before .before .args .b) 0 (c .before .if2 .left) (omega arith)
 
--- src/lib.rt:124:1
 returns-4 : tie.Need-returns-4
 returns-4 c = high _ _ (c .before .if2 .left) refl
 

@@ -1,40 +1,29 @@
+-- `text::signed` meets its contract.
+-- Assumes nothing.
 use Rattle.text.proofs.Signs.{minus, plain}
-use native.Mathlib.Omega.{arith}
 use borrow.Author.Needs.{needs}
 use Rattle.text.proofs.signed.Statement.{statement}
 use Rattle.text.proofs.signed.Tie as tie
-use Rattle.text.proofs.signed.Reads as reads
-use Rattle.text.proofs.signed.Lts as lts
-use Rattle.text.proofs.decimal.Reads as decimal-reads
-use Rattle.text.proofs.put.Reads as put-reads
-use Rattle.text.proofs.size.Reads as size-reads
 
--- src/lib.rt:94:9
 put-requires : tie.Need-put-requires
 put-requires c κs = search needs
 
--- src/lib.rt:95:9
 size-requires : tie.Need-size-requires
 size-requires c κs = search needs
 
--- src/lib.rt:97:17
 put-requires-2 : tie.Need-put-requires-2
 put-requires-2 c κs = search needs
 
--- src/lib.rt:97:9
 decimal-requires : tie.Need-decimal-requires
 decimal-requires c κs = search needs
 
--- src/lib.rt:99:9
 decimal-requires-2 : tie.Need-decimal-requires-2
 decimal-requires-2 c κs = search needs
 
--- src/lib.rt:91:1
 returns : tie.Need-returns
 returns c =
     minus _ _ _ _ (c .before .before .before .before .before .fits .z) (c .before .before .before .before .put .ensures) (c .before .before .before .size .ensures) _ _ (c .before .before .if1 .taken) (c .before .put2 .ensures) (c .decimal .ensures)
 
--- src/lib.rt:91:1
 returns-2 : tie.Need-returns-2
 returns-2 c =
     plain _ _ _ _ (c .before .before .before .before .fits .z) (c .before .before .before .put .ensures) (c .before .before .size .ensures) _ (c .before .if1 .left) (c .decimal2 .ensures)

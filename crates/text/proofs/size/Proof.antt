@@ -1,32 +1,25 @@
+-- `text::size` meets its contract.
+-- Assumes nothing.
 use Rattle.text.proofs.Signs.{below-fits, below-cast, below-more, below-size, above-cast}
-use native.Mathlib.Omega.{arith}
 use borrow.Author.Needs.{needs}
 use Rattle.text.proofs.size.Statement.{statement}
 use Rattle.text.proofs.size.Tie as tie
-use Rattle.text.proofs.size.Reads as reads
-use Rattle.text.proofs.size.Lts as lts
 
--- src/lib.rt:83:21
 sub-below : tie.Need-sub-below
 sub-below c = below-fits (c .before .args .z) (c .before .fits .z) (c .if1 .taken)
 
--- src/lib.rt:84:9
 cast-result : tie.Need-cast-result
 cast-result c = below-cast (c .before .args .z) (c .before .fits .z) (c .if1 .taken)
 
--- src/lib.rt:84:9
 add-result : tie.Need-add-result
 add-result c = below-more (c .before .args .z) (c .before .fits .z) (c .if1 .taken)
 
--- src/lib.rt:86:9
 cast-result-2 : tie.Need-cast-result-2
 cast-result-2 c = above-cast (c .before .args .z) (c .before .fits .z) (c .if1 .left)
 
--- src/lib.rt:79:1
 returns : tie.Need-returns
 returns c = below-size (c .before .args .z) (c .before .fits .z) (c .if1 .taken)
 
--- src/lib.rt:79:1
 returns-2 : tie.Need-returns-2
 returns-2 c = search needs
 

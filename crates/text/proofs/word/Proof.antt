@@ -1,3 +1,5 @@
+-- `text::word` meets its contract.
+-- Assumes nothing.
 use Prim.Native.Nat.{_-_}
 use mathlib.Core.Path.{_≡_, refl}
 use lib.ListN.{length, drop}
@@ -7,9 +9,6 @@ use native.Mathlib.Omega.{arith}
 use borrow.Author.Needs.{needs}
 use Rattle.text.proofs.word.Statement.{statement}
 use Rattle.text.proofs.word.Tie as tie
-use Rattle.text.proofs.word.Reads as reads
-use Rattle.text.proofs.word.Lts as lts
-use Rattle.text.proofs.put.Reads as put-reads
 
 abbrev Inv-loop : tie.InvT-loop
 Inv-loop w next₀ i₀ next i = puts next (drop i w) ≡ puts next₀ w
@@ -17,31 +16,24 @@ Inv-loop w next₀ i₀ next i = puts next (drop i w) ≡ puts next₀ w
 abbrev μ-loop : tie.MeasureT-loop
 μ-loop w next₀ i₀ next i = length w - i
 
--- src/lib.rt:45:5
 loop-holds : tie.Need-loop-holds Inv-loop μ-loop
 loop-holds c = refl
 
--- src/lib.rt:46:26
 shared-slice-read-put : tie.Need-shared-slice-read-put Inv-loop μ-loop
 shared-slice-read-put c = omega arith
 
--- src/lib.rt:46:9
 put-requires : tie.Need-put-requires Inv-loop μ-loop
 put-requires c κs = search needs
 
--- src/lib.rt:47:9
 add-i : tie.Need-add-i Inv-loop μ-loop
 add-i c = omega arith
 
--- src/lib.rt:45:5
 loop-less : tie.Need-loop-less Inv-loop μ-loop
 loop-less c = omega arith
 
--- src/lib.rt:45:5
 loop-again : tie.Need-loop-again Inv-loop μ-loop
 loop-again c = turn _ _ _ (c .before .before .before .before .before .args .w .now) (c .before .before .before .loop .i) (c .before .before .before .loop .inv) (omega arith) (c .put .ensures)
 
--- src/lib.rt:40:1
 returns : tie.Need-returns Inv-loop μ-loop
 returns c = done _ _ (c .before .before .before .args .w .now) (c .before .loop .i) (c .before .loop .inv) (omega arith)
 

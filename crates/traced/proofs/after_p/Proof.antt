@@ -1,30 +1,22 @@
+-- `traced::after_p` meets its contract.
+-- Assumes nothing.
 use Rattle.traced.proofs.Digit.{hexed, other}
-use native.Mathlib.Omega.{arith}
 use borrow.Author.Needs.{needs}
 use Rattle.traced.proofs.after_p.Statement.{statement}
 use Rattle.traced.proofs.after_p.Tie as tie
-use Rattle.traced.proofs.after_p.Reads as reads
-use Rattle.traced.proofs.after_p.Lts as lts
-use Rattle.text.proofs.hex_of.Reads as hex-of-reads
-use Rattle.text.proofs.is_hex.Reads as is-hex-reads
 
--- src/lib.rt:37:8
 is-hex-requires : tie.Need-is-hex-requires
 is-hex-requires c κs = search needs
 
--- src/lib.rt:38:21
 hex-of-requires : tie.Need-hex-of-requires
 hex-of-requires c κs = search needs
 
--- src/lib.rt:38:21
 cast-t5 : tie.Need-cast-t5
 cast-t5 c = search needs
 
--- src/lib.rt:34:1
 returns : tie.Need-returns
 returns c = hexed _ _ _ (c .before .before .is-hex .ensures) (c .before .if1 .taken) (c .hex-of .ensures)
 
--- src/lib.rt:34:1
 returns-2 : tie.Need-returns-2
 returns-2 c = other _ _ (c .before .is-hex .ensures) (c .if1 .left)
 

@@ -1,33 +1,26 @@
+-- `traced::between_steps` meets its contract.
+-- Assumes nothing.
 use borrow.Author.Tests.{eq-eqb, ne-eqb}
 use Rattle.traced.specs.Steps.{betweenSteps}
-use native.Mathlib.Omega.{arith}
-use borrow.Author.Needs.{needs}
 use Rattle.traced.proofs.between_steps.Statement.{statement}
 use Rattle.traced.proofs.between_steps.Tie as tie
-use Rattle.traced.proofs.between_steps.Reads as reads
-use Rattle.traced.proofs.between_steps.Lts as lts
 
--- src/lib.rt:18:1
 returns : tie.Need-returns
 unfolding betweenSteps
 returns c = rw (eq-eqb _ _ (c .if1 .taken))
 
--- src/lib.rt:18:1
 returns-2 : tie.Need-returns-2
 unfolding betweenSteps
 returns-2 c = rw (ne-eqb _ _ (c .before .if1 .left), eq-eqb _ _ (c .if2 .taken))
 
--- src/lib.rt:18:1
 returns-3 : tie.Need-returns-3
 unfolding betweenSteps
 returns-3 c = rw (ne-eqb _ _ (c .before .before .if1 .left), ne-eqb _ _ (c .before .if2 .left), eq-eqb _ _ (c .if3 .taken))
 
--- src/lib.rt:18:1
 returns-4 : tie.Need-returns-4
 unfolding betweenSteps
 returns-4 c = rw (ne-eqb _ _ (c .before .before .before .if1 .left), ne-eqb _ _ (c .before .before .if2 .left), ne-eqb _ _ (c .before .if3 .left), c .if4 .taken)
 
--- src/lib.rt:18:1
 returns-5 : tie.Need-returns-5
 unfolding betweenSteps
 returns-5 c = rw (ne-eqb _ _ (c .before .before .before .if1 .left), ne-eqb _ _ (c .before .before .if2 .left), ne-eqb _ _ (c .before .if3 .left), c .if4 .left)

@@ -1,28 +1,20 @@
+-- `tracer::done` meets its contract.
+-- Assumes nothing.
 use mathlib.Core.Bool.{true}
 use Rattle.tracer.proofs.Bytes.{unit-turn}
-use native.Mathlib.Omega.{arith}
 use borrow.Author.Needs.{needs}
 use Rattle.tracer.proofs.done.Statement.{statement}
 use Rattle.tracer.proofs.done.Tie as tie
-use Rattle.tracer.proofs.done.Reads as reads
-use Rattle.tracer.proofs.done.Lts as lts
-use Rattle.scheduler.proofs.unit.Reads as unit-reads
-use Rattle.tracer.proofs.turn_at.Reads as turn-at-reads
-use Rattle.words.proofs.unit_line.Reads as unit-line-reads
 
--- src/lib.rt:63:9
 unit-requires : tie.Need-unit-requires
 unit-requires c κs = search needs
 
--- src/lib.rt:66:20
 unit-line-requires : tie.Need-unit-line-requires
 unit-line-requires c κs = search needs
 
--- src/lib.rt:66:5
 turn-at-requires : tie.Need-turn-at-requires
 turn-at-requires c κs = search needs
 
--- src/lib.rt:59:1
 returns : tie.Need-returns
 returns c = unit-turn _ true _ _ _ (c .before .before .before .unit .ensures) (c .before .unit-line .ensures) (c .turn-at .ensures)
 

@@ -1,59 +1,48 @@
+-- `tracer::feed` meets its contract.
+-- Assumes nothing.
 use Prim.Native.Nat.{_-_, _*_, _≤_}
 use mathlib.Core.Path.{_≡_, refl}
 use mathlib.Core.List.{_++_}
 use lib.ListN.{length, take, drop}
 use Rattle.tracer.specs.Turns.{runOn, textOn}
-use Rattle.tracer.proofs.Bytes.{feed-turn, run-end, text-end}
+use Rattle.tracer.proofs.Bytes.{Going, feed-turn, feed-end}
 use native.Mathlib.Omega.{arith}
-use borrow.Author.Needs.{needs}
 use Rattle.tracer.proofs.feed.Statement.{statement}
 use Rattle.tracer.proofs.feed.Tie as tie
-use Rattle.tracer.proofs.feed.Reads as reads
-use Rattle.tracer.proofs.feed.Lts as lts
-use Rattle.page.proofs.append.Reads as append-reads
-use Rattle.tracer.proofs.take_byte.Reads as take-byte-reads
 
 abbrev Inv-loop : tie.InvT-loop
-Inv-loop piece out₀ r₀ at₀ i₀ out r at i = (i ≤ length piece) × (length out ≡ length out₀) × (at ≤ i * 128) × (runOn r (drop i piece) ≡ runOn r₀ piece) × (take at out ++ textOn r (drop i piece) ≡ textOn r₀ piece)
+Inv-loop piece out₀ r₀ at₀ i₀ out r at i = Going r₀ r piece out₀ out i at
 
 abbrev μ-loop : tie.MeasureT-loop
 μ-loop piece out₀ r₀ at₀ i₀ out r at i = length piece - i
 
--- src/lib.rt:135:5
 loop-holds : tie.Need-loop-holds Inv-loop μ-loop
-loop-holds c = (omega arith, refl, omega arith, refl, refl)
+loop-holds c = record { inside = omega arith; size = refl; low = omega arith; run = refl; text = refl; rest = refl }
 
--- src/lib.rt:136:30
 shared-slice-read-take-byte : tie.Need-shared-slice-read-take-byte Inv-loop μ-loop
 shared-slice-read-take-byte c = c .before .loop-test .taken
 
--- src/lib.rt:136:13
 take-byte-requires : tie.Need-take-byte-requires Inv-loop μ-loop
 take-byte-requires c κs = tt
 
--- src/lib.rt:139:9
 append-requires : tie.Need-append-requires Inv-loop μ-loop
 append-requires c κs = tt
 
--- src/lib.rt:141:9
 add-i : tie.Need-add-i Inv-loop μ-loop
-add-i c = omega (arith, c .before .before .before .before .before .before .before .before .loop-test .taken, c .before .before .before .before .before .before .before .before .before .loop .inv .0)
+add-i c = omega (arith, c .before .before .before .before .before .before .before .before .loop-test .taken)
 
--- src/lib.rt:135:5
 loop-less : tie.Need-loop-less Inv-loop μ-loop
 loop-less c = omega (arith, c .before .before .before .before .before .before .before .before .loop-test .taken)
 
--- src/lib.rt:135:5
 loop-again : tie.Need-loop-again Inv-loop μ-loop
-loop-again c = feed-turn _ (c .before .before .before .before .before .before .before .before .before .loop .r) (c .before .before .before .before .before .before .before .before .before .before .before .before .args .piece .now) (c .before .before .before .before .before .before .before .before .before .loop .out) _ (c .before .before .before .before .before .before .before .before .before .loop .i) (c .before .before .before .before .before .before .before .before .before .loop .at) _ _ _ (c .before .before .before .before .before .before .before .before .loop-test .taken) (c .before .before .before .before .before .before .take-byte .ensures) (c .before .before .before .before .before .before .before .before .before .before .before .before .pre) (c .before .before .before .before .before .before .before .before .before .loop .inv .1) (c .before .before .before .before .before .before .before .before .before .loop .inv .2) (c .before .before .before .before .before .before .before .before .before .loop .inv .3) (c .before .before .before .before .before .before .before .before .before .loop .inv .4) (c .before .before .append .ensures .0) (c .before .before .append .ensures .1)
+loop-again c =
+    feed-turn _ (c .before .before .before .before .before .before .before .before .before .loop .r) (c .before .before .before .before .before .before .before .before .before .before .before .before .args .piece .now) (c .before .before .before .before .before .before .before .before .before .before .before .before .args .out .now) (c .before .before .before .before .before .before .before .before .before .loop .out) _ (c .before .before .before .before .before .before .before .before .before .loop .i) (c .before .before .before .before .before .before .before .before .before .loop .at) _ _ (c .before .before .before .before .before .before .before .before .loop-test .taken) (c .before .before .before .before .before .before .take-byte .ensures) (c .before .before .before .before .before .before .before .before .before .before .before .before .pre) (c .before .before .before .before .before .before .before .before .before .loop .inv) (c .before .before .append .ensures .0) (c .before .before .append .ensures .1)
 
--- src/lib.rt:128:1
 same-length : tie.Need-same-length Inv-loop μ-loop
-same-length c = c .before .loop .inv .1
+same-length c = c .before .loop .inv .size
 
--- src/lib.rt:128:1
 returns : tie.Need-returns Inv-loop μ-loop
-returns c = (run-end _ _ (c .before .before .before .before .args .piece .now) (c .before .loop .i) (c .loop-test .left) (c .before .loop .inv .3), (text-end _ _ (c .before .before .before .before .args .piece .now) _ (c .before .loop .i) (c .loop-test .left) (c .before .loop .inv .4), omega (arith, c .before .before .before .before .pre, c .before .loop .inv .0, c .before .loop .inv .1, c .before .loop .inv .2)))
+returns c = feed-end _ (c .before .loop .r) (c .before .before .before .before .args .piece .now) (c .before .before .before .before .args .out .now) (c .before .loop .out) (c .before .loop .i) (c .before .loop .at) (c .loop-test .left) (c .before .before .before .before .pre) (c .before .loop .inv)
 
 pub feed-spec : {M : Type 1} → statement M
 feed-spec =

@@ -1,25 +1,20 @@
+-- `tracer::take_piece` meets its contract.
+-- Assumes nothing.
 use mathlib.Core.Path.{refl}
 use native.Mathlib.Omega.{arith}
 use borrow.Author.Needs.{needs}
 use Rattle.tracer.proofs.take_piece.Statement.{statement}
 use Rattle.tracer.proofs.take_piece.Tie as tie
-use Rattle.tracer.proofs.take_piece.Reads as reads
-use Rattle.tracer.proofs.take_piece.Lts as lts
-use Rattle.tracer.proofs.feed.Reads as feed-reads
 
--- src/lib.rt:151:9
 feed-requires : tie.Need-feed-requires
 feed-requires c κs = search needs
 
--- src/lib.rt:147:1
 same-length : tie.Need-same-length
 same-length c = search needs
 
--- src/lib.rt:147:1
 returns : tie.Need-returns
 returns c = record { room = λ h. c .before .before .feed .ensures; none = λ h. absurd (omega (arith, c .before .before .before .before .if1 .taken, h)) }
 
--- src/lib.rt:147:1
 returns-2 : tie.Need-returns-2
 returns-2 c = record { room = λ h. absurd (omega (arith, c .if1 .left, h)); none = λ h. (refl, (refl, refl)) }
 

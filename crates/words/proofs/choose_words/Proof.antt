@@ -1,66 +1,49 @@
+-- `words::choose_words` meets its contract.
+-- Assumes nothing.
 use Rattle.words.specs.Words.{says}
 use Rattle.text.proofs.Puts.{then}
-use native.Mathlib.Omega.{arith}
 use borrow.Author.Needs.{needs}
 use Rattle.words.proofs.choose_words.Statement.{statement}
 use Rattle.words.proofs.choose_words.Tie as tie
-use Rattle.words.proofs.choose_words.Reads as reads
-use Rattle.words.proofs.choose_words.Lts as lts
-use Rattle.text.proofs.one.Reads as one-reads
-use Rattle.text.proofs.word.Reads as word-reads
-use Rattle.words.proofs.refused.Reads as refused-reads
 
--- src/lib.rt:67:48
 enum-told : tie.Need-enum-told
 enum-told c = search needs
 
--- src/lib.rt:67:48
 slice-aggregate-word : tie.Need-slice-aggregate-word
 slice-aggregate-word c = search needs
 
--- src/lib.rt:67:34
 word-requires : tie.Need-word-requires
 word-requires c κs = search needs
 
--- src/lib.rt:68:28
 enum-known-a : tie.Need-enum-known-a
 enum-known-a c = search needs
 
--- src/lib.rt:69:26
 slice-aggregate-one : tie.Need-slice-aggregate-one
 slice-aggregate-one c = search needs
 
--- src/lib.rt:69:13
 one-requires : tie.Need-one-requires
 one-requires c κs = search needs
 
--- src/lib.rt:70:13
 slice-aggregate-one-2 : tie.Need-slice-aggregate-one-2
 slice-aggregate-one-2 c = search needs
 
--- src/lib.rt:68:37
 one-requires-2 : tie.Need-one-requires-2
 one-requires-2 c κs = search needs
 
--- src/lib.rt:73:31
 enum-known-a-2 : tie.Need-enum-known-a-2
 enum-known-a-2 c = search needs
 
--- src/lib.rt:73:39
 refused-requires : tie.Need-refused-requires
 refused-requires c κs = search needs
 
--- src/lib.rt:63:1
 returns : tie.Need-returns
 unfolding says
 returns c = rw (c .before .before .enum-told .given .1) (c .word .ensures)
 
--- src/lib.rt:63:1
 returns-2 : tie.Need-returns-2
 unfolding says
 returns-2 c = rw (c .before .before .before .before .before .a .given .1) (then _ _ _ _ _ (c .before .before .one .ensures) (c .one2 .ensures))
 
--- src/lib.rt:63:1
 returns-3 : tie.Need-returns-3
 unfolding says
 returns-3 c = rw (c .before .before .a2 .given .1) (c .refused .ensures)

@@ -1,41 +1,30 @@
+-- `words::count_words` meets its contract.
+-- Assumes nothing.
 use Rattle.words.specs.Words.{says}
 use Rattle.text.proofs.Puts.{then}
-use native.Mathlib.Omega.{arith}
 use borrow.Author.Needs.{needs}
 use Rattle.words.proofs.count_words.Statement.{statement}
 use Rattle.words.proofs.count_words.Tie as tie
-use Rattle.words.proofs.count_words.Reads as reads
-use Rattle.words.proofs.count_words.Lts as lts
-use Rattle.text.proofs.decimal.Reads as decimal-reads
-use Rattle.text.proofs.number.Reads as number-reads
-use Rattle.words.proofs.refused.Reads as refused-reads
 
--- src/lib.rt:93:29
 enum-known-a : tie.Need-enum-known-a
 enum-known-a c = search needs
 
--- src/lib.rt:93:35
 decimal-requires : tie.Need-decimal-requires
 decimal-requires c κs = search needs
 
--- src/lib.rt:94:30
 enum-known-a-2 : tie.Need-enum-known-a-2
 enum-known-a-2 c = search needs
 
--- src/lib.rt:94:51
 refused-requires : tie.Need-refused-requires
 refused-requires c κs = search needs
 
--- src/lib.rt:94:38
 number-requires : tie.Need-number-requires
 number-requires c κs = search needs
 
--- src/lib.rt:89:1
 returns : tie.Need-returns
 unfolding says
 returns c = rw (c .before .before .a .given .1) (c .decimal .ensures)
 
--- src/lib.rt:89:1
 returns-2 : tie.Need-returns-2
 unfolding says
 returns-2 c = rw (c .before .before .before .a2 .given .1) (then _ _ _ _ _ (c .before .refused .ensures) (c .number .ensures))

@@ -1,55 +1,41 @@
+-- `words::tuple_words` meets its contract.
+-- Assumes nothing.
 use Rattle.words.specs.Words.{says}
-use native.Mathlib.Omega.{arith}
 use borrow.Author.Needs.{needs}
 use Rattle.words.proofs.tuple_words.Statement.{statement}
 use Rattle.words.proofs.tuple_words.Tie as tie
-use Rattle.words.proofs.tuple_words.Reads as reads
-use Rattle.words.proofs.tuple_words.Lts as lts
-use Rattle.text.proofs.one.Reads as one-reads
-use Rattle.text.proofs.two.Reads as two-reads
 
--- src/lib.rt:102:21
 enum-known-t : tie.Need-enum-known-t
 enum-known-t c = search needs
 
--- src/lib.rt:102:40
 slice-aggregate-one : tie.Need-slice-aggregate-one
 slice-aggregate-one c = search needs
 
--- src/lib.rt:102:49
 cast-one : tie.Need-cast-one
 cast-one c = search needs
 
--- src/lib.rt:102:27
 one-requires : tie.Need-one-requires
 one-requires c κs = search needs
 
--- src/lib.rt:103:22
 enum-known-t-2 : tie.Need-enum-known-t-2
 enum-known-t-2 c = search needs
 
--- src/lib.rt:103:44
 slice-aggregate-two : tie.Need-slice-aggregate-two
 slice-aggregate-two c = search needs
 
--- src/lib.rt:103:54
 cast-two : tie.Need-cast-two
 cast-two c = search needs
 
--- src/lib.rt:103:64
 cast-two-2 : tie.Need-cast-two-2
 cast-two-2 c = search needs
 
--- src/lib.rt:103:31
 two-requires : tie.Need-two-requires
 two-requires c κs = search needs
 
--- src/lib.rt:98:1
 returns : tie.Need-returns
 unfolding says
 returns c = rw (c .before .before .before .t .given .1) (c .one .ensures)
 
--- src/lib.rt:98:1
 returns-2 : tie.Need-returns-2
 unfolding says
 returns-2 c = rw (c .before .before .before .t2 .given .1) (c .two .ensures)

@@ -1,101 +1,75 @@
+-- `words::unit_words` meets its contract.
+-- Assumes nothing.
 use Rattle.words.specs.Words.{says}
 use Rattle.words.proofs.Ends.{lax}
-use native.Mathlib.Omega.{arith}
 use borrow.Author.Needs.{needs}
 use Rattle.words.proofs.unit_words.Statement.{statement}
 use Rattle.words.proofs.unit_words.Tie as tie
-use Rattle.words.proofs.unit_words.Reads as reads
-use Rattle.words.proofs.unit_words.Lts as lts
-use Rattle.text.proofs.signed.Reads as signed-reads
-use Rattle.text.proofs.two.Reads as two-reads
-use Rattle.text.proofs.word.Reads as word-reads
-use Rattle.words.proofs.refused.Reads as refused-reads
 
--- src/lib.rt:81:25
 enum-known-a : tie.Need-enum-known-a
 enum-known-a c = search needs
 
--- src/lib.rt:81:47
 slice-aggregate-two : tie.Need-slice-aggregate-two
 slice-aggregate-two c = search needs
 
--- src/lib.rt:81:34
 two-requires : tie.Need-two-requires
 two-requires c κs = search needs
 
--- src/lib.rt:82:30
 enum-known-a-2 : tie.Need-enum-known-a-2
 enum-known-a-2 c = search needs
 
--- src/lib.rt:82:68
 slice-aggregate-two-2 : tie.Need-slice-aggregate-two-2
 slice-aggregate-two-2 c = search needs
 
--- src/lib.rt:82:55
 two-requires-2 : tie.Need-two-requires-2
 two-requires-2 c κs = search needs
 
--- src/lib.rt:82:42
 signed-requires : tie.Need-signed-requires
 signed-requires c κs = search needs
 
--- src/lib.rt:83:25
 enum-known-a-3 : tie.Need-enum-known-a-3
 enum-known-a-3 c = search needs
 
--- src/lib.rt:83:63
 slice-aggregate-two-3 : tie.Need-slice-aggregate-two-3
 slice-aggregate-two-3 c = search needs
 
--- src/lib.rt:83:50
 two-requires-3 : tie.Need-two-requires-3
 two-requires-3 c κs = search needs
 
--- src/lib.rt:83:37
 signed-requires-2 : tie.Need-signed-requires-2
 signed-requires-2 c κs = search needs
 
--- src/lib.rt:84:43
 enum-told : tie.Need-enum-told
 enum-told c = search needs
 
--- src/lib.rt:84:43
 slice-aggregate-word : tie.Need-slice-aggregate-word
 slice-aggregate-word c = search needs
 
--- src/lib.rt:84:29
 word-requires : tie.Need-word-requires
 word-requires c κs = search needs
 
--- src/lib.rt:85:29
 enum-known-a-4 : tie.Need-enum-known-a-4
 enum-known-a-4 c = search needs
 
--- src/lib.rt:85:37
 refused-requires : tie.Need-refused-requires
 refused-requires c κs = search needs
 
--- src/lib.rt:77:1
 returns : tie.Need-returns
 unfolding says
 returns c = rw (c .before .before .before .a .given .1) (c .two .ensures)
 
--- src/lib.rt:77:1
 returns-2 : tie.Need-returns-2
 unfolding says
 returns-2 c = rw (c .before .before .before .before .a2 .given .1) (lax _ _ _ _ (c .before .before .before .before .a2 .given .0 .1 .1 .0) (record { sfits = c .before .before .before .known-told2 .given .1 .1 .0 .1 }) (c .before .two2 .ensures) (c .signed .ensures))
 
--- src/lib.rt:77:1
 returns-3 : tie.Need-returns-3
 unfolding says
 returns-3 c = rw (c .before .before .before .before .a3 .given .1) (lax _ _ _ _ (c .before .before .before .before .a3 .given .0 .1 .1 .0) (record { sfits = c .before .before .before .known-told3 .given .1 .1 .0 .1 }) (c .before .two3 .ensures) (c .signed2 .ensures))
 
--- src/lib.rt:77:1
 returns-4 : tie.Need-returns-4
 unfolding says
 returns-4 c = rw (c .before .before .enum-told .given .1) (c .word .ensures)
 
--- src/lib.rt:77:1
 returns-5 : tie.Need-returns-5
 unfolding says
 returns-5 c = rw (c .before .before .a4 .given .1) (c .refused .ensures)
