@@ -17,9 +17,24 @@ fn compare(cases: u32) {
     let mut random = inputs::Random(88_172_645_463_325_252);
     for case in 0..cases {
         let (sheet, calls, k) = (random.sheet(), random.calls(), random.below(17) as usize);
-        same(case, proved::read(&sheet, k), plain::read(&sheet, k), slow::read(&sheet, k));
-        same(case, proved::verdict(&sheet), plain::verdict(&sheet), slow::verdict(&sheet));
-        same(case, proved::run(&sheet, &calls), plain::run(&sheet, &calls), slow::run(&sheet, &calls));
+        same(
+            case,
+            proved::read(&sheet, k),
+            plain::read(&sheet, k),
+            slow::read(&sheet, k),
+        );
+        same(
+            case,
+            proved::verdict(&sheet),
+            plain::verdict(&sheet),
+            slow::verdict(&sheet),
+        );
+        same(
+            case,
+            proved::run(&sheet, &calls),
+            plain::run(&sheet, &calls),
+            slow::run(&sheet, &calls),
+        );
     }
 }
 
@@ -50,16 +65,22 @@ impl Table {
             let on = format!("{pending} pending, {streams} streams of {tuples}");
             let calls = inputs::posts_and_units(streams, pending, 20_000);
             let what = format!("a post and a unit with done, {on}");
-            self.row(&what, 1.5, &|| proved::run(&sheet, &calls), &|| plain::run(&sheet, &calls));
+            self.row(&what, 1.5, &|| proved::run(&sheet, &calls), &|| {
+                plain::run(&sheet, &calls)
+            });
             let calls = inputs::units(streams, pending, 20_000);
             let what = format!("a unit that runs, {on}");
-            self.row(&what, 1.5, &|| proved::run(&sheet, &calls), &|| plain::run(&sheet, &calls));
+            self.row(&what, 1.5, &|| proved::run(&sheet, &calls), &|| {
+                plain::run(&sheet, &calls)
+            });
         }
     }
 }
 
 fn main() -> ExitCode {
-    let seconds = std::env::args().nth(1).map_or(Some(5), |word| word.parse().ok());
+    let seconds = std::env::args()
+        .nth(1)
+        .map_or(Some(5), |word| word.parse().ok());
     let Some(seconds) = seconds else {
         eprintln!("usage: speed [SECONDS]");
         return ExitCode::from(2);
@@ -76,12 +97,20 @@ fn main() -> ExitCode {
         let sheet = inputs::long_check(tuples);
         let what = format!("load check, accepted, H = 1,000,000, 16 streams of {tuples}");
         assert_eq!(proved::verdict(&sheet), 0, "{what}: not accepted");
-        table.row(&what, 1.2, &|| proved::verdict(&sheet), &|| plain::verdict(&sheet));
+        table.row(&what, 1.2, &|| proved::verdict(&sheet), &|| {
+            plain::verdict(&sheet)
+        });
     }
     let sheet = inputs::long_check(4);
     assert_eq!(sheet.len(), 378);
-    let what = "reading a full sheet of 378 bytes";
-    table.row(what, 1.5, &|| proved::read(&sheet, 15), &|| plain::read(&sheet, 15));
+    let what = "reading a full sheet of 378 bytes, plain reader by bytes";
+    table.row(what, 1.5, &|| proved::read(&sheet, 15), &|| {
+        plain::read(&sheet, 15)
+    });
+    let what = "reading a full sheet of 378 bytes, plain reader by bits";
+    table.row(what, 1.5, &|| proved::read(&sheet, 15), &|| {
+        slow::read(&sheet, 15)
+    });
     table.steps(16, 4);
     table.steps(1, 1);
     if table.within {
