@@ -45,6 +45,12 @@ fn same(case: u32, proved: u64, plain: u64, slow: u64) {
     }
 }
 
+fn size(streams: usize, tuples: u32) -> String {
+    let plural = |many: bool| if many { "s" } else { "" };
+    let (s, t) = (plural(streams > 1), plural(tuples > 1));
+    format!("{streams} stream{s} of {tuples} tuple{t}")
+}
+
 struct Table {
     seconds: u64,
     within: bool,
@@ -62,7 +68,7 @@ impl Table {
     fn steps(&mut self, streams: usize, tuples: u32) {
         let sheet = inputs::steps_set(streams as u32, tuples);
         for pending in [1, 16, 64] {
-            let on = format!("{pending} pending, {streams} streams of {tuples}");
+            let on = format!("{pending} pending, {}", size(streams, tuples));
             let calls = inputs::posts_and_units(streams, pending, 20_000);
             let what = format!("a post and a unit with done, {on}");
             self.row(&what, 1.5, &|| proved::run(&sheet, &calls), &|| {
@@ -95,7 +101,7 @@ fn main() -> ExitCode {
     };
     for tuples in [1, 4] {
         let sheet = inputs::long_check(tuples);
-        let what = format!("load check, accepted, H = 1,000,000, 16 streams of {tuples}");
+        let what = format!("load check, accepted, H = 1,000,000, {}", size(16, tuples));
         assert_eq!(proved::verdict(&sheet), 0, "{what}: not accepted");
         table.row(&what, 1.2, &|| proved::verdict(&sheet), &|| {
             plain::verdict(&sheet)
