@@ -7,5 +7,8 @@ fn main() {
     let folder = Path::new(&here).join("../../target/staticlib");
     println!("cargo:rustc-link-search=native={}", folder.display());
     println!("cargo:rustc-link-lib=static=exports");
-    println!("cargo:rerun-if-changed={}", folder.join("libexports.a").display());
+    println!(
+        "cargo:rerun-if-changed={}",
+        folder.join("libexports.a").display()
+    );
 }

@@ -109,9 +109,15 @@ impl Random {
                 }
             })
             .collect();
-        let cost = 1 + if self.below(3) == 0 { self.below(40) } else { self.below(3) };
+        let cost = 1 + if self.below(3) == 0 {
+            self.below(40)
+        } else {
+            self.below(3)
+        };
         let deadline = 1 + self.below(200);
-        stream(self.below(16), cost, deadline, tuples.len() as u32, |j| tuples[j as usize])
+        stream(self.below(16), cost, deadline, tuples.len() as u32, |j| {
+            tuples[j as usize]
+        })
     }
 
     /// Posts, units and units with done.

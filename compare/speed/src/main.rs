@@ -17,9 +17,24 @@ fn compare(cases: u32) {
     let mut random = inputs::Random(88_172_645_463_325_252);
     for case in 0..cases {
         let (sheet, calls, k) = (random.sheet(), random.calls(), random.below(17) as usize);
-        same(case, proved::read(&sheet, k), plain::read(&sheet, k), slow::read(&sheet, k));
-        same(case, proved::verdict(&sheet), plain::verdict(&sheet), slow::verdict(&sheet));
-        same(case, proved::run(&sheet, &calls), plain::run(&sheet, &calls), slow::run(&sheet, &calls));
+        same(
+            case,
+            proved::read(&sheet, k),
+            plain::read(&sheet, k),
+            slow::read(&sheet, k),
+        );
+        same(
+            case,
+            proved::verdict(&sheet),
+            plain::verdict(&sheet),
+            slow::verdict(&sheet),
+        );
+        same(
+            case,
+            proved::run(&sheet, &calls),
+            plain::run(&sheet, &calls),
+            slow::run(&sheet, &calls),
+        );
     }
 }
 
@@ -28,6 +43,12 @@ fn same(case: u32, proved: u64, plain: u64, slow: u64) {
         eprintln!("case {case} differs: proved {proved:x}, plain {plain:x}, second {slow:x}");
         std::process::exit(1);
     }
+}
+
+fn size(streams: usize, tuples: u32) -> String {
+    let plural = |many: bool| if many { "s" } else { "" };
+    let (s, t) = (plural(streams > 1), plural(tuples > 1));
+    format!("{streams} stream{s} of {tuples} tuple{t}")
 }
 
 struct Table {
@@ -47,19 +68,25 @@ impl Table {
     fn steps(&mut self, streams: usize, tuples: u32) {
         let sheet = inputs::steps_set(streams as u32, tuples);
         for pending in [1, 16, 64] {
-            let on = format!("{pending} pending, {streams} streams of {tuples}");
+            let on = format!("{pending} pending, {}", size(streams, tuples));
             let calls = inputs::posts_and_units(streams, pending, 20_000);
             let what = format!("a post and a unit with done, {on}");
-            self.row(&what, 1.5, &|| proved::run(&sheet, &calls), &|| plain::run(&sheet, &calls));
+            self.row(&what, 1.5, &|| proved::run(&sheet, &calls), &|| {
+                plain::run(&sheet, &calls)
+            });
             let calls = inputs::units(streams, pending, 20_000);
             let what = format!("a unit that runs, {on}");
-            self.row(&what, 1.5, &|| proved::run(&sheet, &calls), &|| plain::run(&sheet, &calls));
+            self.row(&what, 1.5, &|| proved::run(&sheet, &calls), &|| {
+                plain::run(&sheet, &calls)
+            });
         }
     }
 }
 
 fn main() -> ExitCode {
-    let seconds = std::env::args().nth(1).map_or(Some(5), |word| word.parse().ok());
+    let seconds = std::env::args()
+        .nth(1)
+        .map_or(Some(5), |word| word.parse().ok());
     let Some(seconds) = seconds else {
         eprintln!("usage: speed [SECONDS]");
         return ExitCode::from(2);
@@ -74,14 +101,22 @@ fn main() -> ExitCode {
     };
     for tuples in [1, 4] {
         let sheet = inputs::long_check(tuples);
-        let what = format!("load check, accepted, H = 1,000,000, 16 streams of {tuples}");
+        let what = format!("load check, accepted, H = 1,000,000, {}", size(16, tuples));
         assert_eq!(proved::verdict(&sheet), 0, "{what}: not accepted");
-        table.row(&what, 1.2, &|| proved::verdict(&sheet), &|| plain::verdict(&sheet));
+        table.row(&what, 1.2, &|| proved::verdict(&sheet), &|| {
+            plain::verdict(&sheet)
+        });
     }
     let sheet = inputs::long_check(4);
     assert_eq!(sheet.len(), 378);
-    let what = "reading a full sheet of 378 bytes";
-    table.row(what, 1.5, &|| proved::read(&sheet, 15), &|| plain::read(&sheet, 15));
+    let what = "reading a full sheet of 378 bytes, plain reader by bytes";
+    table.row(what, 1.5, &|| proved::read(&sheet, 15), &|| {
+        plain::read(&sheet, 15)
+    });
+    let what = "reading a full sheet of 378 bytes, plain reader by bits";
+    table.row(what, 1.5, &|| proved::read(&sheet, 15), &|| {
+        slow::read(&sheet, 15)
+    });
     table.steps(16, 4);
     table.steps(1, 1);
     if table.within {

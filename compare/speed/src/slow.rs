@@ -6,7 +6,10 @@ use second::state::State;
 
 pub fn read(sheet: &[u8], k: usize) -> u64 {
     match second::sheet::read(sheet) {
-        Ok(set) => set.streams.get(k).map_or(0, |stream| stream.deadline.into()),
+        Ok(set) => set
+            .streams
+            .get(k)
+            .map_or(0, |stream| stream.deadline.into()),
         Err(refusal) => u64::from(refusal.number()) << 32,
     }
 }

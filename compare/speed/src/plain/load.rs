@@ -7,7 +7,8 @@ use super::set::{Set, Tuple};
 
 pub enum Verdict {
     Accept,
-    Late(u64, u64),
+    /// The least late length.
+    Late(u64),
     Overload,
     Refused(u8),
 }
@@ -57,7 +58,10 @@ fn blocking(set: &Set, length: u32) -> u64 {
             held[stream.task] = held[stream.task].max(u64::from(stream.cost) - 1);
         }
     }
-    (0..16).filter(|&task| urgent[task]).map(|task| held[task]).sum()
+    (0..16)
+        .filter(|&task| urgent[task])
+        .map(|task| held[task])
+        .sum()
 }
 
 fn gcd(a: u64, b: u64) -> u64 {
@@ -70,10 +74,13 @@ fn gcd(a: u64, b: u64) -> u64 {
 
 fn cyclic(set: &Set) -> impl Iterator<Item = (u64, u64)> + '_ {
     set.used_streams().iter().flat_map(|stream| {
-        stream.used_tuples().iter().filter_map(|tuple| match *tuple {
-            Tuple::Once(_) => None,
-            Tuple::Every(cycle, _) => Some((u64::from(stream.cost), u64::from(cycle))),
-        })
+        stream
+            .used_tuples()
+            .iter()
+            .filter_map(|tuple| match *tuple {
+                Tuple::Once(_) => None,
+                Tuple::Every(cycle, _) => Some((u64::from(stream.cost), u64::from(cycle))),
+            })
     })
 }
 
@@ -88,11 +95,18 @@ pub fn verdict(set: &Set) -> Verdict {
             return Verdict::Refused(8);
         }
     }
-    if cyclic(set).map(|(cost, cycle)| cost * (h / cycle)).sum::<u64>() > h {
+    if cyclic(set)
+        .map(|(cost, cycle)| cost * (h / cycle))
+        .sum::<u64>()
+        > h
+    {
         return Verdict::Overload;
     }
     let streams = set.used_streams();
-    let offsets = streams.iter().flat_map(|s| s.used_tuples()).map(|t| t.offset());
+    let offsets = streams
+        .iter()
+        .flat_map(|s| s.used_tuples())
+        .map(|t| t.offset());
     let mut deadlines: Vec<u32> = streams.iter().map(|s| s.deadline).collect();
     deadlines.sort_unstable();
     let end = h as u32 + deadlines.last().unwrap_or(&0) + offsets.max().unwrap_or(0) + 1;
@@ -104,7 +118,7 @@ pub fn verdict(set: &Set) -> Verdict {
         for length in from..stop {
             let demand = work(&rows, length) + blocked;
             if demand > length.into() {
-                return Verdict::Late(length.into(), demand);
+                return Verdict::Late(length.into());
             }
         }
         from = stop;

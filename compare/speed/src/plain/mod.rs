@@ -24,7 +24,7 @@ pub fn verdict(sheet: &[u8]) -> u64 {
     match sheet::read(sheet) {
         Ok(set) => match load::verdict(&set) {
             load::Verdict::Accept => halves(0, 0),
-            load::Verdict::Late(length, _) => halves(13, length),
+            load::Verdict::Late(length) => halves(13, length),
             load::Verdict::Overload => halves(14, 0),
             load::Verdict::Refused(number) => halves(number.into(), 0),
         },
@@ -38,10 +38,9 @@ pub fn run(sheet: &[u8], calls: &[u8]) -> u64 {
     let mut state = steps::State::start(&set);
     for &call in calls {
         match call {
-            0..=15 => drop(state.post(call.into())),
-            16 => drop(state.unit(false)),
-            _ => drop(state.unit(true)),
-        }
+            0..=15 => state.post(call.into()),
+            _ => state.unit(call != 16),
+        };
     }
     halves(state.count as u64, state.clock.into())
 }
