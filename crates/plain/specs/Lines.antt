@@ -46,10 +46,13 @@ streamText s =
 abbrev pub isDigit : ℕ → Bool
 isDigit b = within (code "0") b (code "9")
 
--- the digits at the front
-unfoldable pub digits : List ℕ → List ℕ
-digits [] = []
-digits (b ∷ l) = cond (isDigit b) (b ∷ digits l) []
+-- the bytes at the front that pass a test; the digits there
+unfoldable pub lead : (ℕ → Bool) → List ℕ → List ℕ
+lead p [] = []
+lead p (b ∷ l) = cond (p b) (b ∷ lead p l) []
+
+abbrev pub digits : List ℕ → List ℕ
+digits l = lead isDigit l
 
 -- the bytes of w stand there
 unfoldable pub startsAt : List ℕ → List ℕ → ℕ → Bool
@@ -69,7 +72,7 @@ fieldAt w low high l at = cond (startsAt w l at) (numberAt low high l (at + leng
 
 -- what a field leads to: on with its number, or what to answer
 module _ {A : Type 0} where
-  abbrev pub byField : Field → A → A → (ℕ → ℕ → A) → A
+  unfoldable pub byField : Field → A → A → (ℕ → ℕ → A) → A
   byField (Is n end) missing outside next = next n end
   byField Missing missing outside next = missing
   byField Outside missing outside next = outside
@@ -109,7 +112,7 @@ abbrev pub finished : StreamT → LineRead
 finished s = cond (eqb (s .count) 0) (bad NotTuple) (isStream s)
 
 -- at most n tuples more; "the first is 0 and they never fall"
-abbrev pub byTuple : TupleRead → (Tuple → ℕ → LineRead) → LineRead
+unfoldable pub byTuple : TupleRead → (Tuple → ℕ → LineRead) → LineRead
 byTuple (IsTuple t end) next = next t end
 byTuple (BadTuple why) next = bad why
 

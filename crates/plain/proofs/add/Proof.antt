@@ -1,3 +1,5 @@
+use borrow.Author.Tests.{lt-ltb, le-ltb}
+use Rattle.plain.specs.Lines.{added}
 use native.Mathlib.Omega.{arith}
 use borrow.Author.Needs.{needs}
 use Rattle.plain.proofs.add.Statement.{statement}
@@ -19,11 +21,13 @@ add-next c = search needs
 
 -- src/lib.rt:213:1
 returns : tie.Need-returns
-returns c = ?
+unfolding added
+returns c = rw (lt-ltb _ 4 (c .if1 .taken))
 
 -- src/lib.rt:213:1
 returns-2 : tie.Need-returns-2
-returns-2 c = ?
+unfolding added
+returns-2 c = rw (le-ltb _ 4 (c .if1 .left))
 
 pub add-spec : {M : Type 1} → statement M
 add-spec = tie.close (tie.spec mul-t8 element-set-from-next add-next returns returns-2)

@@ -12,7 +12,7 @@ no-stream-requires c κs = search needs
 
 -- src/lib.rt:191:1
 returns : tie.Need-returns
-returns c = ?
+returns c = simp (c .no-stream .ensures)
 
 pub bad-line-spec : {M : Type 1} → statement M
 bad-line-spec = tie.close (tie.spec no-stream-requires returns)

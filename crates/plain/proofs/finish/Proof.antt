@@ -1,3 +1,4 @@
+use borrow.Author.Tests.{eq-eqb, ne-eqb}
 use native.Mathlib.Omega.{arith}
 use borrow.Author.Needs.{needs}
 use Rattle.plain.proofs.finish.Statement.{statement}
@@ -17,11 +18,11 @@ stream-read-requires c κs = search needs
 
 -- src/lib.rt:228:1
 returns : tie.Need-returns
-returns c = ?
+returns c = rw (eq-eqb _ 0 (c .before .if1 .taken)) (c .bad-line .ensures)
 
 -- src/lib.rt:228:1
 returns-2 : tie.Need-returns-2
-returns-2 c = ?
+returns-2 c = rw (ne-eqb _ 0 (c .before .if1 .left)) (c .stream-read .ensures)
 
 pub finish-spec : {M : Type 1} → statement M
 finish-spec = tie.close (tie.spec bad-line-requires stream-read-requires returns returns-2)

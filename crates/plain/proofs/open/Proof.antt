@@ -12,7 +12,7 @@ no-stream-requires c κs = search needs
 
 -- src/lib.rt:202:1
 returns : tie.Need-returns
-returns c = ?
+returns c = simp (c .no-stream .ensures)
 
 pub open-spec : {M : Type 1} → statement M
 open-spec = tie.close (tie.spec no-stream-requires returns)

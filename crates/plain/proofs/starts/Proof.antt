@@ -1,3 +1,4 @@
+use Rattle.plain.proofs.Numbers.{starts-past, starts-short, starts-same}
 use native.Mathlib.Omega.{arith}
 use borrow.Author.Needs.{needs}
 use Rattle.plain.proofs.starts.Statement.{statement}
@@ -8,7 +9,7 @@ use Rattle.rows.proofs.same.Reads as same-reads
 
 -- src/lib.rt:63:9
 returns : tie.Need-returns
-returns c = ?
+returns c = starts-past _ _ _ (c .if1 .taken)
 
 -- src/lib.rt:65:8
 sub-if2 : tie.Need-sub-if2
@@ -16,7 +17,7 @@ sub-if2 c = search needs
 
 -- src/lib.rt:66:9
 returns-2 : tie.Need-returns-2
-returns-2 c = ?
+returns-2 c = starts-short _ _ _ (c .before .if1 .left) (c .if2 .taken)
 
 -- src/lib.rt:68:15
 add-end : tie.Need-add-end
@@ -40,7 +41,7 @@ same-requires c κs = search needs
 
 -- src/lib.rt:59:1
 returns-3 : tie.Need-returns-3
-returns-3 c = ?
+returns-3 c = starts-same _ _ _ _ (c .before .before .if1 .left) (c .before .if2 .left) (c .same .ensures)
 
 pub starts-spec : {M : Type 1} → statement M
 starts-spec =

@@ -1,0 +1,62 @@
+-- What a field or a tuple leads to, by what was found.
+-- Assumes nothing.
+use Prim.Native.Nat.{ℕ, zero, suc, _+_, _-_, _≤_, _<_}
+use native.Mathlib.Omega.{arith}
+use mathlib.Core.Path.{_≡_, refl, sym, ap, _∙_}
+use mathlib.Core.Bool.{Bool, true, false, cond}
+use mathlib.Core.List.{List, [], _∷_}
+use lib.ListN.{length}
+use lib.Dec.{leb, ltb, eqb}
+use borrow.Author.Tests.{le-leb, lt-leb, eq-eqb, ne-eqb, lt-ltb, le-ltb}
+use Rattle.rules.specs.declared.Tuple.{Tuple}
+use Rattle.rules.specs.declared.Stream.{Stream}
+use Rattle.rules.specs.Streams.{offset}
+use Rattle.plain.specs.declared.Fault.{Fault}
+use Rattle.plain.specs.declared.Fault.the-variants.{FiveTuples}
+use Rattle.plain.specs.declared.Field.{Field}
+use Rattle.plain.specs.declared.Field.the-variants.{Is, Missing, Outside}
+use Rattle.plain.specs.declared.TupleRead.{TupleRead}
+use Rattle.plain.specs.declared.TupleRead.the-variants.{Is as IsTuple, Bad as BadTuple}
+use Rattle.plain.specs.declared.LineRead.{LineRead}
+use Rattle.plain.specs.Lines.{byField, byTuple, bad, finished, added, tupleAt, tuplesAt}
+
+module _ {A : Type 0} (x y : A) (g : ℕ → ℕ → A) (r : A) (v f : Field) (p : v ≡ f) where
+  by : (w : Field) → v ≡ w → byField f x y g ≡ byField w x y g
+  by w q = ap (λ (z : Field). byField z x y g) (sym p ∙ q)
+
+  pub way-is : (n e : ℕ) → v ≡ Is n e → r ≡ g n e → r ≡ byField f x y g
+  unfolding byField
+  way-is n e q h = h ∙ sym (by (Is n e) q)
+
+  pub way-missing : v ≡ Missing → r ≡ x → r ≡ byField f x y g
+  unfolding byField
+  way-missing q h = h ∙ sym (by Missing q)
+
+  pub way-outside : v ≡ Outside → r ≡ y → r ≡ byField f x y g
+  unfolding byField
+  way-outside q h = h ∙ sym (by Outside q)
+
+-- the tuples of a line: the line's end, a fifth tuple, one tuple more, no tuple
+module _ (s : Stream) (low high : ℕ) (l : List ℕ) (at : ℕ) (r : LineRead) where
+  pub line-end : (n : ℕ) → length l ≤ at → r ≡ finished s → r ≡ tuplesAt n s low high l at
+  unfolding tuplesAt
+  line-end zero h e = rw (le-leb (length l) at h) e
+  line-end (suc n) h e = rw (le-leb (length l) at h) e
+
+  pub too-many : (n : ℕ) → at < length l → n ≡ 0 → r ≡ bad FiveTuples → r ≡ tuplesAt n s low high l at
+  unfolding tuplesAt
+  too-many n h z e = rw (z, lt-leb (length l) at h) e
+
+  pub one-more : (n : ℕ) (v : TupleRead) (t : Tuple) (end : ℕ) → at < length l → (n ≡ 0 → ⊥) → v ≡ tupleAt low high l at → v ≡ IsTuple t end
+      → r ≡ tuplesAt (n - 1) (added s t) (offset t) 100000 l end → r ≡ tuplesAt n s low high l at
+  unfolding tuplesAt byTuple
+  one-more zero v t end h z p q e = absurd (z refl)
+  one-more (suc n) v t end h z p q e =
+      let less : suc n - 1 ≡ n = omega arith in
+      rw (lt-leb (length l) at h, sym p ∙ q) (rw less at e)
+
+  pub no-tuple : (n : ℕ) (v : TupleRead) (why : Fault) → at < length l → (n ≡ 0 → ⊥) → v ≡ tupleAt low high l at → v ≡ BadTuple why
+      → r ≡ bad why → r ≡ tuplesAt n s low high l at
+  unfolding tuplesAt byTuple
+  no-tuple zero v why h z p q e = absurd (z refl)
+  no-tuple (suc n) v why h z p q e = rw (lt-leb (length l) at h, sym p ∙ q) e
