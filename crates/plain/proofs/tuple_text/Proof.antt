@@ -1,3 +1,4 @@
+use Rattle.text.proofs.Puts.{then}
 use native.Mathlib.Omega.{arith}
 use borrow.Author.Needs.{needs}
 use Rattle.plain.proofs.tuple_text.Statement.{statement}
@@ -62,11 +63,11 @@ decimal-requires-2 c κs = search needs
 
 -- src/lib.rt:315:1
 returns : tie.Need-returns
-returns c = ?
+returns c = rw (c .before .before .before .before .t .given .1) (then _ _ _ _ _ (c .before .word .ensures) (c .decimal .ensures))
 
 -- src/lib.rt:315:1
 returns-2 : tie.Need-returns-2
-returns-2 c = ?
+returns-2 c = rw (c .before .before .before .before .before .before .t2 .given .1) (then _ _ _ _ _ (then _ _ _ _ _ (c .before .before .before .one .ensures) (c .before .word2 .ensures)) (c .decimal2 .ensures))
 
 pub tuple-text-spec : {M : Type 1} → statement M
 tuple-text-spec =
