@@ -47,13 +47,13 @@ module _ (s : Stream) (low high : ℕ) (l : List ℕ) (at : ℕ) (r : LineRead) 
   unfolding tuplesAt
   too-many n h z e = rw (z, lt-leb (length l) at h) e
 
-  pub one-more : (n : ℕ) (v : TupleRead) (t : Tuple) (end : ℕ) → at < length l → (n ≡ 0 → ⊥) → v ≡ tupleAt low high l at → v ≡ IsTuple t end
-      → r ≡ tuplesAt (n - 1) (added s t) (offset t) 100000 l end → r ≡ tuplesAt n s low high l at
+  pub one-more : (n : ℕ) (v : TupleRead) (t : Tuple) (end : ℕ) (more : Stream) (from : ℕ) → at < length l → (n ≡ 0 → ⊥) → v ≡ tupleAt low high l at
+      → v ≡ IsTuple t end → more ≡ added s t → from ≡ offset t → r ≡ tuplesAt (n - 1) more from 100000 l end → r ≡ tuplesAt n s low high l at
   unfolding tuplesAt byTuple
-  one-more zero v t end h z p q e = absurd (z refl)
-  one-more (suc n) v t end h z p q e =
+  one-more zero v t end more from h z p q x y e = absurd (z refl)
+  one-more (suc n) v t end more from h z p q x y e =
       let less : suc n - 1 ≡ n = omega arith in
-      rw (lt-leb (length l) at h, sym p ∙ q) (rw less at e)
+      rw (lt-leb (length l) at h, sym p ∙ q) (rw (less, x, y) at e)
 
   pub no-tuple : (n : ℕ) (v : TupleRead) (why : Fault) → at < length l → (n ≡ 0 → ⊥) → v ≡ tupleAt low high l at → v ≡ BadTuple why
       → r ≡ bad why → r ≡ tuplesAt n s low high l at

@@ -49,7 +49,7 @@ digit-of-requires c κs = search needs
 
 -- src/lib.rt:111:13
 add-n : tie.Need-add-n Inv-loop μ-loop
-add-n c = omega (arith, c .before .before .before .before .before .loop .inv .small, c .digit-of .ensures, c .before .before .before .shared-slice-known .given (c .before .before .before .before .before .loop .i))
+add-n c = omega (arith, c .before .before .before .before .before .loop .inv .small, c .digit-of .ensures, c .before .before .before .shared-slice-known2 .given (c .before .before .before .before .before .loop .i))
 
 -- src/lib.rt:113:13
 returns-2 : tie.Need-returns-2 Inv-loop μ-loop
@@ -65,7 +65,7 @@ loop-less c = omega arith
 
 -- src/lib.rt:106:5
 loop-again : tie.Need-loop-again Inv-loop μ-loop
-loop-again c = read-next _ _ _ _ _ _ (c .before .before .before .before .before .before .loop .inv) _ (omega arith) (sym (c .before .before .before .is-digit .ensures) ∙ not-false _ (c .before .before .if1 .left)) (c .before .digit-of .ensures) (c .if2 .left)
+loop-again c = read-next _ 0 0 _ _ _ (c .before .before .before .before .before .before .loop .inv) _ (omega arith) (sym (c .before .before .before .is-digit .ensures) ∙ not-false _ (c .before .before .if1 .left)) (c .before .digit-of .ensures) (c .if2 .left)
 
 -- src/lib.rt:117:5
 ended-requires-2 : tie.Need-ended-requires-2 Inv-loop μ-loop

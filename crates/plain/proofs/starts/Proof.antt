@@ -41,7 +41,7 @@ same-requires c κs = search needs
 
 -- src/lib.rt:59:1
 returns-3 : tie.Need-returns-3
-returns-3 c = starts-same _ _ _ _ (c .before .before .if1 .left) (c .before .if2 .left) (c .same .ensures)
+returns-3 c = starts-same _ _ _ _ (c .before .before .before .if1 .left) (c .before .before .if2 .left) (c .same .ensures)
 
 pub starts-spec : {M : Type 1} → statement M
 starts-spec =
