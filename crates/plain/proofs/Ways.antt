@@ -5,7 +5,7 @@ use native.Mathlib.Omega.{arith}
 use mathlib.Core.Path.{_≡_, refl, sym, ap, _∙_}
 use mathlib.Core.Bool.{Bool, true, false, cond}
 use mathlib.Core.List.{List, [], _∷_}
-use lib.ListN.{length}
+use lib.ListN.{length, take, length-take}
 use lib.Dec.{leb, ltb, eqb}
 use borrow.Author.Tests.{le-leb, lt-leb, eq-eqb, ne-eqb, lt-ltb, le-ltb}
 use Rattle.rules.specs.declared.Tuple.{Tuple}
@@ -18,7 +18,12 @@ use Rattle.plain.specs.declared.Field.the-variants.{Is, Missing, Outside
 use Rattle.plain.specs.declared.TupleRead.{TupleRead}
 use Rattle.plain.specs.declared.TupleRead.the-variants.{Is as IsTuple, Bad as BadTuple}
 use Rattle.plain.specs.declared.LineRead.{LineRead}
-use Rattle.plain.specs.Lines.{byField, byTuple, bad, finished, added, tupleAt, tuplesAt}
+use Rattle.rules.specs.Streams.{noStream}
+use Rattle.text.specs.declared.Line.{Line}
+use Rattle.text.specs.Decimal.{letters}
+use Rattle.plain.specs.declared.Said.the-variants.{Nothing}
+use Rattle.plain.specs.declared.Fault.the-variants.{NotTask, Task, LongLine}
+use Rattle.plain.specs.Lines.{fieldAt, costAt, lineRead, judged, byField, byTuple, bad, finished, added, tupleAt, tuplesAt}
 
 module _ {A : Type 0} (x y : A) (g : ℕ → ℕ → A) (r : A) (v f : Field) (p : v ≡ f) where
   by : (w : Field) → v ≡ w → byField f x y g ≡ byField w x y g
@@ -60,3 +65,28 @@ module _ (s : Stream) (low high : ℕ) (l : List ℕ) (at : ℕ) (r : LineRead) 
   unfolding tuplesAt byTuple
   no-tuple zero v why h z p q e = absurd (z refl)
   no-tuple (suc n) v why h z p q e = rw (lt-leb (length l) at h, sym p ∙ q) e
+
+pub with-stream : (s more : Stream) (low high n : ℕ) (l : List ℕ) (at : ℕ) (r : LineRead) → more ≡ s → r ≡ tuplesAt n more low high l at
+    → r ≡ tuplesAt n s low high l at
+with-stream s more low high n l at r x e = rw x at e
+
+-- a whole line
+pub nothing-said : (l : List ℕ) (s : Stream) → length l ≡ 0 → s ≡ noStream → record { said = Nothing; stream = s } ≡ lineRead l
+unfolding lineRead
+nothing-said l s h e = rw (eq-eqb (length l) 0 h, e)
+
+pub some-said : (l : List ℕ) (r : LineRead) → (length l ≡ 0 → ⊥)
+    → r ≡ byField (fieldAt (letters "task ") 0 15 l 0) (bad NotTask) (bad Task) (λ task end. costAt task l end) → r ≡ lineRead l
+unfolding lineRead
+some-said l r h e = rw (ne-eqb (length l) 0 h) e
+
+pub judge-read : (l : Line) (r : LineRead) → l .len < 128 → r ≡ lineRead (take (l .len) (l .bytes)) → r ≡ judged l
+unfolding judged
+judge-read l r h e = rw (lt-ltb (l .len) 128 h) e
+
+pub judge-long : (l : Line) (r : LineRead) → 128 ≤ l .len → r ≡ bad LongLine → r ≡ judged l
+unfolding judged
+judge-long l r h e = rw (le-ltb (l .len) 128 h) e
+
+pub front-size : (l : List ℕ) (n : ℕ) → n ≤ length l → n ≡ length (take n l)
+front-size l n h = omega (arith, length-take n l)

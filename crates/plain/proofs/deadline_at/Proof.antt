@@ -1,5 +1,5 @@
 -- FILLED
-use Rattle.plain.proofs.Ways.{way-is, way-missing, way-outside}
+use Rattle.plain.proofs.Ways.{with-stream, way-is, way-missing, way-outside}
 use mathlib.Core.Path.{refl, sym, ap, _∙_}
 use Rattle.plain.specs.Lines.{deadlineAt, tuplesAt}
 use Rattle.rules.specs.declared.Stream.{Stream}
@@ -53,7 +53,7 @@ bad-line-requires-2 c κs = search needs
 -- src/lib.rt:262:1
 returns : tie.Need-returns
 unfolding deadlineAt
-returns c = way-is _ _ _ _ _ _ (c .before .before .before .before .before .field-at .ensures) _ _ (c .before .before .before .d .given .1) (c .tuples .ensures ∙ ap (λ (s : Stream). tuplesAt 4 s 0 0 _ _) (c .before .open .ensures))
+returns c = way-is _ _ _ _ _ _ (c .before .before .before .before .before .field-at .ensures) _ _ (c .before .before .before .d .given .1) (with-stream _ _ _ _ _ _ _ _ (c .before .open .ensures) (c .tuples .ensures))
 
 -- src/lib.rt:262:1
 returns-2 : tie.Need-returns-2

@@ -1,3 +1,5 @@
+use Rattle.laws.proofs.Parts.{sized}
+use Rattle.plain.proofs.Ways.{judge-read, judge-long, front-size}
 use native.Mathlib.Omega.{arith}
 use borrow.Author.Needs.{needs}
 use Rattle.plain.proofs.judge.Statement.{statement}
@@ -9,11 +11,11 @@ use Rattle.plain.proofs.read_line.Reads as read-line-reads
 
 -- src/lib.rt:307:19
 array-share-prefix-bytes : tie.Need-array-share-prefix-bytes
-array-share-prefix-bytes c = ?
+array-share-prefix-bytes c = omega (arith, (sized _ (c .before .before .args .l .bytes) 128 (c .before .before .good .0 .1 .1 .0 .1 .0 .1)))
 
 -- src/lib.rt:307:19
 slice-aggregate-read-line : tie.Need-slice-aggregate-read-line
-slice-aggregate-read-line c = ?
+slice-aggregate-read-line c = front-size _ _ (omega (arith, (sized _ (c .before .before .before .args .l .bytes) 128 (c .before .before .before .good .0 .1 .1 .0 .1 .0 .1))))
 
 -- src/lib.rt:307:9
 read-line-requires : tie.Need-read-line-requires
@@ -25,11 +27,11 @@ bad-line-requires c κs = search needs
 
 -- src/lib.rt:301:1
 returns : tie.Need-returns
-returns c = ?
+returns c = judge-read _ _ (c .before .before .if1 .taken) (c .read-line .ensures)
 
 -- src/lib.rt:301:1
 returns-2 : tie.Need-returns-2
-returns-2 c = ?
+returns-2 c = judge-long _ _ (c .before .if1 .left) (c .bad-line .ensures)
 
 pub judge-spec : {M : Type 1} → statement M
 judge-spec =

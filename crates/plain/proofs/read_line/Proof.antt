@@ -1,3 +1,4 @@
+use Rattle.plain.proofs.Ways.{nothing-said, some-said, way-is, way-missing, way-outside}
 use native.Mathlib.Omega.{arith}
 use borrow.Author.Needs.{needs}
 use Rattle.plain.proofs.read_line.Statement.{statement}
@@ -15,7 +16,7 @@ no-stream-requires c κs = search needs
 
 -- src/lib.rt:288:9
 returns : tie.Need-returns
-returns c = ?
+returns c = nothing-said _ _ (c .before .if1 .taken) (c .no-stream .ensures)
 
 -- src/lib.rt:293:29
 slice-aggregate-field-at : tie.Need-slice-aggregate-field-at
@@ -51,15 +52,15 @@ bad-line-requires-2 c κs = search needs
 
 -- src/lib.rt:283:1
 returns-2 : tie.Need-returns-2
-returns-2 c = ?
+returns-2 c = some-said _ _ (c .before .before .before .before .before .before .if1 .left) (way-is _ _ _ _ _ _ (c .before .before .before .before .field-at .ensures) _ _ (c .before .before .task .given .1) (c .cost-at .ensures))
 
 -- src/lib.rt:283:1
 returns-3 : tie.Need-returns-3
-returns-3 c = ?
+returns-3 c = some-said _ _ (c .before .before .before .before .before .if1 .left) (way-missing _ _ _ _ _ _ (c .before .before .before .field-at .ensures) (c .before .enum-told .given .1) (c .bad-line .ensures))
 
 -- src/lib.rt:283:1
 returns-4 : tie.Need-returns-4
-returns-4 c = ?
+returns-4 c = some-said _ _ (c .before .before .before .before .before .if1 .left) (way-outside _ _ _ _ _ _ (c .before .before .before .field-at .ensures) (c .before .enum-told2 .given .1) (c .bad-line2 .ensures))
 
 pub read-line-spec : {M : Type 1} → statement M
 read-line-spec =

@@ -54,7 +54,7 @@ tuples-text-requires c κs = search needs
 -- src/lib.rt:346:1
 returns : tie.Need-returns
 unfolding streamText
-returns c = on-blank _ _ _ (c .before .before .before .before .before .before .before .blank .ensures) (then _ _ _ _ _ (then _ _ _ _ _ (then _ _ _ _ _ (c .before .before .before .before .before .one .ensures) (c .before .before .before .one2 .ensures)) (c .before .one3 .ensures)) (c .tuples-text .ensures))
+returns c = on-blank _ _ _ (c .before .before .before .before .before .before .before .before .before .blank .ensures) (then _ _ _ _ _ (then _ _ _ _ _ (then _ _ _ _ _ (c .before .before .before .before .before .before .before .one .ensures) (c .before .before .before .before .one2 .ensures)) (c .before .one3 .ensures)) (c .tuples-text .ensures))
 
 pub stream-line-spec : {M : Type 1} → statement M
 stream-line-spec =
