@@ -1,4 +1,3 @@
--- FILLED
 use Rattle.plain.proofs.Ways.{with-stream, way-is, way-missing, way-outside}
 use mathlib.Core.Path.{refl, sym, ap, _∙_}
 use Rattle.plain.specs.Lines.{deadlineAt, tuplesAt}

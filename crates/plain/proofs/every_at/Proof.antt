@@ -1,4 +1,3 @@
--- FILLED
 use Rattle.plain.proofs.Ways.{way-is, way-missing, way-outside}
 use mathlib.Core.Path.{refl, sym, ap, _∙_}
 use Rattle.plain.specs.Lines.{everyAt}
@@ -43,12 +42,12 @@ returns c = way-is _ _ _ _ _ _ (c .before .before .before .before .field-at .ens
 -- src/lib.rt:141:1
 returns-2 : tie.Need-returns-2
 unfolding everyAt
-returns-2 c = way-missing _ _ _ _ _ _ (c .before .before .field-at .ensures) (c  .enum-told .given .1) refl
+returns-2 c = way-missing _ _ _ _ _ _ (c .before .before .field-at .ensures) (c .enum-told .given .1) refl
 
 -- src/lib.rt:141:1
 returns-3 : tie.Need-returns-3
 unfolding everyAt
-returns-3 c = way-outside _ _ _ _ _ _ (c .before .before .field-at .ensures) (c  .enum-told2 .given .1) refl
+returns-3 c = way-outside _ _ _ _ _ _ (c .before .before .field-at .ensures) (c .enum-told2 .given .1) refl
 
 pub every-at-spec : {M : Type 1} → statement M
 every-at-spec =

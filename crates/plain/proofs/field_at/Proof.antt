@@ -1,4 +1,3 @@
--- FILLED
 use Rattle.plain.proofs.Numbers.{starts-room, field-there, field-missing}
 use mathlib.Core.Path.{sym, _∙_}
 use native.Mathlib.Omega.{arith}

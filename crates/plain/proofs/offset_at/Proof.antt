@@ -1,4 +1,3 @@
--- FILLED
 use Rattle.plain.proofs.Ways.{way-is, way-missing, way-outside}
 use mathlib.Core.Path.{refl, sym, ap, _∙_}
 use Rattle.plain.specs.Lines.{offsetAt}
@@ -38,12 +37,12 @@ returns c = way-is _ _ _ _ _ _ (c .before .before .before .field-at .ensures) _ 
 -- src/lib.rt:131:1
 returns-2 : tie.Need-returns-2
 unfolding offsetAt
-returns-2 c = way-missing _ _ _ _ _ _ (c .before .before .field-at .ensures) (c  .enum-told .given .1) refl
+returns-2 c = way-missing _ _ _ _ _ _ (c .before .before .field-at .ensures) (c .enum-told .given .1) refl
 
 -- src/lib.rt:131:1
 returns-3 : tie.Need-returns-3
 unfolding offsetAt
-returns-3 c = way-outside _ _ _ _ _ _ (c .before .before .field-at .ensures) (c  .enum-told2 .given .1) refl
+returns-3 c = way-outside _ _ _ _ _ _ (c .before .before .field-at .ensures) (c .enum-told2 .given .1) refl
 
 pub offset-at-spec : {M : Type 1} → statement M
 offset-at-spec =

@@ -1,4 +1,3 @@
--- FILLED
 use Rattle.plain.proofs.Ways.{way-is, way-missing, way-outside}
 use mathlib.Core.Path.{refl, sym, ap, _∙_}
 use Rattle.plain.specs.Lines.{tupleAt}
@@ -48,7 +47,7 @@ returns-2 c = way-missing _ _ _ _ _ _ (c .before .before .before .field-at .ensu
 -- src/lib.rt:152:1
 returns-3 : tie.Need-returns-3
 unfolding tupleAt
-returns-3 c = way-outside _ _ _ _ _ _ (c .before .before .field-at .ensures) (c  .enum-told2 .given .1) refl
+returns-3 c = way-outside _ _ _ _ _ _ (c .before .before .field-at .ensures) (c .enum-told2 .given .1) refl
 
 pub tuple-at-spec : {M : Type 1} → statement M
 tuple-at-spec =
