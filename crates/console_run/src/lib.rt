@@ -80,11 +80,25 @@ fn go_on(c: Carry, line: &mut [u8], out: &mut [u8]) -> Carry {
     flush(take_piece(c, &bytes[..n], line, out), out)
 }
 
+// A proved loop has to end, and nothing says that the input does: the turns are counted down from a number that no run uses up.
+fn serve(first: Carry, line: &mut [u8], out: &mut [u8]) {
+    let mut c = first;
+    let mut turns = u64::MAX;
+    while turns > 0 {
+        let live = c.live;
+        if !live {
+            return;
+        }
+        c = go_on(c, line, out);
+        turns -= 1;
+    }
+}
+
 pub fn run() {
     let set = streams::empty_set();
     let r = scheduler::start(set);
     let state = r.state;
-    let mut c = Carry {
+    let first = Carry {
         desk: Desk { set, state },
         len: 0,
         at: 0,
@@ -92,13 +106,5 @@ pub fn run() {
     };
     let mut line = [0u8; 4097];
     let mut out = io::large_buffer();
-    let mut turns = u64::MAX;
-    while turns > 0 {
-        let live = c.live;
-        if !live {
-            return;
-        }
-        c = go_on(c, &mut line, &mut out);
-        turns -= 1;
-    }
+    serve(first, &mut line, &mut out);
 }

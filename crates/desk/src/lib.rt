@@ -85,7 +85,10 @@ fn told(d: Desk, out: &mut [u8], at: usize, l: Line) -> Step {
 
 fn message_line(i: usize, m: Message) -> Line {
     let front = text::two(text::blank(), b"message", i as u64, m.stream as u64);
-    text::put(text::number(text::number(front, m.deadline as u64), m.used as u64), b'\n')
+    text::put(
+        text::number(text::number(front, m.deadline as u64), m.used as u64),
+        b'\n',
+    )
 }
 
 // A place that is all zero is left out.
@@ -111,8 +114,16 @@ fn messages_onto(s: State, out: &mut [u8], at: usize) -> usize {
 fn state_onto(s: State, out: &mut [u8], at: usize) -> usize {
     let clock = s.clock;
     let count = s.count;
-    let a = page::append(out, at, text::put(text::one(text::blank(), b"clock", clock as u64), b'\n'));
-    let b = page::append(out, a, text::put(text::one(text::blank(), b"pending", count as u64), b'\n'));
+    let a = page::append(
+        out,
+        at,
+        text::put(text::one(text::blank(), b"clock", clock as u64), b'\n'),
+    );
+    let b = page::append(
+        out,
+        a,
+        text::put(text::one(text::blank(), b"pending", count as u64), b'\n'),
+    );
     messages_onto(s, out, b)
 }
 
@@ -126,7 +137,14 @@ fn hex_onto(bytes: &[u8], out: &mut [u8], at: usize) -> usize {
     let mut i = 0;
     while i < bytes.len() {
         let b = bytes[i];
-        end = page::append(out, end, text::put(text::put(text::blank(), hex_digit(b / 16)), hex_digit(b % 16)));
+        end = page::append(
+            out,
+            end,
+            text::put(
+                text::put(text::blank(), hex_digit(b / 16)),
+                hex_digit(b % 16),
+            ),
+        );
         i += 1;
     }
     page::append(out, end, said(b""))
@@ -221,7 +239,12 @@ fn post(d: Desk, k: u32, out: &mut [u8], at: usize) -> Step {
     let r = scheduler::post(s, k as usize);
     let answer = r.answer;
     let state = r.state;
-    told(with_state(d, state), out, at, words::post_line(clock, answer))
+    told(
+        with_state(d, state),
+        out,
+        at,
+        words::post_line(clock, answer),
+    )
 }
 
 fn unit(d: Desk, done: bool, out: &mut [u8], at: usize) -> Step {
@@ -230,7 +253,12 @@ fn unit(d: Desk, done: bool, out: &mut [u8], at: usize) -> Step {
     let r = scheduler::unit(s, done);
     let answer = r.answer;
     let state = r.state;
-    told(with_state(d, state), out, at, words::unit_line(clock, answer))
+    told(
+        with_state(d, state),
+        out,
+        at,
+        words::unit_line(clock, answer),
+    )
 }
 
 fn with_clock(d: Desk, n: u32) -> Desk {
@@ -281,23 +309,44 @@ fn about_set(d: Desk, k: Kind, n: [u32; 5], out: &mut [u8], at: usize) -> Step {
             y.count = n[0] as usize;
             told(with_set(d, y), out, at, said(b"put"))
         }
-        Kind::Stream => told(with_set(d, put_stream(x, n[0] as usize, n)), out, at, said(b"put")),
+        Kind::Stream => told(
+            with_set(d, put_stream(x, n[0] as usize, n)),
+            out,
+            at,
+            said(b"put"),
+        ),
         Kind::Once => told(
-            with_set(d, put_tuple(x, n[0] as usize, n[1] as usize, Tuple::Once(n[2]))),
+            with_set(
+                d,
+                put_tuple(x, n[0] as usize, n[1] as usize, Tuple::Once(n[2])),
+            ),
             out,
             at,
             said(b"put"),
         ),
         Kind::Every => told(
-            with_set(d, put_tuple(x, n[0] as usize, n[1] as usize, Tuple::Every(n[2], n[3]))),
+            with_set(
+                d,
+                put_tuple(x, n[0] as usize, n[1] as usize, Tuple::Every(n[2], n[3])),
+            ),
             out,
             at,
             said(b"put"),
         ),
         Kind::Valid => told(d, out, at, is_valid(d)),
-        Kind::Limit => told(d, out, at, words::count_line(streams::event_limit(x, n[0] as usize, n[1]))),
+        Kind::Limit => told(
+            d,
+            out,
+            at,
+            words::count_line(streams::event_limit(x, n[0] as usize, n[1])),
+        ),
         Kind::Demand => told(d, out, at, words::count_line(load::demand(x, n[0]))),
-        Kind::Jitter => told(d, out, at, words::jitter_line(streams::jittered(n[0], n[1]))),
+        Kind::Jitter => told(
+            d,
+            out,
+            at,
+            words::jitter_line(streams::jittered(n[0], n[1])),
+        ),
         Kind::Verdict => told(d, out, at, words::verdict_line(load::verdict(x))),
         _ => about_state(d, k, n, out, at),
     }

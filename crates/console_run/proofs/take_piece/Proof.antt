@@ -1,52 +1,45 @@
+-- `console_run::take_piece` meets its contract.
+-- Assumes nothing.
+use Prim.Native.Nat.{_-_, _≤_}
+use mathlib.Core.Path.{_≡_, refl}
+use lib.ListN.{length}
 use native.Mathlib.Omega.{arith}
 use borrow.Author.Needs.{needs}
 use Rattle.console_run.proofs.take_piece.Statement.{statement}
 use Rattle.console_run.proofs.take_piece.Tie as tie
-use Rattle.console_run.proofs.take_piece.Reads as reads
-use Rattle.console_run.proofs.take_piece.Lts as lts
-use Rattle.console_run.proofs.take_byte.Reads as take-byte-reads
 
 abbrev Inv-loop : tie.InvT-loop
-Inv-loop piece line₀ out₀ next₀ i₀ line out next i = ?
+Inv-loop piece line₀ out₀ next₀ i₀ line out next i = (length line ≡ length line₀) × ((length out ≡ length out₀) × (i ≤ length piece))
 
 abbrev μ-loop : tie.MeasureT-loop
-μ-loop piece line₀ out₀ next₀ i₀ line out next i = ?
+μ-loop piece line₀ out₀ next₀ i₀ line out next i = length piece - i
 
--- src/lib.rt:63:5
 loop-holds : tie.Need-loop-holds Inv-loop μ-loop
-loop-holds c = ?
+loop-holds c = search needs
 
--- src/lib.rt:64:32
 shared-slice-read-take-byte : tie.Need-shared-slice-read-take-byte Inv-loop μ-loop
-shared-slice-read-take-byte c = ?
+shared-slice-read-take-byte c = search needs
 
--- src/lib.rt:64:9
 take-byte-requires : tie.Need-take-byte-requires Inv-loop μ-loop
-take-byte-requires c κs = ?
+take-byte-requires c κs = tt
 
--- src/lib.rt:65:9
 add-i : tie.Need-add-i Inv-loop μ-loop
-add-i c = ?
+add-i c = search needs
 
--- src/lib.rt:63:5
 loop-less : tie.Need-loop-less Inv-loop μ-loop
-loop-less c = ?
+loop-less c = search needs
 
--- src/lib.rt:63:5
 loop-again : tie.Need-loop-again Inv-loop μ-loop
-loop-again c = ?
+loop-again c = search needs
 
--- src/lib.rt:60:1
 same-length : tie.Need-same-length Inv-loop μ-loop
-same-length c = ?
+same-length c = search needs
 
--- src/lib.rt:60:1
 same-length-2 : tie.Need-same-length-2 Inv-loop μ-loop
-same-length-2 c = ?
+same-length-2 c = search needs
 
--- src/lib.rt:60:1
 returns : tie.Need-returns Inv-loop μ-loop
-returns c = ?
+returns c = search needs
 
 pub take-piece-spec : {M : Type 1} → statement M
 take-piece-spec =
