@@ -23,14 +23,14 @@ shared-slice-read-b c = search needs
 blank-requires : tie.Need-blank-requires Inv-loop μ-loop
 blank-requires c κs = tt
 
-hex-digit-requires : tie.Need-hex-digit-requires Inv-loop μ-loop
-hex-digit-requires c κs = tt
+digit-requires : tie.Need-digit-requires Inv-loop μ-loop
+digit-requires c κs = tt
 
 put-requires : tie.Need-put-requires Inv-loop μ-loop
 put-requires c κs = tt
 
-hex-digit-requires-2 : tie.Need-hex-digit-requires-2 Inv-loop μ-loop
-hex-digit-requires-2 c κs = tt
+digit-requires-2 : tie.Need-digit-requires-2 Inv-loop μ-loop
+digit-requires-2 c κs = tt
 
 put-requires-2 : tie.Need-put-requires-2 Inv-loop μ-loop
 put-requires-2 c κs = tt
@@ -71,9 +71,9 @@ hex-onto-spec =
     loop-holds
     shared-slice-read-b
     blank-requires
-    hex-digit-requires
+    digit-requires
     put-requires
-    hex-digit-requires-2
+    digit-requires-2
     put-requires-2
     append-requires
     add-i
