@@ -132,25 +132,6 @@ fn state_onto(s: State, out: &mut [u8], at: usize) -> usize {
     messages_onto(s, out, b)
 }
 
-// The bytes in hex, and a newline.
-fn hex_onto(bytes: &[u8], out: &mut [u8], at: usize) -> usize {
-    let mut end = at;
-    let mut i = 0;
-    while i < bytes.len() {
-        let b = bytes[i];
-        end = page::append(
-            out,
-            end,
-            text::put(
-                text::put(text::blank(), hexes::digit(b / 16)),
-                hexes::digit(b % 16),
-            ),
-        );
-        i += 1;
-    }
-    page::append(out, end, said(b""))
-}
-
 // ---- the commands
 
 // The sheet whose bytes stand in hex from byte 5 of the line on; `bytes` is room for them.
@@ -178,7 +159,8 @@ fn read_sheet(d: Desk, line: &[u8], out: &mut [u8], at: usize) -> Step {
 fn sheet_onto(x: Set, bytes: &mut [u8], out: &mut [u8], at: usize) -> usize {
     let answer = sheet::write(x, bytes);
     let end = page::append(out, at, words::write_line(answer));
-    hex_onto(bytes, out, end)
+    let last = hexes::print(bytes, out, end);
+    page::append(out, last, said(b""))
 }
 
 // The buffer is the first n of these bytes.

@@ -1,8 +1,11 @@
 // Bytes as two hex digits each, read and printed.
 ghost use mathlib.Core.Path.{_≡_};
-ghost use Prim.Native.Nat.{_+_, _*_, _%_, _≤_};
+ghost use mathlib.Core.List.{_++_, _∷_, []};
+ghost use Prim.Native.Nat.{_+_, _*_, _/_, _%_, _≤_};
 ghost use lib.ListN.{length, take};
-ghost use Rattle.text.specs.Hex.{hexOf, hexDigit, unhexed};
+ghost use Rattle.text.specs.Hex.{hexOf, hexDigit, unhexed, hexed};
+ghost use Rattle.text.specs.Held.{holding};
+use text::Line;
 
 // The hex digit of a number, of which the low four bits count.
 pub fn digit(n: u8) -> u8
@@ -34,4 +37,24 @@ pub fn unhex(digits: &[u8], bytes: &mut [u8]) -> usize
         n += 1;
     }
     n
+}
+
+// The two digits of a byte.
+fn pair(b: u8) -> Line
+    ensures { λ r. ⌜ r ≡ holding (hexDigit (b / 16) ∷ hexDigit (b % 16) ∷ []) ⌝ }
+{
+    text::put(text::put(text::blank(), digit(b / 16)), digit(b % 16))
+}
+
+// The digits of the bytes, behind the first `at` bytes of a page, and where they end.
+pub fn print(bytes: &[u8], out: &mut [u8], at: usize) -> usize
+    ensures { λ r. ⌜ (at + 2 * length (now (bytes .entry)) ≤ length (now (out .entry)) → (r ≡ at + 2 * length (now (bytes .entry))) × (take r (now (out .exit)) ≡ take at (now (out .entry)) ++ hexed (now (bytes .entry)))) ⌝ }
+{
+    let mut end = at;
+    let mut i = 0;
+    while i < bytes.len() {
+        end = page::append(out, end, pair(bytes[i]));
+        i += 1;
+    }
+    end
 }
