@@ -1,5 +1,10 @@
 // The console's desk: what it holds, and what each command does to it and prints. Which command a line is, and what line an answer
 // prints, is decided by proved functions.
+ghost use mathlib.Core.Path.{_≡_};
+ghost use Prim.Native.Nat.{_+_, _*_, _≤_};
+ghost use lib.ListN.{length, drop};
+ghost use Rattle.text.specs.Hex.{unhexed};
+ghost use Rattle.rules.specs.Sheet.{readOf};
 use rows::Kind;
 use rules::Message;
 use rules::ReadResult;
@@ -127,52 +132,17 @@ fn state_onto(s: State, out: &mut [u8], at: usize) -> usize {
     messages_onto(s, out, b)
 }
 
-fn hex_digit(n: u8) -> u8 {
-    if n < 10 { 48 + n } else { 87 + n % 16 }
-}
-
-// The bytes in hex, and a newline.
-fn hex_onto(bytes: &[u8], out: &mut [u8], at: usize) -> usize {
-    let mut end = at;
-    let mut i = 0;
-    while i < bytes.len() {
-        let b = bytes[i];
-        end = page::append(
-            out,
-            end,
-            text::put(
-                text::put(text::blank(), hex_digit(b / 16)),
-                hex_digit(b % 16),
-            ),
-        );
-        i += 1;
-    }
-    page::append(out, end, said(b""))
-}
-
 // ---- the commands
 
-// The bytes that hex digits stand for.
-fn unhex(digits: &[u8], bytes: &mut [u8]) -> usize {
-    let mut n = 0;
-    while n < bytes.len() {
-        if digits.len() / 2 <= n {
-            return n;
-        }
-        bytes[n] = text::hex_of(digits[2 * n]) % 16 * 16 + text::hex_of(digits[2 * n + 1]) % 16;
-        n += 1;
-    }
-    n
-}
-
 // The sheet whose bytes stand in hex from byte 5 of the line on; `bytes` is room for them.
-fn sheet_of(line: &[u8], bytes: &mut [u8]) -> ReadResult {
+fn sheet_of(line: &[u8], bytes: &mut [u8]) -> ReadResult
+    ensures { λ r. ⌜ (length (now (line .entry)) ≤ 5 + 2 * length (now (bytes .entry)) → r ≡ readOf (unhexed (drop 5 (now (line .entry))))) ⌝ }
+{
     if line.len() < 5 {
         return sheet::read(b"");
     }
-    let n = unhex(&line[5..], bytes);
-    let k = page::within(n, bytes);
-    sheet::read(&bytes[..k])
+    let n = hexes::unhex(&line[5..], bytes);
+    sheet::read(&bytes[..n])
 }
 
 // A line has at most 4,091 hex digits.
@@ -189,7 +159,8 @@ fn read_sheet(d: Desk, line: &[u8], out: &mut [u8], at: usize) -> Step {
 fn sheet_onto(x: Set, bytes: &mut [u8], out: &mut [u8], at: usize) -> usize {
     let answer = sheet::write(x, bytes);
     let end = page::append(out, at, words::write_line(answer));
-    hex_onto(bytes, out, end)
+    let last = hexes::print(bytes, out, end);
+    page::append(out, last, said(b""))
 }
 
 // The buffer is the first n of these bytes.

@@ -1,0 +1,88 @@
+-- `hexes::unhex` meets its contract.
+-- Assumes nothing.
+use Prim.Native.Nat.{_-_, _≤_}
+use mathlib.Core.Path.{_≡_, refl, _∙_}
+use lib.ListN.{length, length-set}
+use Rattle.hexes.proofs.Pairs.{Reading, reading-turn, reading-end}
+use native.Mathlib.Omega.{arith}
+use borrow.Author.Needs.{needs}
+use Rattle.hexes.proofs.unhex.Statement.{statement}
+use Rattle.hexes.proofs.unhex.Tie as tie
+
+abbrev Inv-loop : tie.InvT-loop
+Inv-loop digits bytes₀ n₀ bytes n = ((length bytes ≡ length bytes₀) × (n ≤ length bytes)) × Reading digits bytes n
+
+abbrev μ-loop : tie.MeasureT-loop
+μ-loop digits bytes₀ n₀ bytes n = length bytes₀ - n
+
+loop-holds : tie.Need-loop-holds Inv-loop μ-loop
+loop-holds c = ((refl, omega arith), (omega arith, refl))
+
+same-length : tie.Need-same-length Inv-loop μ-loop
+same-length c = search needs
+
+returns : tie.Need-returns Inv-loop μ-loop
+returns c =
+    (c .before .before .loop .inv .0 .1, λ h. reading-end (c .before .before .before .before .before .args .digits .now) (c .before .before .loop .bytes) (c .before .before .loop .n) (omega (arith, c .if1 .taken)) (c .before .before .loop .inv .1))
+
+mul-byte-of : tie.Need-mul-byte-of Inv-loop μ-loop
+mul-byte-of c = search needs
+
+shared-slice-read-byte-of : tie.Need-shared-slice-read-byte-of Inv-loop μ-loop
+shared-slice-read-byte-of c = search needs
+
+mul-byte-of-2 : tie.Need-mul-byte-of-2 Inv-loop μ-loop
+mul-byte-of-2 c = search needs
+
+add-byte-of : tie.Need-add-byte-of Inv-loop μ-loop
+add-byte-of c = search needs
+
+shared-slice-read-byte-of-2 : tie.Need-shared-slice-read-byte-of-2 Inv-loop μ-loop
+shared-slice-read-byte-of-2 c = search needs
+
+byte-of-requires : tie.Need-byte-of-requires Inv-loop μ-loop
+byte-of-requires c κs = tt
+
+slice-write-bytes : tie.Need-slice-write-bytes Inv-loop μ-loop
+slice-write-bytes c = search needs
+
+add-n : tie.Need-add-n Inv-loop μ-loop
+add-n c = search needs
+
+loop-less : tie.Need-loop-less Inv-loop μ-loop
+loop-less c = search needs
+
+loop-again : tie.Need-loop-again Inv-loop μ-loop
+loop-again c = (
+  (length-set (c .before .before .before .before .before .loop .bytes) (c .before .before .before .before .before .loop .n) (c .byte-of .result) ∙ c .before .before .before .before .before .loop .inv .0 .0, omega (arith, length-set (c .before .before .before .before .before .loop .bytes) (c .before .before .before .before .before .loop .n) (c .byte-of .result), c .before .before .before .before .loop-test .taken)),
+  reading-turn (c .before .before .before .before .before .before .before .before .args .digits .now) (c .before .before .before .before .before .loop .bytes) (c .before .before .before .before .before .loop .n) _ (c .before .before .before .before .loop-test .taken) (c .before .before .before .if1 .left) (c .byte-of .ensures) (c .before .before .before .before .before .loop .inv .1),
+)
+
+same-length-2 : tie.Need-same-length-2 Inv-loop μ-loop
+same-length-2 c = search needs
+
+returns-2 : tie.Need-returns-2 Inv-loop μ-loop
+returns-2 c =
+    (c .before .loop .inv .0 .1, λ h. reading-end (c .before .before .before .before .args .digits .now) (c .before .loop .bytes) (c .before .loop .n) (omega (arith, h, c .loop-test .left, c .before .loop .inv .0 .0)) (c .before .loop .inv .1))
+
+pub unhex-spec : {M : Type 1} → statement M
+unhex-spec =
+    tie.close
+    (tie.spec
+    Inv-loop
+    μ-loop
+    loop-holds
+    same-length
+    returns
+    mul-byte-of
+    shared-slice-read-byte-of
+    mul-byte-of-2
+    add-byte-of
+    shared-slice-read-byte-of-2
+    byte-of-requires
+    slice-write-bytes
+    add-n
+    loop-less
+    loop-again
+    same-length-2
+    returns-2)

@@ -1,0 +1,60 @@
+// Bytes as two hex digits each, read and printed.
+ghost use mathlib.Core.Path.{_≡_};
+ghost use mathlib.Core.List.{_++_, _∷_, []};
+ghost use Prim.Native.Nat.{_+_, _*_, _/_, _%_, _≤_};
+ghost use lib.ListN.{length, take};
+ghost use Rattle.text.specs.Hex.{hexOf, hexDigit, unhexed, hexed};
+ghost use Rattle.text.specs.Held.{holding};
+use text::Line;
+
+// The hex digit of a number, of which the low four bits count.
+pub fn digit(n: u8) -> u8
+    ensures { λ r. ⌜ r ≡ hexDigit (n % 16) ⌝ }
+{
+    let low = n % 16;
+    if low <= 9 { 48 + low } else { 87 + low }
+}
+
+// The byte of two digits.
+fn byte_of(a: u8, b: u8) -> u8
+    ensures { λ r. ⌜ r ≡ hexOf a * 16 + hexOf b ⌝ }
+{
+    text::hex_of(a) % 16 * 16 + text::hex_of(b) % 16
+}
+
+// The bytes that hex digits stand for, in the first places of a buffer, and how many they are. A buffer too short for all of them
+// takes the first.
+pub fn unhex(digits: &[u8], bytes: &mut [u8]) -> usize
+    ensures { λ r. ⌜ r ≤ length (now (bytes .exit)) ⌝ }
+    ensures { λ r. ⌜ (length (now (digits .entry)) ≤ 2 * length (now (bytes .entry)) → take r (now (bytes .exit)) ≡ unhexed (now (digits .entry))) ⌝ }
+{
+    let mut n = 0;
+    while n < bytes.len() {
+        if digits.len() / 2 <= n {
+            return n;
+        }
+        bytes[n] = byte_of(digits[2 * n], digits[2 * n + 1]);
+        n += 1;
+    }
+    n
+}
+
+// The two digits of a byte.
+fn pair(b: u8) -> Line
+    ensures { λ r. ⌜ r ≡ holding (hexDigit (b / 16) ∷ hexDigit (b % 16) ∷ []) ⌝ }
+{
+    text::put(text::put(text::blank(), digit(b / 16)), digit(b % 16))
+}
+
+// The digits of the bytes, behind the first `at` bytes of a page, and where they end.
+pub fn print(bytes: &[u8], out: &mut [u8], at: usize) -> usize
+    ensures { λ r. ⌜ (at + 2 * length (now (bytes .entry)) ≤ length (now (out .entry)) → (r ≡ at + 2 * length (now (bytes .entry))) × (take r (now (out .exit)) ≡ take at (now (out .entry)) ++ hexed (now (bytes .entry)))) ⌝ }
+{
+    let mut end = at;
+    let mut i = 0;
+    while i < bytes.len() {
+        end = page::append(out, end, pair(bytes[i]));
+        i += 1;
+    }
+    end
+}
