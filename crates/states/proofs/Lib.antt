@@ -1,3 +1,4 @@
 pub mod WellFormed
 pub mod Standing
 pub mod Tally
+pub mod Pass

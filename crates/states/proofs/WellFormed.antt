@@ -1,16 +1,16 @@
 -- What the test of a well formed state says, as propositions, and what its messages have.
 -- Assumes nothing.
 use Prim.Native.Nat.{ℕ, _+_, _-_, _≤_, _<_}
-use mathlib.Core.Bool.{Bool, true, false}
+use mathlib.Core.Bool.{Bool, true, false, false≢true}
 use mathlib.Core.List.{[]}
 use mathlib.Core.Path.{_≡_, refl, sym, _∙_}
 use native.Mathlib.Omega.{arith}
-use borrow.Author.Tests.{leb-true, le-leb, lt-leb}
+use borrow.Author.Tests.{leb-true, le-leb}
 use lib.ListN.{length, getD, take, drop}
 use lib.Seq.{getD-take, length-take-le}
 use Rattle.laws.specs.Lists.{below, all}
 use Rattle.laws.proofs.Parts.{every-at, scan-at, getD-any}
-use Rattle.laws.proofs.Sums.{all-take-at}
+use Rattle.laws.proofs.Sums.{all-take-at, by-test}
 use Rattle.rules.specs.declared.Set.{Set}
 use Rattle.rules.specs.declared.Stream.{Stream}
 use Rattle.rules.specs.declared.State.{State}
@@ -81,33 +81,7 @@ module _ (s : State) (h : Sound s) (ms : length (s .messages) ≡ 64) (k : ℕ) 
     pub task-read : getD (s .set .streams) (messageAt s k .stream) blank .task < 16
     task-read = rw stream-read task-in
 
--- ---- the ways out of the test, as the code goes
-
-module _ (s : State) where
-  pub not-valid : valid (s .set) ≡ false → false ≡ wellFormed s
-  unfolding wellFormed
-  not-valid e = rw e
-
-  module _ (v : valid (s .set) ≡ true) where
-    pub not-few : 64 < s .count → false ≡ wellFormed s
-    unfolding wellFormed
-    not-few h = rw (v, lt-leb (s .count) 64 h)
-
-    module _ (f : s .count ≤ 64) where
-      pub not-clock : 4000000000 < s .clock → false ≡ wellFormed s
-      unfolding wellFormed
-      not-clock h = rw (v, le-leb (s .count) 64 f, lt-leb (s .clock) 4000000000 h)
-
-      module _ (c : s .clock ≤ 4000000000) where
-        pub not-each : messagesOk (s .set) (s .clock) (pending s) ≡ false → false ≡ wellFormed s
-        unfolding wellFormed
-        not-each h = rw (v, le-leb (s .count) 64 f, le-leb (s .clock) 4000000000 c, h)
-
-        module _ (e : messagesOk (s .set) (s .clock) (pending s) ≡ true) where
-          pub not-once : all (startedOnce (s .set) (pending s)) (below 16) ≡ false → false ≡ wellFormed s
-          unfolding wellFormed
-          not-once h = rw (v, le-leb (s .count) 64 f, le-leb (s .clock) 4000000000 c, e, h)
-
-          pub last-test : (r : Bool) → all (startedOnce (s .set) (pending s)) (below 16) ≡ true → r ≡ all messageUnused (drop (s .count) (s .messages)) → r ≡ wellFormed s
-          unfolding wellFormed
-          last-test r o u = rw (v, le-leb (s .count) 64 f, le-leb (s .clock) 4000000000 c, e, o) u
+-- a test that fails
+pub no-test : (s : State) (k : ℕ) → getD (stateTests s) k true ≡ false → false ≡ wellFormed s
+unfolding wellFormed
+no-test s k e = by-test (wellFormed s) (λ t. absurd (false≢true (sym e ∙ every-at (stateTests s) k t))) (λ t. sym t)

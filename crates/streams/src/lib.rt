@@ -1,5 +1,6 @@
 // Streams and sets: is a set valid, the event limit of a stream, and a jittered cycle as tuples.
 ghost use mathlib.Core.Path.{_≡_};
+ghost use mathlib.Core.Bool.{cond, _&&_};
 ghost use lib.ListN.{drop};
 ghost use Prim.Native.Nat.{_-_, _/_, _≤_};
 ghost use Rattle.laws.specs.Lists.{all};
@@ -52,41 +53,48 @@ fn tuple_unused(p: TuplePlace) -> bool
     }
 }
 
-// Offsets and cycles are in range, and offsets never fall.
-fn tuples_ok(s: Stream) -> bool
-    ensures { λ r. ⌜ r ≡ tuplesOk (tuplesOf s) ⌝ }
+// A place for a tuple, in use or not, behind a tuple with the offset `before`.
+fn tuple_fits(used: bool, before: u32, p: TuplePlace) -> bool
+    ensures { λ r. ⌜ r ≡ cond used (tupleOk before p) (tupleUnused p) ⌝ }
+{
+    if used {
+        tuple_ok(before, p)
+    } else {
+        tuple_unused(p)
+    }
+}
+
+// The tuples in use are in the rules and their offsets never fall; the other places are unused.
+fn tuples_fit(s: Stream) -> bool
+    ensures { λ r. ⌜ r ≡ (tuplesOk (tuplesOf s) && all tupleUnused (drop (s .count) (s .tuples))) ⌝ }
 {
     let n = s.count;
+    let mut ok = true;
     let mut before: u32 = 0;
     let mut k: usize = 0;
     while k < 4 {
-        if n <= k {
-            return true;
-        }
         let p = s.tuples[k];
-        if !tuple_ok(before, p) {
-            return false;
-        }
+        let fits = tuple_fits(k < n, before, p);
+        ok = ok & fits;
         let t = p.tuple;
         before = offset_of(t);
         k = k + 1;
     }
-    true
+    ok
 }
 
-// The places from `from` on are unused.
-fn tuples_unused(s: Stream, from: usize) -> bool
-    ensures { λ r. ⌜ r ≡ all tupleUnused (drop from (s .tuples)) ⌝ }
+fn tuples_unused(s: Stream) -> bool
+    ensures { λ r. ⌜ r ≡ all tupleUnused (s .tuples) ⌝ }
 {
-    let mut k = from;
+    let mut ok = true;
+    let mut k: usize = 0;
     while k < 4 {
         let p = s.tuples[k];
-        if !tuple_unused(p) {
-            return false;
-        }
+        let fits = tuple_unused(p);
+        ok = ok & fits;
         k = k + 1;
     }
-    true
+    ok
 }
 
 fn stream_ok(s: Stream) -> bool
@@ -95,60 +103,41 @@ fn stream_ok(s: Stream) -> bool
     let p = s.tuples[0];
     let t = p.tuple;
     let a = offset_of(t);
-    let used = tuples_ok(s);
-    let rest = tuples_unused(s, s.count);
+    let fit = tuples_fit(s);
     (s.task <= 15)
         & (((1 <= s.cost) & (s.cost <= 65535))
             & (((1 <= s.deadline) & (s.deadline <= 200000))
-                & (((1 <= s.count) & (s.count <= 4)) & ((a == 0) & (used & rest)))))
+                & (((1 <= s.count) & (s.count <= 4)) & ((a == 0) & fit))))
 }
 
 fn stream_unused(s: Stream) -> bool
     ensures { λ r. ⌜ r ≡ streamUnused s ⌝ }
 {
-    let rest = tuples_unused(s, 0);
+    let rest = tuples_unused(s);
     (s.task == 0) & ((s.cost == 0) & ((s.deadline == 0) & ((s.count == 0) & rest)))
 }
 
-fn streams_ok(x: Set) -> bool
-    ensures { λ r. ⌜ r ≡ all streamOk (streamsOf x) ⌝ }
+// A place for a stream, in use or not.
+fn stream_fits(used: bool, s: Stream) -> bool
+    ensures { λ r. ⌜ r ≡ cond used (streamOk s) (streamUnused s) ⌝ }
 {
-    let n = x.count;
-    let mut k: usize = 0;
-    while k < 16 {
-        if n <= k {
-            return true;
-        }
-        let s = x.streams[k];
-        if !stream_ok(s) {
-            return false;
-        }
-        k = k + 1;
-    }
-    true
+    if used { stream_ok(s) } else { stream_unused(s) }
 }
 
-fn streams_unused(x: Set) -> bool
-    ensures { λ r. ⌜ r ≡ all streamUnused (drop (x .count) (x .streams)) ⌝ }
-{
-    let mut k = x.count;
-    while k < 16 {
-        let s = x.streams[k];
-        if !stream_unused(s) {
-            return false;
-        }
-        k = k + 1;
-    }
-    true
-}
-
-// Is the set valid?
+// Is the set valid? No place ends the loop early: most sets are valid, and their tests run side by side.
 pub fn is_valid(x: Set) -> bool
     ensures { λ r. ⌜ r ≡ valid x ⌝ }
 {
-    let used = streams_ok(x);
-    let rest = streams_unused(x);
-    (x.count <= 16) & (used & rest)
+    let n = x.count;
+    let mut ok = n <= 16;
+    let mut k: usize = 0;
+    while k < 16 {
+        let s = x.streams[k];
+        let fits = stream_fits(k < n, s);
+        ok = ok & fits;
+        k = k + 1;
+    }
+    ok
 }
 
 // ---- places

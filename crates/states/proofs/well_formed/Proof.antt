@@ -1,53 +1,197 @@
 -- `states::well_formed` meets its contract. Assumes nothing.
+use native.Mathlib.Omega.{arith}
 use borrow.Author.Needs.{needs}
+use borrow.Author.Tests.{lt-leb, not-true, not-false}
+use mathlib.Core.Bool.{Bool, _&&_}
 use mathlib.Core.Path.{_≡_, refl, sym, ap, _∙_}
-use borrow.Author.Tests.{lt-ltb, le-ltb, not-true, not-false}
-use Rattle.rules.proofs.Valid.{valid-set}
-use Rattle.states.proofs.WellFormed.{not-valid, not-few, not-clock, not-each, not-once, last-test}
+use Prim.Native.Nat.{ℕ, _-_, _≤_}
+use lib.ListN.{length, getD, drop}
+use Rattle.laws.specs.Lists.{all}
+use Rattle.laws.proofs.Parts.{sized}
+use Rattle.laws.proofs.Fits.{and-go, and-end}
+use Rattle.rules.specs.States.{noMessage, messageUnused}
+use Rattle.states.proofs.Tally.{small-started}
+use Rattle.states.proofs.WellFormed.{no-test}
+use Rattle.states.proofs.Pass.{Opened, Pass, pass-start, pass-out, pass-stream, pass-task, pass-no, pass-go, Passed, pass-end, last-test}
 use Rattle.states.proofs.well_formed.Statement.{statement}
 use Rattle.states.proofs.well_formed.Tie as tie
 
-is-valid-requires : tie.Need-is-valid-requires
+abbrev Inv-loop : tie.InvT-loop
+Inv-loop s set n counts₀ before₀ k₀ counts before k = Pass s k before counts
+
+abbrev μ-loop : tie.MeasureT-loop
+μ-loop s set n counts₀ before₀ k₀ counts before k = n - k
+
+abbrev Inv-loop2 : tie.InvT-loop2
+Inv-loop2 s n before k₀ unused₀ k unused =
+    Passed s × ((unused && all messageUnused (drop k (s .messages))) ≡ all messageUnused (drop n (s .messages)))
+
+abbrev μ-loop2 : tie.MeasureT-loop2
+μ-loop2 s n before k₀ unused₀ k unused = 64 - k
+
+is-valid-requires : tie.Need-is-valid-requires Inv-loop μ-loop Inv-loop2 μ-loop2
 is-valid-requires c κs = search needs
 
-returns : tie.Need-returns
-returns c = not-valid _ (sym (c .before .is-valid .ensures) ∙ not-true _ (c .if1 .taken))
+returns : tie.Need-returns Inv-loop μ-loop Inv-loop2 μ-loop2
+returns c = no-test _ 0 (sym (c .before .is-valid .ensures) ∙ not-true _ (c .if1 .taken))
 
-returns-2 : tie.Need-returns-2
-returns-2 c = not-few _ (sym (c .before .before .before .is-valid .ensures) ∙ not-false _ (c .before .before .if1 .left)) (c .if2 .taken)
+returns-2 : tie.Need-returns-2 Inv-loop μ-loop Inv-loop2 μ-loop2
+returns-2 c = no-test _ 1 (lt-leb _ 64 (c .if2 .taken))
 
-returns-3 : tie.Need-returns-3
-returns-3 c = not-clock _ (sym (c .before .before .before .before .before .is-valid .ensures) ∙ not-false _ (c .before .before .before .before .if1 .left)) (c .before .before .if2 .left) (c .if3 .taken)
+returns-3 : tie.Need-returns-3 Inv-loop μ-loop Inv-loop2 μ-loop2
+returns-3 c = no-test _ 2 (lt-leb _ 4000000000 (c .if3 .taken))
 
-messages-ok-requires : tie.Need-messages-ok-requires
-messages-ok-requires c κs = valid-set _ (sym (c .before .before .before .before .before .is-valid .ensures) ∙ not-false _ (c .before .before .before .before .if1 .left)) .count
+loop-holds : tie.Need-loop-holds Inv-loop μ-loop Inv-loop2 μ-loop2
+loop-holds c =
+    let start = c .before .before .before .before .before in
+    pass-start (start .args .t1) (record {
+      set = sym (c .before .before .before .is-valid .ensures) ∙ not-false _ (c .before .before .if1 .left);
+      few = c .before .if2 .left;
+      clock = c .if3 .left;
+      places = sized _ (start .args .t1 .messages) 64 (start .good .0 .1 .1 .1 .1 .1 .0 .1 .0 .1);
+      streams = sized _ (start .args .t1 .set .streams) 16 (start .good .0 .1 .1 .0 .1 .1 .1 .0 .1 .0 .1);
+    })
 
-returns-4 : tie.Need-returns-4
-returns-4 c = not-each _ (sym (c .before .before .before .before .before .before .before .is-valid .ensures) ∙ not-false _ (c .before .before .before .before .before .before .if1 .left)) (c .before .before .before .before .if2 .left) (c .before .before .if3 .left) (sym (c .before .messages-ok .ensures) ∙ not-true _ (c .if4 .taken))
+mul-m : tie.Need-mul-m Inv-loop μ-loop Inv-loop2 μ-loop2
+mul-m c = omega (arith, c .loop-test .taken, c .before .loop .inv .opened .few)
 
-started-once-requires : tie.Need-started-once-requires
-started-once-requires c κs = record { set = (sym (c .before .before .before .before .before .before .before .is-valid .ensures) ∙ not-false _ (c .before .before .before .before .before .before .if1 .left)); few = c .before .before .before .before .if2 .left; each = (sym (c .before .messages-ok .ensures) ∙ not-false _ (c .if4 .left)) }
+element-copy-out-m : tie.Need-element-copy-out-m Inv-loop μ-loop Inv-loop2 μ-loop2
+element-copy-out-m c = omega (arith, c .loop-test .taken, c .before .loop .inv .opened .few)
 
-returns-5 : tie.Need-returns-5
-returns-5 c = not-once _ (sym (c .before .before .before .before .before .before .before .before .before .is-valid .ensures) ∙ not-false _ (c .before .before .before .before .before .before .before .before .if1 .left)) (c .before .before .before .before .before .before .if2 .left) (c .before .before .before .before .if3 .left) (sym (c .before .before .before .messages-ok .ensures) ∙ not-false _ (c .before .before .if4 .left)) (sym (c .before .started-once .ensures) ∙ not-true _ (c .if5 .taken))
+returns-4 : tie.Need-returns-4 Inv-loop μ-loop Inv-loop2 μ-loop2
+returns-4 c =
+    let loop = c .before .before .before .loop in
+    pass-out _ (loop .k) _ _ (loop .inv) (c .before .before .loop-test .taken) (c .if4 .taken)
 
-messages-unused-requires : tie.Need-messages-unused-requires
-messages-unused-requires c κs = search needs
+mul-x : tie.Need-mul-x Inv-loop μ-loop Inv-loop2 μ-loop2
+mul-x c =
+    let loop = c .before .before .before .loop in
+    omega (arith, pass-stream _ (loop .k) _ _ (loop .inv) (c .before .before .loop-test .taken) (c .if4 .left))
 
-returns-6 : tie.Need-returns-6
-returns-6 c = last-test _ (sym (c .before .before .before .before .before .before .before .before .before .before .is-valid .ensures) ∙ not-false _ (c .before .before .before .before .before .before .before .before .before .if1 .left)) (c .before .before .before .before .before .before .before .if2 .left) (c .before .before .before .before .before .if3 .left) (sym (c .before .before .before .before .messages-ok .ensures) ∙ not-false _ (c .before .before .before .if4 .left)) _ (sym (c .before .before .started-once .ensures) ∙ not-false _ (c .before .if5 .left)) (c .messages-unused .ensures)
+element-copy-out-x : tie.Need-element-copy-out-x Inv-loop μ-loop Inv-loop2 μ-loop2
+element-copy-out-x c =
+    let loop = c .before .before .before .loop in
+    pass-stream _ (loop .k) _ _ (loop .inv) (c .before .before .loop-test .taken) (c .if4 .left)
+
+less-requires : tie.Need-less-requires Inv-loop μ-loop Inv-loop2 μ-loop2
+less-requires c κs = search needs
+
+mul-c : tie.Need-mul-c Inv-loop μ-loop Inv-loop2 μ-loop2
+mul-c c =
+    let loop = c .before .before .before .before .before .before .before .before .before .loop in
+    omega (arith, pass-task _ (loop .k) _ _ (loop .inv) (c .before .before .before .before .before .before .before .before .loop-test .taken) (c .before .before .before .before .before .before .if4 .left))
+
+array-read-c : tie.Need-array-read-c Inv-loop μ-loop Inv-loop2 μ-loop2
+array-read-c c =
+    let loop = c .before .before .before .before .before .before .before .before .before .loop in
+    pass-task _ (loop .k) _ _ (loop .inv) (c .before .before .before .before .before .before .before .before .loop-test .taken) (c .before .before .before .before .before .before .if4 .left)
+
+started-requires : tie.Need-started-requires Inv-loop μ-loop Inv-loop2 μ-loop2
+started-requires c κs = search needs
+
+add-c : tie.Need-add-c Inv-loop μ-loop Inv-loop2 μ-loop2
+add-c c =
+    let start = c .before .before .before .before .before .before .before .before .before .before .before .before .before .before .before .before in
+    let loop = c .before .before .before .before .before .before .before .before .before .before .loop in
+    omega (arith, c .started .ensures, loop .inv .tally .small _ (pass-task _ (loop .k) _ _ (loop .inv) (c .before .before .before .before .before .before .before .before .before .loop-test .taken) (c .before .before .before .before .before .before .before .if4 .left)), small-started (getD (start .args .t1 .messages) (loop .k) noMessage .used))
+
+returns-5 : tie.Need-returns-5 Inv-loop μ-loop Inv-loop2 μ-loop2
+returns-5 c =
+    let loop = c .before .before .before .before .before .before .before .before .before .before .before .loop in
+    pass-no _ (loop .k) _ _ (loop .inv) (c .before .before .before .before .before .before .before .before .before .before .loop-test .taken) (c .before .before .before .before .before .before .before .before .if4 .left) (c .before .before .before .before .before .before .less .result) (c .before .started .result) _ (c .before .before .before .before .before .before .less .ensures) (c .before .started .ensures) refl
+    (not-true _ (c .if5 .taken))
+
+mul-counts : tie.Need-mul-counts Inv-loop μ-loop Inv-loop2 μ-loop2
+mul-counts c =
+    let loop = c .before .before .before .before .before .before .before .before .before .before .before .loop in
+    omega (arith, pass-task _ (loop .k) _ _ (loop .inv) (c .before .before .before .before .before .before .before .before .before .before .loop-test .taken) (c .before .before .before .before .before .before .before .before .if4 .left))
+
+array-write-counts : tie.Need-array-write-counts Inv-loop μ-loop Inv-loop2 μ-loop2
+array-write-counts c =
+    let loop = c .before .before .before .before .before .before .before .before .before .before .before .loop in
+    pass-task _ (loop .k) _ _ (loop .inv) (c .before .before .before .before .before .before .before .before .before .before .loop-test .taken) (c .before .before .before .before .before .before .before .before .if4 .left)
+
+add-k : tie.Need-add-k Inv-loop μ-loop Inv-loop2 μ-loop2
+add-k c = search needs
+
+loop-less : tie.Need-loop-less Inv-loop μ-loop Inv-loop2 μ-loop2
+loop-less c = search needs
+
+loop-again : tie.Need-loop-again Inv-loop μ-loop Inv-loop2 μ-loop2
+loop-again c =
+    let loop = c .before .before .before .before .before .before .before .before .before .before .before .loop in
+    pass-go _ (loop .k) _ _ (loop .inv) (c .before .before .before .before .before .before .before .before .before .before .loop-test .taken) (c .before .before .before .before .before .before .before .before .if4 .left) (c .before .before .before .before .before .before .less .result) (c .before .started .result) _ (c .before .before .before .before .before .before .less .ensures) (c .before .started .ensures) refl
+    (not-false _ (c .if5 .left))
+
+loop2-holds : tie.Need-loop2-holds Inv-loop μ-loop Inv-loop2 μ-loop2
+loop2-holds c =
+    let start = c .before .before .before .before .before .before .before in
+    let loop = c .before .loop in (
+      pass-end _ _ _ _ (loop .inv) (c .loop-test .left),
+      ap (λ (k : ℕ). all messageUnused (drop k (start .args .t1 .messages))) (let e : loop .k ≡ start .args .t1 .count = omega (arith, loop .inv .here, c .loop-test .left) in e),
+    )
+
+mul-m-2 : tie.Need-mul-m-2 Inv-loop μ-loop Inv-loop2 μ-loop2
+mul-m-2 c = search needs
+
+element-copy-out-m-2 : tie.Need-element-copy-out-m-2 Inv-loop μ-loop Inv-loop2 μ-loop2
+element-copy-out-m-2 c = search needs
+
+message-unused-requires : tie.Need-message-unused-requires Inv-loop μ-loop Inv-loop2 μ-loop2
+message-unused-requires c κs = search needs
+
+add-k-2 : tie.Need-add-k-2 Inv-loop μ-loop Inv-loop2 μ-loop2
+add-k-2 c = search needs
+
+loop2-less : tie.Need-loop2-less Inv-loop μ-loop Inv-loop2 μ-loop2
+loop2-less c = search needs
+
+loop2-again : tie.Need-loop2-again Inv-loop μ-loop Inv-loop2 μ-loop2
+loop2-again c =
+    let start = c .before .before .before .before .before .before .before .before .before .before .before in
+    let loop = c .before .before .before .loop2 in
+    (loop .inv .0, and-go messageUnused (start .args .t1 .messages) (loop .k) (loop .unused) _ _ noMessage _ (loop .inv .1) refl (c .message-unused .ensures) (omega (arith, c .before .before .loop2-test .taken, loop .inv .0 .opened .places)))
+
+returns-6 : tie.Need-returns-6 Inv-loop μ-loop Inv-loop2 μ-loop2
+returns-6 c =
+    let start = c .before .before .before .before .before .before .before .before .before in
+    let loop = c .before .loop2 in
+    last-test _ _ (loop .inv .0) (and-end messageUnused (start .args .t1 .messages) (loop .k) _ _ (loop .inv .1) (omega (arith, c .loop2-test .left, loop .inv .0 .opened .places)))
 
 pub well-formed-spec : {M : Type 1} → statement M
 well-formed-spec =
     tie.close
     (tie.spec
+    Inv-loop
+    μ-loop
+    Inv-loop2
+    μ-loop2
     is-valid-requires
     returns
     returns-2
     returns-3
-    messages-ok-requires
+    loop-holds
+    mul-m
+    element-copy-out-m
     returns-4
-    started-once-requires
+    mul-x
+    element-copy-out-x
+    less-requires
+    mul-c
+    array-read-c
+    started-requires
+    add-c
     returns-5
-    messages-unused-requires
+    mul-counts
+    array-write-counts
+    add-k
+    loop-less
+    loop-again
+    loop2-holds
+    mul-m-2
+    element-copy-out-m-2
+    message-unused-requires
+    add-k-2
+    loop2-less
+    loop2-again
     returns-6)

@@ -10,22 +10,12 @@ element-copy-out-p c = search needs
 offset-of-requires : tie.Need-offset-of-requires
 offset-of-requires c κs = search needs
 
-tuples-ok-requires : tie.Need-tuples-ok-requires
-tuples-ok-requires c κs = search needs
-
-tuples-unused-requires : tie.Need-tuples-unused-requires
-tuples-unused-requires c κs = search needs
+tuples-fit-requires : tie.Need-tuples-fit-requires
+tuples-fit-requires c κs = search needs
 
 returns : tie.Need-returns
 unfolding streamOk
-returns c = simp (c .before .before .offset-of .ensures, c .before .tuples-ok .ensures, c .tuples-unused .ensures)
+returns c = simp (c .before .offset-of .ensures, c .tuples-fit .ensures)
 
 pub stream-ok-spec : {M : Type 1} → statement M
-stream-ok-spec =
-    tie.close
-    (tie.spec
-    element-copy-out-p
-    offset-of-requires
-    tuples-ok-requires
-    tuples-unused-requires
-    returns)
+stream-ok-spec = tie.close (tie.spec element-copy-out-p offset-of-requires tuples-fit-requires returns)

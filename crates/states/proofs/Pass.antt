@@ -1,0 +1,118 @@
+-- The pass over the pending messages: what holds before the place k, and what each turn of the loop finds.
+-- Assumes nothing.
+use Prim.Native.Nat.{ℕ, _+_, _-_, _≤_, _<_}
+use mathlib.Core.Bool.{Bool, true, false, cond, _&&_}
+use mathlib.Core.Logic.{inl}
+use mathlib.Core.List.{List}
+use mathlib.Core.Path.{_≡_, refl, ap, sym, _∙_}
+use native.Mathlib.Omega.{arith}
+use borrow.Author.Tests.{leb-true, leb-false, le-leb}
+use lib.Dec.{ltb, leb}
+use lib.ListN.{length, getD, take, drop, set, replicate}
+use Rattle.laws.specs.Lists.{below, all, scan}
+use Rattle.laws.proofs.Sums.{by-test}
+use Rattle.laws.proofs.Parts.{part, part-all, scan-go, scan-no, scan-end, both-first, both-second, getD-any}
+use Rattle.rules.specs.declared.Message.{Message}
+use Rattle.rules.specs.declared.Stream.{Stream}
+use Rattle.rules.specs.declared.State.{State}
+use Rattle.rules.specs.Streams.{streamAt, noStream, valid}
+use Rattle.rules.specs.States.{noMessage, pending, taskOf, postedAt, messageOk, messagesOk, startedOnce, messageUnused, wellFormed}
+use Rattle.rules.proofs.Valid.{valid-set}
+use Rattle.states.proofs.Standing.{message-out, message-by}
+use Rattle.states.proofs.Tally.{Tally, tally-start, tally-go, tally-no, tally-end}
+use Rattle.states.proofs.WellFormed.{blank, stream-valid, no-test}
+
+-- what was tested before the first message: the set, how many messages there are, the clock; and what the types say
+pub record Opened (s : State) : Type 0 where
+  pub set : valid (s .set) ≡ true
+  pub few : s .count ≤ 64
+  pub clock : s .clock ≤ 4000000000
+  pub places : length (s .messages) ≡ 64
+  pub streams : length (s .set .streams) ≡ 16
+
+-- the messages before k have passed: what is left to test comes to the same as the whole
+pub record Pass (s : State) (k before : ℕ) (counts : List ℕ) : Type 0 where
+  pub opened : Opened s
+  pub here : k ≤ s .count
+  pub left : scan (messageOk (s .set) (s .clock)) (postedAt (s .set)) before (part k (s .count) (s .messages)) ≡ messagesOk (s .set) (s .clock) (pending s)
+  pub tally : Tally (s .set) (s .messages) (s .count) k counts
+
+pub pass-start : (s : State) → Opened s → Pass s 0 0 (replicate 16 0)
+unfolding messagesOk
+pass-start s o = record { opened = o; here = omega arith; left = rw (part-all (s .messages) (s .count)) refl; tally = tally-start (s .set) (s .messages) (s .count) }
+
+module _ (s : State) (k before : ℕ) (counts : List ℕ) (inv : Pass s k before counts) (h : k < s .count) where
+  -- the message at k
+  abbrev m : Message
+  m = getD (s .messages) k noMessage
+
+  inside : k < length (s .messages)
+  inside = omega (arith, inv .opened .few, inv .opened .places)
+
+  -- it does not pass
+  not-it : messageOk (s .set) (s .clock) before m ≡ false → false ≡ wellFormed s
+  not-it e =
+      no-test s 3
+      (sym (scan-no (messageOk (s .set) (s .clock)) (postedAt (s .set)) (s .messages) (s .count) k before _ noMessage m (inv .left) refl e h inside))
+
+  -- it names no stream of the set
+  pub pass-out : s .set .count ≤ m .stream → false ≡ wellFormed s
+  pass-out g = not-it (message-out (s .set) (s .clock) before m g)
+
+  module _ (g : m .stream < s .set .count) where
+    pub pass-stream : m .stream < 16
+    pass-stream = omega (arith, valid-set (s .set) (inv .opened .set) .count)
+
+    -- its stream, as the code reads it within the array
+    abbrev y : Stream
+    y = getD (s .set .streams) (m .stream) blank
+
+    read : y ≡ streamAt (s .set) (m .stream)
+    read = getD-any (s .set .streams) (m .stream) blank noStream (omega (arith, pass-stream, inv .opened .streams))
+
+    pub pass-task : y .task < 16
+    pass-task = rw read (omega (arith, stream-valid (s .set) (m .stream) (inv .opened .set) (inv .opened .streams) g .task))
+
+    module _ (at r c : ℕ) (e₁ : at ≡ m .deadline - y .deadline) (e₂ : r ≡ cond (ltb 0 (m .used)) 1 0) (e₃ : c ≡ getD counts (y .task) 0 + r) where
+      abbrev ok : Bool
+      ok = ltb (m .used) (y .cost) && ((leb (y .deadline) (m .deadline) && leb at (s .clock)) && leb before at)
+
+      same : ok ≡ messageOk (s .set) (s .clock) before m
+      same = message-by (s .set) (s .clock) before m y at g read e₁
+
+      task : y .task ≡ taskOf (s .set) m
+      task = ap (λ (x : Stream). x .task) read
+
+      pub pass-no : (ok && leb c 1) ≡ false → false ≡ wellFormed s
+      pass-no e =
+          by-test ok
+          (λ t. no-test s 4 (sym (tally-no (s .set) (s .messages) (s .count) k counts m (y .task) c r (inv .tally) refl task e₂ e₃ pass-task h inside (leb-false c 1 (rw t at e)))))
+          (λ t. not-it (sym same ∙ t))
+
+      pub pass-go : (ok && leb c 1) ≡ true → Pass s (k + 1) at (set counts (y .task) c)
+      pass-go e = record {
+        opened = inv .opened;
+        here = omega arith;
+        left =
+            scan-go (messageOk (s .set) (s .clock)) (postedAt (s .set)) (s .messages) (s .count) k before at _ noMessage m (inv .left) refl
+            (e₁ ∙ ap (λ (x : Stream). m .deadline - x .deadline) read) (sym same ∙ both-first ok (leb c 1) e) h inside;
+        tally = tally-go (s .set) (s .messages) (s .count) k counts m (y .task) c r (inv .tally) refl task e₂ e₃ pass-task h inside (leb-true c 1 (both-second ok (leb c 1) e));
+      }
+
+-- all messages have passed: only the places behind them are left
+pub record Passed (s : State) : Type 0 where
+  pub opened : Opened s
+  pub each : messagesOk (s .set) (s .clock) (pending s) ≡ true
+  pub once : all (startedOnce (s .set) (pending s)) (below 16) ≡ true
+
+pub pass-end : (s : State) (k before : ℕ) (counts : List ℕ) → Pass s k before counts → s .count ≤ k → Passed s
+pass-end s k before counts inv h = record {
+  opened = inv .opened;
+  each = sym (scan-end (messageOk (s .set) (s .clock)) (postedAt (s .set)) (s .messages) (s .count) k before _ (inv .left) (inl h));
+  once = sym (tally-end (s .set) (s .messages) (s .count) k counts (inv .tally) h);
+}
+
+pub last-test : (s : State) (r : Bool) → Passed s → r ≡ all messageUnused (drop (s .count) (s .messages)) → r ≡ wellFormed s
+unfolding wellFormed
+last-test s r p u =
+    rw (p .opened .set, le-leb (s .count) 64 (p .opened .few), le-leb (s .clock) 4000000000 (p .opened .clock), p .each, p .once) u
