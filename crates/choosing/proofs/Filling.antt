@@ -1,69 +1,158 @@
--- The table of deadlines as a pass from the last message to the first fills it.
+-- The tables of choosing as a pass from the last message to the first fills them.
 -- Assumes nothing.
-use Prim.Native.Nat.{ℕ, zero, suc, _+_, _-_, _≤_, _<_}
-use mathlib.Core.Bool.{Bool, true, false, cond, _&&_}
+use Prim.Native.Nat.{ℕ, _+_, _≤_, _<_}
+use mathlib.Core.Bool.{true}
 use mathlib.Core.Logic.{inl}
 use mathlib.Core.List.{List, [], _∷_}
 use mathlib.Core.Path.{_≡_, refl, ap, sym, _∙_}
 use native.Mathlib.Omega.{arith}
-use native.Mathlib.Numerals.{add-one}
-use borrow.Author.Tests.{eqb-true, eqb-false, eq-eqb, ne-eqb}
-use lib.Dec.{ltb, eqb}
-use lib.ListN.{length, getD, take, set, replicate, length-set, length-replicate, getD-replicate}
+use borrow.Author.Tests.{eqb-true, eqb-false}
+use lib.Dec.{eqb}
+use lib.ListN.{length, getD, set, replicate, length-set, length-replicate, getD-replicate}
 use lib.Seq.{getD-set-same, getD-set-other}
-use Rattle.laws.specs.Lists.{firstLeast}
+use Rattle.laws.specs.Lists.{find}
 use Rattle.laws.proofs.Sums.{by-test}
-use Rattle.laws.proofs.Parts.{part, part-cons, part-nil, part-all}
-use Rattle.rules.specs.declared.Set.{Set}
+use Rattle.laws.proofs.Parts.{part, part-cons, part-nil}
+use Rattle.rules.specs.declared.Stream.{Stream}
 use Rattle.rules.specs.declared.Message.{Message}
-use Rattle.rules.specs.States.{noMessage, taskOf}
-use Rattle.rules.specs.Steps.{sooner, never, taskDeadline}
-use Rattle.choosing.specs.Table.{Table, at}
+use Rattle.rules.specs.declared.State.{State}
+use Rattle.rules.specs.States.{noMessage, taskOf, wellFormed}
+use Rattle.rules.specs.Steps.{taskDeadline, startedAt, urgentAt, messageAt}
+use Rattle.states.proofs.WellFormed.{blank, well-formed, sound, stream-place, stream-read, task-read}
+use Rattle.choosing.specs.Table.{Table, Tables, at}
+use Rattle.choosing.proofs.Front.{deadline-own, deadline-other, deadline-later, urgent-own, urgent-other, urgent-later, started-own, started-other, started-not}
 
-module _ (x : Set) (l : List Message) (n : ℕ) where
-  -- behind the last message no task has a deadline
-  pub table-start : Table x (part n n l) (replicate 16 4294967296)
-  unfolding taskDeadline
-  table-start = record {
-    sixteen = length-replicate {A = ℕ} 16 4294967296;
-    holds = λ t h. getD-replicate {A = ℕ} 16 t 4294967296 0 h ∙ rw (part-nil l n n (inl (omega arith)));
+-- ---- a table
+
+table-start : (f : ℕ → ℕ) (v : ℕ) → ((t : ℕ) → v ≡ f t) → Table f (replicate 16 v)
+table-start f v e = record { sixteen = length-replicate {A = ℕ} 16 v; holds = λ t h. getD-replicate {A = ℕ} 16 t v 0 h ∙ e t }
+
+module _ (f g : ℕ → ℕ) (table : List ℕ) (h : Table f table) where
+  table-same : ((t : ℕ) → f t ≡ g t) → Table g table
+  table-same e = record { sixteen = h .sixteen; holds = λ t q. h .holds t q ∙ e t }
+
+  -- a new value for the task t, and the old one for each other task
+  table-put : (t v : ℕ) → t < 16 → v ≡ g t → ((u : ℕ) → (t ≡ u → ⊥) → f u ≡ g u) → Table g (set table t v)
+  table-put t v q own other = record {
+    sixteen = simp length-set (h .sixteen);
+    holds = λ u p. by-test (eqb t u)
+        (λ y. rw (← eqb-true t u y, getD-set-same table t v 0 (omega (arith, h .sixteen))) own)
+        (λ y. rw (getD-set-other table t u v 0 (λ z. eqb-false t u y (sym z))) (h .holds u p ∙ other u (eqb-false t u y)));
   }
 
-  module _ (j k : ℕ) (table : List ℕ) (m : Message) (t d r : ℕ) (inv₀ : Table x (part j n l) table) (back : j ≡ k + 1) (e : m ≡ getD l k noMessage) (e₁ : t ≡ taskOf x m) (e₂ : d ≡ m .deadline)
-      (e₃ : r ≡ cond (sooner d (getD table t 0)) d (getD table t 0)) (t-in : t < 16) (h : k < n) (g : k < length l) where
-    inv : Table x (part (k + 1) n l) table
-    inv = rw back at inv₀
+-- ---- the tables of a state by its messages from k on
 
-    more : (u : ℕ) → taskDeadline x (part k n l) u
-        ≡ cond (eqb (taskOf x m) u && sooner (m .deadline) (taskDeadline x (part (k + 1) n l) u)) (m .deadline) (taskDeadline x (part (k + 1) n l) u)
-    unfolding taskDeadline
-    more u = rw (part-cons l n k noMessage h g, ← e)
+pub record Filled (s : State) (k : ℕ) (deadlines due started : List ℕ) : Type 0 where
+  pub formed : wellFormed s ≡ true
+  pub places : length (s .messages) ≡ 64
+  pub streams : length (s .set .streams) ≡ 16
+  pub inside : k ≤ s .count
+  pub tables : Tables (s .set) (part k (s .count) (s .messages)) k deadlines due started
 
-    -- the message at k bears on its own task's deadline, and on no other's
-    own : r ≡ taskDeadline x (part k n l) t
-    own = rw (more t, ← e₁, eq-eqb t t refl, ← inv .holds t t-in, ← e₂) e₃
+-- behind the last message no task has a deadline, and the place is past all
+pub filled-start : (s : State) → wellFormed s ≡ true → length (s .messages) ≡ 64 → length (s .set .streams) ≡ 16
+    → Filled s (s .count) (replicate 16 4294967296) (replicate 16 (s .count)) (replicate 16 (s .count))
+unfolding taskDeadline urgentAt startedAt find
+filled-start s w ms ss = record {
+  formed = w;
+  places = ms;
+  streams = ss;
+  inside = omega arith;
+  tables = rw (part-nil (s .messages) (s .count) (s .count) (inl (omega arith)))
+      (record {
+        deadline = table-start (taskDeadline (s .set) []) 4294967296 (λ t. refl);
+        urgent = table-start (λ t. s .count + urgentAt (s .set) [] t) (s .count) (λ t. omega arith);
+        begun = table-start (λ t. s .count + startedAt (s .set) [] t) (s .count) (λ t. omega arith);
+      });
+}
 
-    other : (u : ℕ) → u < 16 → (t ≡ u → ⊥) → getD table u 0 ≡ taskDeadline x (part k n l) u
-    other u q f = rw (more u, ← e₁, ne-eqb t u f) (inv .holds u q)
+-- the task of the message at k, as the code reads it
+abbrev pub taskRead : State → ℕ → ℕ
+taskRead s k = getD (s .set .streams) (messageAt s k .stream) blank .task
 
-    pub table-go : Table x (part k n l) (set table t r)
-    table-go = record {
-      sixteen = simp length-set (inv .sixteen);
-      holds = λ u q. by-test (eqb t u)
-          (λ y. rw (← eqb-true t u y, getD-set-same table t r 0 (omega (arith, inv .sixteen))) own)
-          (λ y. rw (getD-set-other table t u r 0 (λ z. eqb-false t u y (sym z))) (other u q (eqb-false t u y)));
-    }
+-- the messages from k on: that at k, and those behind it
+abbrev pub fromAt : State → ℕ → List Message
+fromAt s k = messageAt s k ∷ part (k + 1) (s .count) (s .messages)
 
--- ---- the first place at which a table is least
+-- the first two tables by them, and the third
+pub record Dues (s : State) (k : ℕ) (deadlines due : List ℕ) : Type 0 where
+  pub deadline : Table (taskDeadline (s .set) (fromAt s k)) deadlines
+  pub urgent : Table (λ u. k + urgentAt (s .set) (fromAt s k) u) due
 
-pub least-start : (f : ℕ → ℕ) → 0 ≡ firstLeast f 0
-unfolding firstLeast
-least-start f = refl
+abbrev pub Begun : State → ℕ → List ℕ → Type 0
+Begun s k started = Table (λ u. k + startedAt (s .set) (fromAt s k) u) started
 
-pub least-go : (f : ℕ → ℕ) (t best r : ℕ) → best ≡ firstLeast f t → r ≡ cond (sooner (f t) (f best)) t best → r ≡ firstLeast f (t + 1)
-unfolding firstLeast
-least-go f t best r e e′ = rw add-one (rw (← e) e′)
+-- ---- a turn: from the messages behind k to those from k on
 
-pub least-in : (b : Bool) (t best n : ℕ) → t < n → best < n → cond b t best < n
-least-in true t best n h g = h
-least-in false t best n h g = g
+module _ {s : State} {j : ℕ} {deadlines due started : List ℕ} (k : ℕ) (inv : Filled s j deadlines due started) (back : j ≡ k + 1) where
+  inside : k < s .count
+  inside = omega (arith, inv .inside)
+
+  pub message-in : k < 64
+  message-in = omega (arith, inv .inside, well-formed s (inv .formed) .few)
+
+  pub stream-in : messageAt s k .stream < 16
+  stream-in = stream-place s (sound s (inv .formed)) (inv .places) k inside
+
+  pub task-in : taskRead s k < 16
+  task-in = task-read s (sound s (inv .formed)) (inv .places) k inside (inv .streams)
+
+  his : taskRead s k ≡ taskOf (s .set) (messageAt s k)
+  his = ap (λ (x : Stream). x .task) (stream-read s (sound s (inv .formed)) (inv .places) k inside (inv .streams))
+
+  tables : Tables (s .set) (part (k + 1) (s .count) (s .messages)) (k + 1) deadlines due started
+  tables = rw back at (inv .tables)
+
+  from : part k (s .count) (s .messages) ≡ fromAt s k
+  from = part-cons (s .messages) (s .count) k noMessage inside (omega (arith, message-in, inv .places))
+
+  pub due-now : {deadlines′ due′ : List ℕ} → messageAt s k .deadline ≤ at deadlines (taskRead s k)
+      → deadlines′ ≡ set deadlines (taskRead s k) (messageAt s k .deadline) → due′ ≡ set due (taskRead s k) k → Dues s k deadlines′ due′
+  due-now q e e′ =
+      let x = s .set in
+      let l = part (k + 1) (s .count) (s .messages) in
+      let m = messageAt s k in
+      let t = taskRead s k in
+      let h : m .deadline ≤ taskDeadline x l t = rw (tables .deadline .holds t task-in) at q in
+      rw (e, e′)
+      (record {
+        deadline = table-put (taskDeadline x l) (taskDeadline x (m ∷ l)) deadlines (tables .deadline) t (m .deadline) task-in (deadline-own x l k m t his h) (deadline-other x l k m t his);
+        urgent = table-put (λ u. k + 1 + urgentAt x l u) (λ u. k + urgentAt x (m ∷ l) u) due (tables .urgent) t k task-in (urgent-own x l k m t his h) (urgent-other x l k m t his);
+      })
+
+  pub due-later : {deadlines′ due′ : List ℕ} → at deadlines (taskRead s k) < messageAt s k .deadline → deadlines′ ≡ deadlines → due′ ≡ due → Dues s k deadlines′ due′
+  due-later q e e′ =
+      let x = s .set in
+      let l = part (k + 1) (s .count) (s .messages) in
+      let m = messageAt s k in
+      let t = taskRead s k in
+      let h : taskDeadline x l t < m .deadline = rw (tables .deadline .holds t task-in) at q in
+      rw (e, e′)
+      (record {
+        deadline = table-same (taskDeadline x l) (taskDeadline x (m ∷ l)) deadlines (tables .deadline) (deadline-later x l k m t his h);
+        urgent = table-same (λ u. k + 1 + urgentAt x l u) (λ u. k + urgentAt x (m ∷ l) u) due (tables .urgent) (urgent-later x l k m t his h);
+      })
+
+  pub started-now : 0 < messageAt s k .used → Begun s k (set started (taskRead s k) k)
+  started-now q =
+      let x = s .set in
+      let l = part (k + 1) (s .count) (s .messages) in
+      let m = messageAt s k in
+      let t = taskRead s k in
+      table-put (λ u. k + 1 + startedAt x l u) (λ u. k + startedAt x (m ∷ l) u) started (tables .begun) t k task-in (started-own x l k m t his q) (started-other x l k m t his)
+
+  pub started-later : messageAt s k .used ≤ 0 → Begun s k started
+  started-later q =
+      let x = s .set in
+      let l = part (k + 1) (s .count) (s .messages) in
+      let m = messageAt s k in
+      table-same (λ u. k + 1 + startedAt x l u) (λ u. k + startedAt x (m ∷ l) u) started (tables .begun) (started-not x l k m (taskRead s k) his q)
+
+  pub filled-go : {deadlines′ due′ started′ : List ℕ} → Dues s k deadlines′ due′ → Begun s k started′ → Filled s k deadlines′ due′ started′
+  filled-go d b = record {
+    formed = inv .formed;
+    places = inv .places;
+    streams = inv .streams;
+    inside = omega (arith, inside);
+    tables = rw from (record { deadline = d .deadline; urgent = d .urgent; begun = b });
+  }

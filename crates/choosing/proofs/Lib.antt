@@ -1,3 +1,5 @@
+pub mod Least
+pub mod Front
 pub mod Filling
 pub mod Places
 pub mod Looking

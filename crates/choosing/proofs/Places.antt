@@ -1,34 +1,40 @@
--- The place that is served, as the code finds it.
+-- The place that is served, as the filled tables tell it.
 -- Assumes nothing.
 use Prim.Native.Nat.{ℕ, _+_, _≤_, _<_}
-use mathlib.Core.Bool.{Bool, true, false, cond, _&&_}
 use mathlib.Core.List.{List}
-use mathlib.Core.Path.{_≡_, refl, ap, sym, _∙_}
+use mathlib.Core.Path.{_≡_, _∙_}
 use native.Mathlib.Omega.{arith}
 use borrow.Author.Tests.{lt-ltb, le-ltb}
-use lib.Dec.{ltb, eqb}
-use lib.ListN.{length, getD, take}
+use lib.ListN.{length}
 use lib.Seq.{length-take-le}
-use Rattle.laws.specs.Lists.{find, firstLeast}
-use Rattle.laws.proofs.Parts.{first-least-same}
+use Rattle.laws.specs.Lists.{firstLeast}
+use Rattle.laws.proofs.Parts.{part-all, first-least-same}
 use Rattle.rules.specs.declared.State.{State}
 use Rattle.rules.specs.States.{pending}
-use Rattle.rules.specs.Steps.{taskDeadline, runningTask, startedAt, urgentAt, dueOf, servedAt, placeOf}
-use Rattle.choosing.specs.Table.{Table, at}
+use Rattle.rules.specs.Steps.{taskDeadline, runningTask, startedAt, urgentAt, servedAt, placeOf}
+use Rattle.states.proofs.WellFormed.{well-formed}
+use Rattle.choosing.specs.Table.{Tables, at}
+use Rattle.choosing.proofs.Filling.{Filled}
 
-module _ (s : State) (table : List ℕ) (t i : ℕ) (few : s .count ≤ 64) (ms : length (s .messages) ≡ 64) (h : Table (s .set) (pending s) table)
-    (e : t ≡ firstLeast (at table) 16) (t-in : t < 16) (e₁ : i ≡ startedAt (s .set) (pending s) t) where
+module _ {s : State} {k : ℕ} {deadlines due started : List ℕ} (t : ℕ) (inv : Filled s k deadlines due started) (end : k ≤ 0)
+    (e : t ≡ firstLeast (at deadlines) 16) (t-in : t < 16) where
+  tables : Tables (s .set) (pending s) 0 deadlines due started
+  tables = rw (let z : k ≡ 0 = omega arith in z, part-all) at (inv .tables)
+
   runs : t ≡ runningTask (s .set) (pending s)
   unfolding runningTask
-  runs = e ∙ first-least-same (at table) (taskDeadline (s .set) (pending s)) 16 (h .holds)
+  runs = e ∙ first-least-same (at deadlines) (taskDeadline (s .set) (pending s)) 16 (tables .deadline .holds)
 
   all-pending : length (pending s) ≡ s .count
-  all-pending = length-take-le (s .count) (s .messages) (omega arith)
+  all-pending = length-take-le (s .count) (s .messages) (omega (arith, well-formed s (inv .formed) .few, inv .places))
 
-  pub place-started : i < s .count → i ≡ placeOf s
+  going : at started t ≡ startedAt (s .set) (pending s) t
+  going = tables .begun .holds t t-in ∙ omega arith
+
+  pub place-started : at started t < s .count → at started t ≡ placeOf s
   unfolding placeOf servedAt
-  place-started q = rw (← runs, ← e₁, all-pending, lt-ltb i (s .count) q)
+  place-started q = rw (← runs, ← going, all-pending, lt-ltb (at started t) (s .count) q)
 
-  pub place-due : (j : ℕ) → j ≡ find (dueOf (s .set) t (getD table t 0)) (pending s) → s .count ≤ i → j ≡ placeOf s
-  unfolding placeOf servedAt urgentAt
-  place-due j e₂ q = rw (← runs, ← e₁, all-pending, le-ltb i (s .count) q, ← h .holds t t-in) e₂
+  pub place-due : s .count ≤ at started t → at due t ≡ placeOf s
+  unfolding placeOf servedAt
+  place-due q = rw (← runs, ← going, all-pending, le-ltb (at started t) (s .count) q) (tables .urgent .holds t t-in ∙ omega arith)

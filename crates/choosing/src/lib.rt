@@ -2,11 +2,9 @@
 ghost use mathlib.Core.Path.{_≡_};
 ghost use mathlib.Core.Bool.{cond};
 ghost use Prim.Native.Nat.{_<_};
-ghost use Rattle.laws.specs.Lists.{find, firstLeast};
-ghost use Rattle.rules.specs.States.{pending};
-ghost use Rattle.rules.specs.Steps.{sooner, startedAt, dueOf, placeOf};
-ghost use Rattle.states.specs.Sound.{Sound};
-ghost use Rattle.choosing.specs.Table.{Table, at};
+ghost use Rattle.laws.specs.Lists.{firstLeast};
+ghost use Rattle.rules.specs.Steps.{sooner};
+ghost use Rattle.choosing.specs.Table.{at};
 ghost use Rattle.choosing.specs.Found.{foundOf};
 use rules::State;
 
@@ -15,33 +13,6 @@ pub enum Found {
     IllFormed,
     Nothing,
     At(usize),
-}
-
-// The sooner of two deadlines, the second where they are the same.
-fn sooner_of(d: u64, e: u64) -> u64
-    ensures { λ r. ⌜ r ≡ cond (sooner d e) d e ⌝ }
-{
-    if d < e { d } else { e }
-}
-
-// The deadline of each task, after every deadline where nothing of it is pending. Looked up from the last message to the first.
-fn task_deadlines(s: State) -> [u64; 16]
-    requires { ⌜ Sound s ⌝ }
-    ensures { λ r. ⌜ Table (s .set) (pending s) r ⌝ }
-{
-    let set = s.set;
-    let mut table = [4294967296u64; 16];
-    let mut k = s.count;
-    while 0 < k {
-        k = k - 1;
-        let m = s.messages[k];
-        let i = m.stream;
-        let x = set.streams[i];
-        let t = x.task;
-        let d = m.deadline as u64;
-        table[t] = sooner_of(d, table[t]);
-    }
-    table
 }
 
 // t where a is less than b, else best.
@@ -64,69 +35,43 @@ fn least_task(table: [u64; 16]) -> usize
     best
 }
 
-// The place of the task's started message, the count where it has none.
-fn started_at(s: State, t: usize) -> usize
-    requires { ⌜ Sound s ⌝ }
-    ensures { λ r. ⌜ r ≡ startedAt (s .set) (pending s) t ⌝ }
-{
-    let set = s.set;
-    let n = s.count;
-    let mut k: usize = 0;
-    while k < n {
-        let m = s.messages[k];
-        let i = m.stream;
-        let x = set.streams[i];
-        if (0 < m.used) & (x.task == t) {
-            return k;
-        }
-        k = k + 1;
-    }
-    k
-}
-
-// The place of the task's first message with the deadline d, the count where there is none.
-fn due_at(s: State, t: usize, d: u64) -> usize
-    requires { ⌜ Sound s ⌝ }
-    ensures { λ r. ⌜ r ≡ find (dueOf (s .set) t d) (pending s) ⌝ }
-{
-    let set = s.set;
-    let n = s.count;
-    let mut k: usize = 0;
-    while k < n {
-        let m = s.messages[k];
-        let i = m.stream;
-        let x = set.streams[i];
-        if ((m.deadline as u64) == d) & (x.task == t) {
-            return k;
-        }
-        k = k + 1;
-    }
-    k
-}
-
-// The place of the message that is served.
-fn place(s: State) -> usize
-    requires { ⌜ Sound s ⌝ }
-    ensures { λ r. ⌜ r ≡ placeOf s ⌝ }
-{
-    let table = task_deadlines(s);
-    let t = least_task(table);
-    let i = started_at(s, t);
-    if i < s.count {
-        return i;
-    }
-    due_at(s, t, table[t])
-}
-
-// What there is to serve. The state is tested here, once for a call.
+// What there is to serve. The state is tested here, once for a call. From the last message to the first three things are kept for
+// each task: its deadline, the place of its message that is due then, and the place of its started one.
 pub fn look(s: State) -> Found
     ensures { λ r. ⌜ r ≡ foundOf s ⌝ }
 {
-    if states::well_formed(s) {
-        if s.count == 0 {
-            return Found::Nothing;
-        }
-        return Found::At(place(s));
+    if !states::well_formed(s) {
+        return Found::IllFormed;
     }
-    Found::IllFormed
+    let n = s.count;
+    if n == 0 {
+        return Found::Nothing;
+    }
+    let streams = s.set.streams;
+    let mut deadlines = [4294967296u64; 16];
+    let mut due = [n; 16];
+    let mut started = [n; 16];
+    let mut k = n;
+    while 0 < k {
+        k = k - 1;
+        let m = s.messages[k];
+        let i = m.stream;
+        let x = streams[i];
+        let t = x.task;
+        let d = m.deadline as u64;
+        if d <= deadlines[t] {
+            deadlines[t] = d;
+            due[t] = k;
+        }
+        if 0 < m.used {
+            started[t] = k;
+        }
+    }
+    let t = least_task(deadlines);
+    let going = started[t];
+    if going < n {
+        return Found::At(going);
+    }
+    let first = due[t];
+    Found::At(first)
 }

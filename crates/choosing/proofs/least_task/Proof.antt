@@ -8,7 +8,7 @@ use lib.Dec.{ltb}
 use Rattle.laws.proofs.Parts.{sized}
 use Rattle.laws.specs.Lists.{firstLeast}
 use Rattle.choosing.specs.Table.{at}
-use Rattle.choosing.proofs.Filling.{least-start, least-go, least-in}
+use Rattle.choosing.proofs.Least.{least-start, least-go, least-in}
 use Rattle.choosing.proofs.least_task.Statement.{statement}
 use Rattle.choosing.proofs.least_task.Tie as tie
 

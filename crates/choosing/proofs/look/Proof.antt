@@ -1,29 +1,201 @@
--- `choosing::look` meets its contract. Assumes nothing.
+-- `choosing::look` meets its contract. The tables hold what the messages behind k say. Assumes nothing.
+use native.Mathlib.Omega.{arith}
 use borrow.Author.Needs.{needs}
-use mathlib.Core.Path.{_≡_, refl, sym, ap, _∙_}
-use borrow.Author.Tests.{eq-eqb, ne-eqb}
-use Rattle.states.proofs.WellFormed.{sound}
+use borrow.Author.Tests.{eq-eqb, ne-eqb, not-true, not-false}
+use Prim.Native.Nat.{_+_, _-_}
+use mathlib.Core.Bool.{true}
+use mathlib.Core.Logic.{⊎-elim}
+use mathlib.Core.Path.{_≡_, sym, _∙_}
+use Rattle.laws.proofs.Parts.{sized}
+use Rattle.rules.specs.States.{wellFormed}
 use Rattle.choosing.specs.Found.{foundOf}
+use Rattle.choosing.proofs.Filling.{Filled, filled-start, filled-go, message-in, stream-in, task-in, due-now, due-later, started-now, started-later}
+use Rattle.choosing.proofs.Places.{place-started, place-due}
 use Rattle.choosing.proofs.look.Statement.{statement}
 use Rattle.choosing.proofs.look.Tie as tie
 
-well-formed-requires : tie.Need-well-formed-requires
+abbrev Inv-loop : tie.InvT-loop
+Inv-loop s n streams deadlines₀ due₀ started₀ k₀ deadlines due started k = Filled s k deadlines due started
+
+abbrev μ-loop : tie.MeasureT-loop
+μ-loop s n streams deadlines₀ due₀ started₀ k₀ deadlines due started k = k
+
+well-formed-requires : tie.Need-well-formed-requires Inv-loop μ-loop
 well-formed-requires c κs = search needs
 
-returns : tie.Need-returns
+returns : tie.Need-returns Inv-loop μ-loop
 unfolding foundOf
-returns c = simp ((sym (c .before .before .before .well-formed .ensures) ∙ c .before .before .if1 .taken), eq-eqb _ _ (c .if2 .taken))
+returns c = simp (sym (c .before .well-formed .ensures) ∙ not-true _ (c .if1 .taken))
 
-place-requires : tie.Need-place-requires
-place-requires c κs = sound _ (sym (c .before .before .before .well-formed .ensures) ∙ c .before .before .if1 .taken)
-
-returns-2 : tie.Need-returns-2
+returns-2 : tie.Need-returns-2 Inv-loop μ-loop
 unfolding foundOf
-returns-2 c = simp ((sym (c .before .before .before .before .well-formed .ensures) ∙ c .before .before .before .if1 .taken), ne-eqb _ _ (c .before .if2 .left), c .place .ensures)
+returns-2 c = simp ((sym (c .before .before .well-formed .ensures) ∙ not-false _ (c .before .if1 .left)), eq-eqb _ _ (c .if2 .taken))
 
-returns-3 : tie.Need-returns-3
+loop-holds : tie.Need-loop-holds Inv-loop μ-loop
+loop-holds c =
+    let start = c .before .before .before .before in
+    let w : wellFormed (start .args .t1) ≡ true = sym (c .before .before .before .well-formed .ensures) ∙ not-false _ (c .before .before .if1 .left) in
+    filled-start (start .args .t1) w (sized _ (start .args .t1 .messages) 64 (start .good .0 .1 .1 .1 .1 .1 .0 .1 .0 .1)) (sized _ (start .args .t1 .set .streams) 16 (start .good .0 .1 .1 .0 .1 .1 .1 .0 .1 .0 .1))
+
+sub-k : tie.Need-sub-k Inv-loop μ-loop
+sub-k c = search needs
+
+mul-m : tie.Need-mul-m Inv-loop μ-loop
+mul-m c =
+    let loop = c .before .loop in
+    omega (arith, message-in (loop .k - 1) (loop .inv) (omega (arith, c .loop-test .taken)))
+
+element-copy-out-m : tie.Need-element-copy-out-m Inv-loop μ-loop
+element-copy-out-m c =
+    let loop = c .before .loop in
+    message-in (loop .k - 1) (loop .inv) (omega (arith, c .loop-test .taken))
+
+mul-x : tie.Need-mul-x Inv-loop μ-loop
+mul-x c =
+    let loop = c .before .before .loop in
+    omega (arith, stream-in (loop .k - 1) (loop .inv) (omega (arith, c .before .loop-test .taken)))
+
+array-copy-out-x : tie.Need-array-copy-out-x Inv-loop μ-loop
+array-copy-out-x c =
+    let loop = c .before .before .loop in
+    stream-in (loop .k - 1) (loop .inv) (omega (arith, c .before .loop-test .taken))
+
+cast-d : tie.Need-cast-d Inv-loop μ-loop
+cast-d c = search needs
+
+mul-if3 : tie.Need-mul-if3 Inv-loop μ-loop
+mul-if3 c =
+    let loop = c .before .before .before .before .loop in
+    omega (arith, task-in (loop .k - 1) (loop .inv) (omega (arith, c .before .before .before .loop-test .taken)))
+
+array-read-if3 : tie.Need-array-read-if3 Inv-loop μ-loop
+array-read-if3 c =
+    let loop = c .before .before .before .before .loop in
+    task-in (loop .k - 1) (loop .inv) (omega (arith, c .before .before .before .loop-test .taken))
+
+mul-deadlines : tie.Need-mul-deadlines Inv-loop μ-loop
+mul-deadlines c =
+    let loop = c .before .before .before .before .before .loop in
+    omega (arith, task-in (loop .k - 1) (loop .inv) (omega (arith, c .before .before .before .before .loop-test .taken)))
+
+array-write-deadlines : tie.Need-array-write-deadlines Inv-loop μ-loop
+array-write-deadlines c =
+    let loop = c .before .before .before .before .before .loop in
+    task-in (loop .k - 1) (loop .inv) (omega (arith, c .before .before .before .before .loop-test .taken))
+
+mul-due : tie.Need-mul-due Inv-loop μ-loop
+mul-due c =
+    let loop = c .before .before .before .before .before .loop in
+    omega (arith, task-in (loop .k - 1) (loop .inv) (omega (arith, c .before .before .before .before .loop-test .taken)))
+
+array-write-due : tie.Need-array-write-due Inv-loop μ-loop
+array-write-due c =
+    let loop = c .before .before .before .before .before .loop in
+    task-in (loop .k - 1) (loop .inv) (omega (arith, c .before .before .before .before .loop-test .taken))
+
+mul-started : tie.Need-mul-started Inv-loop μ-loop
+mul-started c =
+    let loop = c .before .before .before .before .before .before .before .loop in
+    omega (arith, task-in (loop .k - 1) (loop .inv) (omega (arith, c .before .before .before .before .before .before .loop-test .taken)))
+
+array-write-started : tie.Need-array-write-started Inv-loop μ-loop
+array-write-started c =
+    let loop = c .before .before .before .before .before .before .before .loop in
+    task-in (loop .k - 1) (loop .inv) (omega (arith, c .before .before .before .before .before .before .loop-test .taken))
+
+loop-less : tie.Need-loop-less Inv-loop μ-loop
+loop-less c = omega (arith, c .before .before .before .before .before .before .loop-test .taken)
+
+loop-again : tie.Need-loop-again Inv-loop μ-loop
+loop-again c =
+    let loop = c .before .before .before .before .before .before .before .loop in
+    let test = c .before .before .before .before .before .before .loop-test in
+    let if3 = c .before .before .if3 in
+    let back : loop .k ≡ loop .k - 1 + 1 = omega (arith, test .taken) in
+    filled-go (loop .k - 1) (loop .inv) back
+    (⊎-elim
+    (λ w. due-now (loop .k - 1) (loop .inv) back (w .0 .taken) (w .1) (w .2))
+    (λ w. due-later (loop .k - 1) (loop .inv) back (w .0 .left) (w .1) (w .2))
+    (if3 .came))
+    (started-now (loop .k - 1) (loop .inv) back (c .if4 .taken))
+
+loop-less-2 : tie.Need-loop-less-2 Inv-loop μ-loop
+loop-less-2 c = omega (arith, c .before .before .before .before .before .before .loop-test .taken)
+
+loop-again-2 : tie.Need-loop-again-2 Inv-loop μ-loop
+loop-again-2 c =
+    let loop = c .before .before .before .before .before .before .before .loop in
+    let test = c .before .before .before .before .before .before .loop-test in
+    let if3 = c .before .before .if3 in
+    let back : loop .k ≡ loop .k - 1 + 1 = omega (arith, test .taken) in
+    filled-go (loop .k - 1) (loop .inv) back
+    (⊎-elim
+    (λ w. due-now (loop .k - 1) (loop .inv) back (w .0 .taken) (w .1) (w .2))
+    (λ w. due-later (loop .k - 1) (loop .inv) back (w .0 .left) (w .1) (w .2))
+    (if3 .came))
+    (started-later (loop .k - 1) (loop .inv) back (c .if4 .left))
+
+least-task-requires : tie.Need-least-task-requires Inv-loop μ-loop
+least-task-requires c κs = search needs
+
+mul-going : tie.Need-mul-going Inv-loop μ-loop
+mul-going c = search needs
+
+array-read-going : tie.Need-array-read-going Inv-loop μ-loop
+array-read-going c = search needs
+
+returns-3 : tie.Need-returns-3 Inv-loop μ-loop
 unfolding foundOf
-returns-3 c = simp (sym (c .before .well-formed .ensures) ∙ c .if1 .left)
+returns-3 c =
+    let found = c .before .least-task in
+    let loop = c .before .before .before .loop in
+    simp (loop .inv .formed, ne-eqb _ _ (c .before .before .before .before .before .if2 .left), place-started _ (loop .inv) (c .before .before .loop-test .left) (found .ensures .1) (found .ensures .0) (c .if5 .taken))
+
+mul-first : tie.Need-mul-first Inv-loop μ-loop
+mul-first c = search needs
+
+array-read-first : tie.Need-array-read-first Inv-loop μ-loop
+array-read-first c = search needs
+
+returns-4 : tie.Need-returns-4 Inv-loop μ-loop
+unfolding foundOf
+returns-4 c =
+    let found = c .before .least-task in
+    let loop = c .before .before .before .loop in
+    simp (loop .inv .formed, ne-eqb _ _ (c .before .before .before .before .before .if2 .left), place-due _ (loop .inv) (c .before .before .loop-test .left) (found .ensures .1) (found .ensures .0) (c .if5 .left))
 
 pub look-spec : {M : Type 1} → statement M
-look-spec = tie.close (tie.spec well-formed-requires returns place-requires returns-2 returns-3)
+look-spec =
+    tie.close
+    (tie.spec
+    Inv-loop
+    μ-loop
+    well-formed-requires
+    returns
+    returns-2
+    loop-holds
+    sub-k
+    mul-m
+    element-copy-out-m
+    mul-x
+    array-copy-out-x
+    cast-d
+    mul-if3
+    array-read-if3
+    mul-deadlines
+    array-write-deadlines
+    mul-due
+    array-write-due
+    mul-started
+    array-write-started
+    loop-less
+    loop-again
+    loop-less-2
+    loop-again-2
+    least-task-requires
+    mul-going
+    array-read-going
+    returns-3
+    mul-first
+    array-read-first
+    returns-4)
