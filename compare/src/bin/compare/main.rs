@@ -19,11 +19,14 @@ use std::io;
 use std::path::Path;
 use std::process::ExitCode;
 
+use cases::Sheets;
 use programs::Program;
 
 const USAGE: &str = "\
 compare trace BIN CASES SEED    the trace program BIN against the library
 compare console BIN LINES SEED  the console program BIN against the library
+compare many BIN CASES SEED     the batch program BIN against the library, on mixed sheets
+compare damaged BIN CASES SEED  the batch program BIN against the library, on damaged sheets
 compare batch CASES SEED DIR    writes DIR/cases.bin and DIR/expected.txt
 compare ontime CASES SEED       that accepted sets run on time";
 
@@ -56,6 +59,14 @@ fn run(arguments: &[&str]) -> Option<io::Result<bool>> {
         ["console", program, lines, seed] => {
             let (lines, seed) = (number(lines)?, number(seed)?);
             Some(Program::at(program).and_then(|p| console_mode::compare(&p, lines, seed)))
+        }
+        [which @ ("many" | "damaged"), program, cases, seed] => {
+            let (cases, seed) = (number(cases)?, number(seed)?);
+            let sheets = match *which {
+                "many" => Sheets::Mixed,
+                _ => Sheets::Damaged,
+            };
+            Some(Program::at(program).and_then(|p| batch_mode::compare(&p, sheets, cases, seed)))
         }
         ["batch", cases, seed, folder] => {
             let (cases, seed) = (number(cases)?, number(seed)?);
