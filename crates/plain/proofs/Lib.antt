@@ -2,3 +2,4 @@ pub mod Ways
 pub mod Numbers
 pub mod Texts
 pub mod Short
+pub mod Judged
