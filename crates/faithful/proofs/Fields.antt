@@ -34,14 +34,14 @@ is-digit n h =
     let high : leb (48 + n) 57 ≡ true = le-leb (48 + n) 57 (omega arith) in
     rw (low, high)
 
-all-digits : (k n : ℕ) → all isDigit (digitsOf k n) ≡ true
+pub all-digits : (k n : ℕ) → all isDigit (digitsOf k n) ≡ true
 unfolding digitsOf all
 all-digits zero n = refl
 all-digits (suc k) n =
     by-test (ltb n 10) (λ e. rw e (rw (is-digit n (ltb-true n 10 e))))
     (λ e. rw e (all-last isDigit (digitsOf k (n / 10)) (48 + n % 10) (all-digits k (n / 10)) (is-digit (n % 10) (omega arith))))
 
-some-digits : (k n : ℕ) → 1 ≤ length (digitsOf (suc k) n)
+pub some-digits : (k n : ℕ) → 1 ≤ length (digitsOf (suc k) n)
 unfolding digitsOf
 some-digits k n =
     by-test (ltb n 10) (λ e. rw e (omega arith)) (λ e. rw e (omega (arith, length-append (digitsOf k (n / 10)) ((48 + n % 10) ∷ []))))
