@@ -10,15 +10,15 @@ use Rattle.plain.specs.declared.Fault.the-variants.{NotTask, Task, NotCost, Cos
 
 -- what is wrong with a line
 abbrev pub faultWords : Fault → List ℕ
-faultWords NotTask = letters "a stream begins with task and a number"
+faultWords NotTask = letters "the line does not begin with task and a number"
 faultWords Task = letters "the task is not from 0 to 15"
-faultWords NotCost = letters "behind the task stands no cost and a number"
+faultWords NotCost = letters "the task is not followed by cost and a number"
 faultWords Cost = letters "the cost is not from 1 to 65535"
-faultWords NotDeadline = letters "behind the cost stands no deadline and a number"
+faultWords NotDeadline = letters "the cost is not followed by deadline and a number"
 faultWords Deadline = letters "the deadline is not from 1 to 200000"
-faultWords NotTuple = letters "behind the deadline stand tuples, as once@0 or every 20@0, and nothing else"
+faultWords NotTuple = letters "the deadline is not followed by tuples alone, such as once@0 or every 20@0"
 faultWords Cycle = letters "a cycle is not from 1 to 1000000"
-faultWords Offset = letters "the first offset is not 0, or one is below the one before it or above 100000"
+faultWords Offset = letters "the first offset is not 0, or an offset falls or is above 100000"
 faultWords FiveTuples = letters "there are more than 4 tuples"
 faultWords LongLine = letters "the line is too long for a stream"
 faultWords ManyStreams = letters "there are more than 16 streams"

@@ -10,20 +10,20 @@ fn fault(l: Line, why: Fault) -> Line
     ensures { λ r. ⌜ r ≡ puts l (faultWords why) ⌝ }
 {
     match why {
-        Fault::NotTask => text::word(l, b"a stream begins with task and a number"),
+        Fault::NotTask => text::word(l, b"the line does not begin with task and a number"),
         Fault::Task => text::word(l, b"the task is not from 0 to 15"),
-        Fault::NotCost => text::word(l, b"behind the task stands no cost and a number"),
+        Fault::NotCost => text::word(l, b"the task is not followed by cost and a number"),
         Fault::Cost => text::word(l, b"the cost is not from 1 to 65535"),
-        Fault::NotDeadline => text::word(l, b"behind the cost stands no deadline and a number"),
+        Fault::NotDeadline => text::word(l, b"the cost is not followed by deadline and a number"),
         Fault::Deadline => text::word(l, b"the deadline is not from 1 to 200000"),
         Fault::NotTuple => text::word(
             l,
-            b"behind the deadline stand tuples, as once@0 or every 20@0, and nothing else",
+            b"the deadline is not followed by tuples alone, such as once@0 or every 20@0",
         ),
         Fault::Cycle => text::word(l, b"a cycle is not from 1 to 1000000"),
         Fault::Offset => text::word(
             l,
-            b"the first offset is not 0, or one is below the one before it or above 100000",
+            b"the first offset is not 0, or an offset falls or is above 100000",
         ),
         Fault::FiveTuples => text::word(l, b"there are more than 4 tuples"),
         Fault::LongLine => text::word(l, b"the line is too long for a stream"),

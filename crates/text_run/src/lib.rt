@@ -117,9 +117,9 @@ fn listen() -> Ear {
     e
 }
 
-// Tells that the new file cannot be written, and takes it away.
-fn give_up() -> bool {
-    os::fail(b"set.bin.new");
+// Tells which file cannot be written, and takes the new one away.
+fn give_up(what: &[u8]) -> bool {
+    os::fail(what);
     os::unlink(b"set.bin.new");
     false
 }
@@ -134,13 +134,13 @@ fn save(bytes: &[u8]) -> bool {
     let written = io::write_all(fd, bytes);
     let closed = libc::close(fd);
     if !written {
-        return give_up();
+        return give_up(b"set.bin.new");
     }
     if closed < 0 {
-        return give_up();
+        return give_up(b"set.bin.new");
     }
     if os::rename(b"set.bin.new", b"set.bin") < 0 {
-        return give_up();
+        return give_up(b"set.bin");
     }
     true
 }
