@@ -2,3 +2,4 @@ pub mod Fields
 pub mod Lines
 pub mod Neat
 pub mod Texts
+pub mod Accepted

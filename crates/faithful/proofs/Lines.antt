@@ -72,7 +72,7 @@ FirstAtMost high [] = Unit {0}
 FirstAtMost high (p ∷ ps) = offsetAt p ≤ high
 
 -- one tuple more behind those of a stream
-added-more : (task cost d : ℕ) (ts : List TuplePlace) (p : TuplePlace) → length ts < 4
+pub added-more : (task cost d : ℕ) (ts : List TuplePlace) (p : TuplePlace) → length ts < 4
     → added (streamOf task cost d ts) (p .tuple) ≡ streamOf task cost d (ts ++ (p ∷ []))
 unfolding added
 added-more task cost d ts p h =

@@ -27,6 +27,14 @@ JudgedReturns = (s : Stream) → FourTuples s → streamOk s ≡ true → judged
 unfoldable pub TextReturns : Type 0
 TextReturns = (x : Set) → Placed x → valid x ≡ true → textRead (textOf x) ≡ record { found = Fine; set = x }
 
+-- what any text reads as is a valid set, and so has a sheet
+pub record Fit (x : Set) : Type 0 where
+  pub placed : Placed x
+  pub ok : valid x ≡ true
+
+unfoldable pub ReadValid : Type 0
+ReadValid = (l : List ℕ) → textRead l .found ≡ Fine → Fit (textRead l .set)
+
 -- text, sheet, text: the text that is printed of a set, read, written as a sheet, read and printed, is the same text
 unfoldable pub TextSheetText : Type 0
 TextSheetText = (x : Set) → Placed x → valid x ≡ true → textOf (readOf (sheetOf (textRead (textOf x) .set)) .set) ≡ textOf x
