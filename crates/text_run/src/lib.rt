@@ -1,4 +1,5 @@
 // The reading and writing of the programs for readable sheets; what is read and written is decided by proved functions.
+// A function that writes answers whether all was written.
 use libc::STDIN_FILENO;
 use libc::STDOUT_FILENO;
 use readable::Draft;

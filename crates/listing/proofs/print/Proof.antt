@@ -1,35 +1,26 @@
+-- `listing::print` meets its contract.
+-- Assumes nothing.
 use mathlib.Core.Path.{sym, _∙_}
 use Rattle.listing.proofs.Prints.{listed, short-page, invalid}
-use native.Mathlib.Omega.{arith}
 use borrow.Author.Needs.{needs}
 use Rattle.listing.proofs.print.Statement.{statement}
 use Rattle.listing.proofs.print.Tie as tie
-use Rattle.listing.proofs.print.Reads as reads
-use Rattle.listing.proofs.print.Lts as lts
-use Rattle.listing.proofs.put_lines.Reads as put-lines-reads
-use Rattle.streams.proofs.is_valid.Reads as is-valid-reads
 
--- src/lib.rt:47:8
 is-valid-requires : tie.Need-is-valid-requires
 is-valid-requires c κs = search needs
 
--- src/lib.rt:49:17
 put-lines-requires : tie.Need-put-lines-requires
 put-lines-requires c κs = (sym (c .before .before .before .is-valid .ensures) ∙ c .before .before .if1 .taken, c .before .if2 .taken)
 
--- src/lib.rt:50:13
 same-length : tie.Need-same-length
 same-length c = search needs
 
--- src/lib.rt:50:13
 returns : tie.Need-returns
 returns c = listed _ _ _ (c .before .before .before .before .before .before .is-valid .ensures) _ _ (c .before .before .before .before .before .if1 .taken) (c .before .before .before .before .if2 .taken) (c .before .before .put-lines .ensures .0) (c .before .before .put-lines .ensures .1)
 
--- src/lib.rt:52:9
 returns-2 : tie.Need-returns-2
 returns-2 c = short-page _ _ _ (c .before .before .is-valid .ensures) (c .before .if1 .taken) (c .if2 .left)
 
--- src/lib.rt:44:1
 returns-3 : tie.Need-returns-3
 returns-3 c = invalid _ _ _ (c .before .is-valid .ensures) (c .if1 .left)
 

@@ -1,3 +1,5 @@
+-- `listing::put_lines` meets its contract.
+-- Assumes nothing.
 use Prim.Native.Nat.{_-_}
 use mathlib.Core.Path.{_≡_, refl}
 use mathlib.Core.Logic.{inl, inr}
@@ -8,10 +10,6 @@ use native.Mathlib.Omega.{arith}
 use borrow.Author.Needs.{needs}
 use Rattle.listing.proofs.put_lines.Statement.{statement}
 use Rattle.listing.proofs.put_lines.Tie as tie
-use Rattle.listing.proofs.put_lines.Reads as reads
-use Rattle.listing.proofs.put_lines.Lts as lts
-use Rattle.listing.proofs.line_of.Reads as line-of-reads
-use Rattle.page.proofs.append.Reads as append-reads
 
 abbrev Inv-loop : tie.InvT-loop
 Inv-loop out₀ x n at₀ k₀ out at k = (length (x .streams) ≡ 16) × Printing x out₀ out k at
@@ -19,51 +17,39 @@ Inv-loop out₀ x n at₀ k₀ out at k = (length (x .streams) ≡ 16) × Printi
 abbrev μ-loop : tie.MeasureT-loop
 μ-loop out₀ x n at₀ k₀ out at k = 16 - k
 
--- src/lib.rt:31:5
 loop-holds : tie.Need-loop-holds Inv-loop μ-loop
 loop-holds c = (search (needs, sized), print-start _ _)
 
--- src/lib.rt:33:13
 same-length : tie.Need-same-length Inv-loop μ-loop
 same-length c = c .before .before .loop .inv .1 .size
 
--- src/lib.rt:33:13
 returns : tie.Need-returns Inv-loop μ-loop
 returns c = print-end _ _ _ _ _ (c .before .before .loop .inv .1) (c .before .before .before .before .pre .1) (inl (c .if1 .taken))
 
--- src/lib.rt:35:17
 mul-s : tie.Need-mul-s Inv-loop μ-loop
 mul-s c = search needs
 
--- src/lib.rt:35:17
 element-copy-out-s : tie.Need-element-copy-out-s Inv-loop μ-loop
 element-copy-out-s c = search needs
 
--- src/lib.rt:36:36
 line-of-requires : tie.Need-line-of-requires Inv-loop μ-loop
 line-of-requires c κs = tt
 
--- src/lib.rt:36:9
 append-requires : tie.Need-append-requires Inv-loop μ-loop
 append-requires c κs = tt
 
--- src/lib.rt:37:9
 add-k : tie.Need-add-k Inv-loop μ-loop
 add-k c = search needs
 
--- src/lib.rt:31:5
 loop-less : tie.Need-loop-less Inv-loop μ-loop
 loop-less c = search needs
 
--- src/lib.rt:31:5
 loop-again : tie.Need-loop-again Inv-loop μ-loop
 loop-again c = (c .before .before .before .before .before .before .before .before .loop .inv .0, print-turn _ _ _ (c .before .before .before .before .before .before .before .before .loop .k) (c .before .before .before .before .before .before .before .before .loop .at) (c .before .before .before .before .before .before .before .before .loop .inv .1) (c .before .before .before .before .before .before .before .before .before .before .pre .1) _ _ _ _ _ (c .before .before .before .before .before .before .before .before .before .before .pre .0) (c .before .before .before .before .before .before .before .before .loop .inv .0) (c .before .before .before .before .before .before .before .loop-test .taken) (c .before .before .before .before .before .before .if1 .left) refl (c .before .before .before .line-of .ensures) (c .before .before .append .ensures .0) (c .before .before .append .ensures .1))
 
--- src/lib.rt:24:1
 same-length-2 : tie.Need-same-length-2 Inv-loop μ-loop
 same-length-2 c = c .before .loop .inv .1 .size
 
--- src/lib.rt:24:1
 returns-2 : tie.Need-returns-2 Inv-loop μ-loop
 returns-2 c = print-end _ _ _ _ _ (c .before .loop .inv .1) (c .before .before .before .pre .1) (inr (omega arith))
 

@@ -1,3 +1,5 @@
+-- `readable::feed` meets its contract.
+-- Assumes nothing.
 use Prim.Native.Nat.{_-_}
 use mathlib.Core.Path.{_≡_, refl}
 use lib.ListN.{length, drop}
@@ -7,9 +9,6 @@ use native.Mathlib.Omega.{arith}
 use borrow.Author.Needs.{needs}
 use Rattle.readable.proofs.feed.Statement.{statement}
 use Rattle.readable.proofs.feed.Tie as tie
-use Rattle.readable.proofs.feed.Reads as reads
-use Rattle.readable.proofs.feed.Lts as lts
-use Rattle.readable.proofs.step.Reads as step-reads
 
 abbrev Inv-loop : tie.InvT-loop
 Inv-loop piece next₀ i₀ next i = feedOf next (drop i piece) ≡ feedOf next₀ piece
@@ -17,31 +16,24 @@ Inv-loop piece next₀ i₀ next i = feedOf next (drop i piece) ≡ feedOf next�
 abbrev μ-loop : tie.MeasureT-loop
 μ-loop piece next₀ i₀ next i = length piece - i
 
--- src/lib.rt:171:5
 loop-holds : tie.Need-loop-holds Inv-loop μ-loop
 loop-holds c = refl
 
--- src/lib.rt:172:27
 shared-slice-read-step : tie.Need-shared-slice-read-step Inv-loop μ-loop
 shared-slice-read-step c = search needs
 
--- src/lib.rt:172:9
 step-requires : tie.Need-step-requires Inv-loop μ-loop
 step-requires c κs = search needs
 
--- src/lib.rt:173:9
 add-i : tie.Need-add-i Inv-loop μ-loop
 add-i c = search needs
 
--- src/lib.rt:171:5
 loop-less : tie.Need-loop-less Inv-loop μ-loop
 loop-less c = search needs
 
--- src/lib.rt:171:5
 loop-again : tie.Need-loop-again Inv-loop μ-loop
 loop-again c = feed-turn _ _ _ (c .before .before .before .loop .i) (c .before .before .before .loop .inv) _ (omega arith) (c .step .ensures)
 
--- src/lib.rt:166:1
 returns : tie.Need-returns Inv-loop μ-loop
 returns c = feed-end _ _ _ (c .before .loop .i) (c .before .loop .inv) (omega arith)
 

@@ -1,16 +1,11 @@
+-- `text_run::batch` meets its contract.
+-- Assumes nothing.
 use Prim.Native.Nat.{_-_}
 use lib.ListN.{length-take}
 use native.Mathlib.Omega.{arith}
 use borrow.Author.Needs.{needs}
 use Rattle.text_run.proofs.batch.Statement.{statement}
 use Rattle.text_run.proofs.batch.Tie as tie
-use Rattle.text_run.proofs.batch.Reads as reads
-use Rattle.text_run.proofs.batch.Lts as lts
-use Rattle.io.proofs.read_full.Reads as read-full-reads
-use Rattle.os.proofs.fail.Reads as fail-reads
-use Rattle.os.proofs.open_read.Reads as open-read-reads
-use Rattle.readable.proofs.start.Reads as start-reads
-use Rattle.text_run.proofs.take_piece.Reads as take-piece-reads
 
 abbrev Inv-loop : tie.InvT-loop
 Inv-loop fd p₀ turns₀ p turns = Unit {0}
@@ -18,71 +13,54 @@ Inv-loop fd p₀ turns₀ p turns = Unit {0}
 abbrev μ-loop : tie.MeasureT-loop
 μ-loop fd p₀ turns₀ p turns = 1000000 - turns
 
--- src/lib.rt:244:28
 slice-aggregate-open-read : tie.Need-slice-aggregate-open-read Inv-loop μ-loop
 slice-aggregate-open-read c = search needs
 
--- src/lib.rt:244:9
 open-read-requires : tie.Need-open-read-requires Inv-loop μ-loop
 open-read-requires c κs = search needs
 
--- src/lib.rt:246:18
 slice-aggregate-fail : tie.Need-slice-aggregate-fail Inv-loop μ-loop
 slice-aggregate-fail c = search needs
 
--- src/lib.rt:246:9
 fail-requires : tie.Need-fail-requires Inv-loop μ-loop
 fail-requires c κs = search needs
 
--- src/lib.rt:247:9
 returns : tie.Need-returns Inv-loop μ-loop
 returns c = search needs
 
--- src/lib.rt:250:16
 start-requires : tie.Need-start-requires Inv-loop μ-loop
 start-requires c κs = search needs
 
--- src/lib.rt:254:5
 loop-holds : tie.Need-loop-holds Inv-loop μ-loop
 loop-holds c = search needs
 
--- src/lib.rt:256:35
 slice-aggregate-read-full : tie.Need-slice-aggregate-read-full Inv-loop μ-loop
 slice-aggregate-read-full c = search needs
 
--- src/lib.rt:256:13
 read-full-requires : tie.Need-read-full-requires Inv-loop μ-loop
 read-full-requires c κs = search needs
 
--- src/lib.rt:258:13
 returns-2 : tie.Need-returns-2 Inv-loop μ-loop
 returns-2 c = search needs
 
--- src/lib.rt:260:27
 array-share-prefix-bytes : tie.Need-array-share-prefix-bytes Inv-loop μ-loop
 array-share-prefix-bytes c = search needs
 
--- src/lib.rt:260:27
 slice-aggregate-take-piece : tie.Need-slice-aggregate-take-piece Inv-loop μ-loop
 slice-aggregate-take-piece c = simp length-take (omega arith)
 
--- src/lib.rt:260:9
 take-piece-requires : tie.Need-take-piece-requires Inv-loop μ-loop
 take-piece-requires c κs = search needs
 
--- src/lib.rt:261:9
 add-turns : tie.Need-add-turns Inv-loop μ-loop
 add-turns c = search needs
 
--- src/lib.rt:254:5
 loop-less : tie.Need-loop-less Inv-loop μ-loop
 loop-less c = search needs
 
--- src/lib.rt:254:5
 loop-again : tie.Need-loop-again Inv-loop μ-loop
 loop-again c = search needs
 
--- src/lib.rt:243:1
 returns-3 : tie.Need-returns-3 Inv-loop μ-loop
 returns-3 c = search needs
 

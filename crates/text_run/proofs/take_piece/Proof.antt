@@ -1,12 +1,10 @@
+-- `text_run::take_piece` meets its contract.
+-- Assumes nothing.
 use Prim.Native.Nat.{_-_}
 use lib.ListN.{length}
-use native.Mathlib.Omega.{arith}
 use borrow.Author.Needs.{needs}
 use Rattle.text_run.proofs.take_piece.Statement.{statement}
 use Rattle.text_run.proofs.take_piece.Tie as tie
-use Rattle.text_run.proofs.take_piece.Reads as reads
-use Rattle.text_run.proofs.take_piece.Lts as lts
-use Rattle.text_run.proofs.take_byte.Reads as take-byte-reads
 
 abbrev Inv-loop : tie.InvT-loop
 Inv-loop piece next₀ i₀ next i = Unit {0}
@@ -14,31 +12,24 @@ Inv-loop piece next₀ i₀ next i = Unit {0}
 abbrev μ-loop : tie.MeasureT-loop
 μ-loop piece next₀ i₀ next i = length piece - i
 
--- src/lib.rt:237:5
 loop-holds : tie.Need-loop-holds Inv-loop μ-loop
 loop-holds c = search needs
 
--- src/lib.rt:238:32
 shared-slice-read-take-byte : tie.Need-shared-slice-read-take-byte Inv-loop μ-loop
 shared-slice-read-take-byte c = search needs
 
--- src/lib.rt:238:9
 take-byte-requires : tie.Need-take-byte-requires Inv-loop μ-loop
 take-byte-requires c κs = search needs
 
--- src/lib.rt:239:9
 add-i : tie.Need-add-i Inv-loop μ-loop
 add-i c = search needs
 
--- src/lib.rt:237:5
 loop-less : tie.Need-loop-less Inv-loop μ-loop
 loop-less c = search needs
 
--- src/lib.rt:237:5
 loop-again : tie.Need-loop-again Inv-loop μ-loop
 loop-again c = search needs
 
--- src/lib.rt:234:1
 returns : tie.Need-returns Inv-loop μ-loop
 returns c = search needs
 

@@ -1,25 +1,19 @@
+-- `tidy::spaced` meets its contract.
+-- Assumes nothing.
 use Rattle.tidy.proofs.Steps.{space, no-byte, no-gap}
-use native.Mathlib.Omega.{arith}
 use borrow.Author.Needs.{needs}
 use Rattle.tidy.proofs.spaced.Statement.{statement}
 use Rattle.tidy.proofs.spaced.Tie as tie
-use Rattle.tidy.proofs.spaced.Reads as reads
-use Rattle.tidy.proofs.spaced.Lts as lts
-use Rattle.text.proofs.put.Reads as put-reads
 
--- src/lib.rt:38:13
 put-requires : tie.Need-put-requires
 put-requires c κs = search needs
 
--- src/lib.rt:38:13
 returns : tie.Need-returns
 returns c = space _ _ _ (c .before .before .if1 .taken) (c .before .if2 .taken) (c .put .ensures)
 
--- src/lib.rt:32:1
 returns-2 : tie.Need-returns-2
 returns-2 c = no-byte _ _ (c .before .before .args .l) (c .if2 .left)
 
--- src/lib.rt:32:1
 returns-3 : tie.Need-returns-3
 returns-3 c = no-gap _ _ (c .before .args .l) (c .if1 .left)
 
