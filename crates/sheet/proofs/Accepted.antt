@@ -93,7 +93,7 @@ module _ (task cost deadline : ℕ) (ps : List TuplePlace) (few : length ps ≤ 
   pub stream-four : FourTuples (streamOf task cost deadline ps)
   stream-four = omega (arith, length-append ps (replicate (4 - length ps) noTuple), length-replicate {A = TuplePlace} (4 - length ps) noTuple)
 
-  stream-ok : task < 16 → within 1 cost 65535 ≡ true → within 1 deadline 200000 ≡ true → 0 < length ps → Chain 0 0 ps → streamOk (streamOf task cost deadline ps) ≡ true
+  pub stream-ok : task < 16 → within 1 cost 65535 ≡ true → within 1 deadline 200000 ≡ true → 0 < length ps → Chain 0 0 ps → streamOk (streamOf task cost deadline ps) ≡ true
   unfolding streamOk tuplesOk
   stream-ok t c d some h =
       every-of (streamTests (streamOf task cost deadline ps)) (
@@ -144,7 +144,7 @@ no-stream-unused : streamUnused noStream ≡ true
 unfolding streamUnused all tupleUnused
 no-stream-unused = refl
 
-set-ok : (qs : List Stream) → length qs ≤ 16 → All GoodStream qs → valid (setOf qs) ≡ true
+pub set-ok : (qs : List Stream) → length qs ≤ 16 → All GoodStream qs → valid (setOf qs) ≡ true
 unfolding valid
 set-ok qs few g =
     every-of (leb (length qs) 16 ∷ all streamOk (streamsOf (setOf qs)) ∷ all streamUnused (drop (length qs) (setOf qs .streams)) ∷ []) (
@@ -155,7 +155,7 @@ set-ok qs few g =
       ),
     )
 
-set-placed : (qs : List Stream) → length qs ≤ 16 → All GoodStream qs → Placed (setOf qs)
+pub set-placed : (qs : List Stream) → length qs ≤ 16 → All GoodStream qs → Placed (setOf qs)
 set-placed qs few g =
     record {
       sixteen = omega (arith, length-append qs (replicate (16 - length qs) noStream), length-replicate {A = Stream} (16 - length qs) noStream);
