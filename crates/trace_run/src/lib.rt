@@ -139,16 +139,18 @@ fn sheet_of(fd: i32, n: usize) -> ReadResult {
     sheet::read(&bytes)
 }
 
-// The last bytes of a case's trace, one by one, and its end.
-fn rest_of(fd: i32, run: Run, n: u64) -> bool {
-    let mut r = run;
-    let mut left = n;
-    while 0 < left {
-        let piece = [next_byte(fd)];
-        r = told(r, &piece);
-        left = left - 1;
+// The last `n` bytes of a case's trace, fewer than 64, and its end.
+fn rest_of(fd: i32, run: Run, n: usize) -> bool {
+    let mut piece = [0u8; 64];
+    let mut i = 0;
+    while i < 64 {
+        if n <= i {
+            return say(tracer::end_line(told(run, &piece[..i])));
+        }
+        piece[i] = next_byte(fd);
+        i = i + 1;
     }
-    say(tracer::end_line(r))
+    false
 }
 
 // The trace of a case, of `n` bytes. Answers whether the output goes on.
@@ -161,7 +163,7 @@ fn trace_of(fd: i32, run: Run, n: u64) -> bool {
         r = told(r, &piece);
         left = left - 64;
     }
-    rest_of(fd, r, left)
+    rest_of(fd, r, left as usize)
 }
 
 // A case's number, and all that the trace program prints for its sheet, of `n` bytes, and its trace.
