@@ -1,34 +1,25 @@
--- The ways out of each step, as the code goes.
+-- The ways out of post and choose, as the code goes, and what is known of the message that is served.
 -- Assumes nothing.
-use Prim.Native.Nat.{ℕ, _+_, _-_, _≤_, _<_}
-use mathlib.Core.Bool.{Bool, true, false, cond}
-use mathlib.Core.Path.{_≡_, refl, ap, sym, _∙_}
+use Prim.Native.Nat.{ℕ, _+_, _≤_, _<_}
+use mathlib.Core.Bool.{true, false}
+use mathlib.Core.Path.{_≡_}
 use native.Mathlib.Omega.{arith}
 use borrow.Author.Tests.{lt-ltb, le-ltb, eq-eqb, ne-eqb}
-use lib.Dec.{ltb, eqb}
-use lib.IntN.{ℤ}
-use lib.ListN.{length, getD, set, length-set}
-use Rattle.laws.proofs.Parts.{getD-any, remove-step, remove-last}
-use Rattle.laws.specs.Lists.{remove}
-use Rattle.rules.specs.declared.Set.{Set}
+use lib.ListN.{length, getD}
+use Rattle.laws.proofs.Parts.{getD-any}
 use Rattle.rules.specs.declared.Stream.{Stream}
-use Rattle.rules.specs.declared.Message.{Message}
 use Rattle.rules.specs.declared.State.{State}
-use Rattle.rules.specs.declared.Refusal.the-variants.{NoStream, Full, LastClock, NothingPending, IllFormed}
+use Rattle.rules.specs.declared.Refusal.the-variants.{NoStream, Full, IllFormed}
 use Rattle.rules.specs.declared.PostResult.{PostResult}
 use Rattle.rules.specs.declared.PostAnswer.the-variants.{Posted}
 use Rattle.rules.specs.declared.ChooseAnswer.the-variants.{Nothing, Runs, Refused as ChooseRefused}
-use Rattle.rules.specs.declared.UnitResult.{UnitResult}
-use Rattle.rules.specs.declared.UnitAnswer.{UnitAnswer}
-use Rattle.rules.specs.declared.UnitAnswer.the-variants.{Ran, Finished, Cut, Idle, Refused as UnitRefused}
 use Rattle.rules.specs.Streams.{streamAt, noStream}
-use Rattle.rules.specs.States.{noMessage, wellFormed, taskOf, costOf}
-use Rattle.rules.specs.Steps.{newMessage, added, postRefused, postOf, messageAt, placeOf, chooseOf, ticked, stayed, departed, laxityOf, answered, servedOf, emptyUnit, unitOf}
+use Rattle.rules.specs.States.{wellFormed}
+use Rattle.rules.specs.Steps.{added, postRefused, postOf, messageAt, chooseOf}
 use Rattle.rules.proofs.Valid.{valid-set}
-use Rattle.states.proofs.WellFormed.{blank, well-formed, sound, stream-valid, stands, stream-place, stream-read, message-stream}
+use Rattle.states.proofs.WellFormed.{blank, well-formed, sound, stream-valid, stream-place, stream-read}
 use Rattle.choosing.proofs.Choice.{place-in}
 use Rattle.choosing.proofs.Looking.{Serves, Rests}
-use Rattle.scheduler.specs.Serving.{Servable}
 
 -- ---- post
 
@@ -77,16 +68,6 @@ module _ (s : State) (i : ℕ) (h : Serves s i) (ms : length (s .messages) ≡ 6
   pub stream-is : getD (s .set .streams) (messageAt s i .stream) blank ≡ streamAt (s .set) (messageAt s i .stream)
   stream-is = stream-read s (sound s (h .formed)) ms i place-count ss
 
-  pub servable : s .clock < 4000000000 → Servable s i
-  servable c = record {
-    clock = c;
-    some = omega (arith, place-count);
-    place = place-lt;
-    stream = stream-lt;
-    used = omega (arith, stands s (sound s (h .formed)) ms i place-count .1 .used, message-stream s (sound s (h .formed)) ms i place-count ss .cost .high);
-    deadline = omega (arith, stands s (sound s (h .formed)) ms i place-count .1 .late, message-stream s (sound s (h .formed)) ms i place-count ss .deadline .high);
-  }
-
 -- ---- choose
 
 module _ (s : State) where
@@ -101,64 +82,3 @@ module _ (s : State) where
   pub choose-one : (i : ℕ) (x : Stream) → Serves s i → x ≡ streamAt (s .set) (messageAt s i .stream) → Runs (x .task) (messageAt s i .stream) ≡ chooseOf s
   unfolding chooseOf
   choose-one i x h e = rw (e, h .formed, ne-eqb _ _ (h .some), h .place)
-
--- ---- unit
-
-module _ (s : State) (i : ℕ) (done : Bool) (x : Stream) (e : x ≡ streamAt (s .set) (messageAt s i .stream)) (r : UnitResult) where
-  pub served-done : (z : ℤ) → r ≡ answered (departed s i) (Finished (x .task) (messageAt s i .stream) z) → z ≡ laxityOf (messageAt s i .deadline) (s .clock + 1) → done ≡ true → r ≡ servedOf s i done
-  unfolding servedOf
-  served-done z e₀ e₂ d = rw (d, e₀, e₂, e)
-
-  pub served-cut : (z : ℤ) → r ≡ answered (departed s i) (Cut (x .task) (messageAt s i .stream) z) → z ≡ laxityOf (messageAt s i .deadline) (s .clock + 1) → done ≡ false → messageAt s i .used + 1 ≡ x .cost → r ≡ servedOf s i done
-  unfolding servedOf
-  served-cut z e₀ e₂ d h = rw (d, eq-eqb (messageAt s i .used + 1) (costOf (s .set) (messageAt s i)) (h ∙ ap (λ (y : Stream). y .cost) e), e₀, e₂, e)
-
-  pub served-ran : r ≡ answered (stayed s i) (Ran (x .task) (messageAt s i .stream)) → done ≡ false → (messageAt s i .used + 1 ≡ x .cost → ⊥) → r ≡ servedOf s i done
-  unfolding servedOf
-  served-ran e₀ d h = rw (d, ne-eqb (messageAt s i .used + 1) (costOf (s .set) (messageAt s i)) (λ q. h (q ∙ ap (λ (y : Stream). y .cost) (sym e))), e₀, e)
-
--- the state while messages move up, and once they have
-pub record Moving (s : State) (i : ℕ) (next : State) (k : ℕ) : Type 0 where
-  pub set : next .set ≡ s .set
-  pub long : length (next .messages) ≡ 64
-  pub moved : remove noMessage k (next .messages) ≡ remove noMessage i (s .messages)
-
-pub moving-go : (s : State) (i : ℕ) (next : State) (k : ℕ) → Moving s i next k → k < 63
-    → Moving s i (record { set = next .set; clock = next .clock; count = next .count; messages = set (next .messages) k (getD (next .messages) (k + 1) noMessage) }) (k + 1)
-moving-go s i next k h q = record {
-  set = h .set;
-  long = simp length-set (h .long);
-  moved = remove-step noMessage k (next .messages) (omega (arith, h .long)) ∙ h .moved;
-}
-
-pub moved-up : (s : State) (i : ℕ) (next : State) (k : ℕ) (a : UnitAnswer) → Moving s i next k → 63 ≡ k
-    → _≡_ {A = UnitResult} (record { answer = a; state = record { set = next .set; clock = s .clock + 1; count = s .count - 1; messages = set (next .messages) 63 noMessage } }) (answered (departed s i) a)
-moved-up s i next k a h e =
-    let m : set (next .messages) 63 noMessage ≡ remove noMessage i (s .messages) =
-    sym (remove-last noMessage 63 (next .messages) (h .long)) ∙ (ap (λ (j : ℕ). remove noMessage j (next .messages)) e ∙ h .moved) in
-    rw (h .set, m)
-
-module _ (s : State) (done : Bool) where
-  pub rest-4 : done ≡ true → answered s (UnitRefused NothingPending) ≡ emptyUnit s done
-  unfolding emptyUnit
-  rest-4 d = rw d
-
-  pub rest-idle : done ≡ false → answered (ticked s) Idle ≡ emptyUnit s done
-  unfolding emptyUnit
-  rest-idle d = rw d
-
-  pub unit-12 : wellFormed s ≡ false → answered s (UnitRefused IllFormed) ≡ unitOf s done
-  unfolding unitOf
-  unit-12 e = rw e
-
-  pub unit-3 : wellFormed s ≡ true → 4000000000 ≤ s .clock → answered s (UnitRefused LastClock) ≡ unitOf s done
-  unfolding unitOf
-  unit-3 e h = rw (e, le-ltb _ _ h)
-
-  pub unit-rests : (r : UnitResult) → Rests s → s .clock < 4000000000 → r ≡ emptyUnit s done → r ≡ unitOf s done
-  unfolding unitOf
-  unit-rests r h c e = rw (h .formed, lt-ltb _ _ c, eq-eqb _ _ (h .none)) e
-
-  pub unit-serves : (i : ℕ) (r : UnitResult) → Serves s i → s .clock < 4000000000 → r ≡ servedOf s i done → r ≡ unitOf s done
-  unfolding unitOf
-  unit-serves i r h c e = rw (h .formed, lt-ltb _ _ c, ne-eqb _ _ (h .some), ← h .place) e

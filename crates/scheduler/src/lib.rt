@@ -1,8 +1,7 @@
 // The steps of the scheduler: start, post, choose and unit.
 ghost use mathlib.Core.Path.{_≡_};
-ghost use Prim.Native.Nat.{_<_};
-ghost use Rattle.rules.specs.Steps.{fresh, startOf, postRefused, postOf, chooseOf, ticked, stayed, departed, laxityOf, answered, emptyUnit, servedOf, unitOf};
-ghost use Rattle.scheduler.specs.Serving.{Servable};
+ghost use Rattle.rules.specs.Steps.{fresh, startOf, postOf, chooseOf, laxityOf, unitOf};
+ghost use Rattle.scheduler.specs.Serving.{workOf, servedAnswer};
 use choosing::Found;
 use rules::ChooseAnswer;
 use rules::Message;
@@ -52,45 +51,36 @@ pub fn start(x: Set) -> StartResult
 
 // ---- post
 
-fn refuse_post(s: State, why: Refusal) -> PostResult
-    ensures { λ r. ⌜ r ≡ postRefused s why ⌝ }
-{
-    let a = PostAnswer::Refused(why);
-    PostResult {
-        answer: a,
-        state: s,
-    }
-}
-
 // A message of the stream k, or 12, 1 or 2.
 pub fn post(s: State, k: usize) -> PostResult
     ensures { λ r. ⌜ r ≡ postOf s k ⌝ }
 {
-    if states::well_formed(s) {
-        let set = s.set;
-        if k < set.count {
-            if s.count < 64 {
+    let sound = states::well_formed(s);
+    let mut next = s;
+    let mut a = PostAnswer::Refused(Refusal::IllFormed);
+    if sound {
+        a = PostAnswer::Refused(Refusal::NoStream);
+        if k < next.set.count {
+            a = PostAnswer::Refused(Refusal::Full);
+            let at = next.count;
+            if at < 64 {
+                let set = next.set;
                 let x = set.streams[k];
-                let d = s.clock + x.deadline;
-                let at = s.count;
-                let mut next = s;
+                let d = next.clock + x.deadline;
                 next.messages[at] = Message {
                     stream: k,
                     deadline: d,
                     used: 0,
                 };
                 next.count = at + 1;
-                let a = PostAnswer::Posted(k, d);
-                return PostResult {
-                    answer: a,
-                    state: next,
-                };
+                a = PostAnswer::Posted(k, d);
             }
-            return refuse_post(s, Refusal::Full);
         }
-        return refuse_post(s, Refusal::NoStream);
     }
-    refuse_post(s, Refusal::IllFormed)
+    PostResult {
+        answer: a,
+        state: next,
+    }
 }
 
 // ---- choose
@@ -115,6 +105,37 @@ pub fn choose(s: State) -> ChooseAnswer
 
 // ---- unit
 
+// What a unit is to do: it is refused, only the clock moves, or the message at a place is served.
+enum Work {
+    Refused(Refusal),
+    Idle,
+    Serve(usize),
+}
+
+// In the order 12, 3, 4.
+fn decide(found: Found, clock: u32, done: bool) -> Work
+    ensures { λ r. ⌜ r ≡ workOf found clock done ⌝ }
+{
+    match found {
+        Found::IllFormed => Work::Refused(Refusal::IllFormed),
+        Found::Nothing => {
+            if 4000000000 <= clock {
+                return Work::Refused(Refusal::LastClock);
+            }
+            if done {
+                return Work::Refused(Refusal::NothingPending);
+            }
+            Work::Idle
+        }
+        Found::At(i) => {
+            if clock < 4000000000 {
+                return Work::Serve(i);
+            }
+            Work::Refused(Refusal::LastClock)
+        }
+    }
+}
+
 fn laxity(deadline: u32, clock: u32) -> i64
     ensures { λ r. ⌜ r ≡ laxityOf deadline clock ⌝ }
 {
@@ -123,125 +144,60 @@ fn laxity(deadline: u32, clock: u32) -> i64
     d - c
 }
 
-fn answer(s: State, a: UnitAnswer) -> UnitResult
-    ensures { λ r. ⌜ r ≡ answered s a ⌝ }
+// What is answered when the message m of the task was served: now is the clock after the unit, spent whether its used units equal c.
+fn served(task: usize, m: Message, now: u32, done: bool, spent: bool) -> UnitAnswer
+    ensures { λ r. ⌜ r ≡ servedAnswer task m now done spent ⌝ }
 {
-    UnitResult {
-        answer: a,
-        state: s,
-    }
-}
-
-// Only the clock moves.
-fn tick(s: State) -> UnitResult
-    requires { ⌜ s .clock < 4000000000 ⌝ }
-    ensures { λ r. ⌜ r ≡ answered (ticked s) UnitAnswer.Idle ⌝ }
-{
-    let mut next = s;
-    next.clock = s.clock + 1;
-    let a = UnitAnswer::Idle;
-    UnitResult {
-        answer: a,
-        state: next,
-    }
-}
-
-// The message at i gains a unit and stays.
-fn stay(s: State, i: usize, a: UnitAnswer) -> UnitResult
-    requires { ⌜ Servable s i ⌝ }
-    ensures { λ r. ⌜ r ≡ answered (stayed s i) a ⌝ }
-{
-    let mut m = s.messages[i];
-    m.used = m.used + 1;
-    let mut next = s;
-    next.messages[i] = m;
-    next.clock = s.clock + 1;
-    UnitResult {
-        answer: a,
-        state: next,
-    }
-}
-
-// The message at i leaves: those behind it move up, in their order, and the last place is zero.
-fn leave(s: State, i: usize, a: UnitAnswer) -> UnitResult
-    requires { ⌜ Servable s i ⌝ }
-    ensures { λ r. ⌜ r ≡ answered (departed s i) a ⌝ }
-{
-    let mut next = s;
-    let mut k = i;
-    while k < 63 {
-        let m = next.messages[k + 1];
-        next.messages[k] = m;
-        k = k + 1;
-    }
-    next.messages[63] = Message {
-        stream: 0,
-        deadline: 0,
-        used: 0,
-    };
-    next.count = s.count - 1;
-    next.clock = s.clock + 1;
-    UnitResult {
-        answer: a,
-        state: next,
-    }
-}
-
-// A unit of the message at i.
-fn serve(s: State, i: usize, done: bool) -> UnitResult
-    requires { ⌜ Servable s i ⌝ }
-    ensures { λ r. ⌜ r ≡ servedOf s i done ⌝ }
-{
-    let set = s.set;
-    let m = s.messages[i];
-    let k = m.stream;
-    let x = set.streams[k];
+    let left = laxity(m.deadline, now);
     if done {
-        return leave(
-            s,
-            i,
-            UnitAnswer::Finished(x.task, k, laxity(m.deadline, s.clock + 1)),
-        );
+        return UnitAnswer::Finished(task, m.stream, left);
     }
-    if m.used + 1 == x.cost {
-        return leave(
-            s,
-            i,
-            UnitAnswer::Cut(x.task, k, laxity(m.deadline, s.clock + 1)),
-        );
+    if spent {
+        return UnitAnswer::Cut(task, m.stream, left);
     }
-    stay(s, i, UnitAnswer::Ran(x.task, k))
+    UnitAnswer::Ran(task, m.stream)
 }
 
-// A unit with nothing pending.
-fn rest(s: State, done: bool) -> UnitResult
-    requires { ⌜ s .clock < 4000000000 ⌝ }
-    ensures { λ r. ⌜ r ≡ emptyUnit s done ⌝ }
-{
-    if !done {
-        return tick(s);
-    }
-    answer(s, UnitAnswer::Refused(Refusal::NothingPending))
-}
-
-// A unit of running, or 12, 3 or 4.
+// A unit of running. Where the message leaves, those behind it move up, in their order, and the last place is zero.
 pub fn unit(s: State, done: bool) -> UnitResult
     ensures { λ r. ⌜ r ≡ unitOf s done ⌝ }
 {
     let found = choosing::look(s);
-    match found {
-        Found::IllFormed => answer(s, UnitAnswer::Refused(Refusal::IllFormed)),
-        Found::Nothing => {
-            if 4000000000 <= s.clock {
-                return answer(s, UnitAnswer::Refused(Refusal::LastClock));
-            }
-            rest(s, done)
+    let mut next = s;
+    let mut a = UnitAnswer::Idle;
+    let what = decide(found, next.clock, done);
+    match what {
+        Work::Refused(why) => {
+            a = UnitAnswer::Refused(why);
         }
-        Found::At(i) => {
-            if s.clock < 4000000000 {
-                return serve(s, i, done);
-            }
-            answer(s, UnitAnswer::Refused(Refusal::LastClock))
+        Work::Idle => {
+            next.clock = next.clock + 1;
         }
+        Work::Serve(i) => {
+            let set = next.set;
+            let mut m = next.messages[i];
+            let j = m.stream;
+            let x = set.streams[j];
+            let spent = m.used + 1 == x.cost;
+            next.clock = next.clock + 1;
+            a = served(x.task, m, next.clock, done, spent);
+            if done | spent {
+                let mut k = i;
+                while k < 63 {
+                    let behind = next.messages[k + 1];
+                    next.messages[k] = behind;
+                    k = k + 1;
+                }
+                next.messages[63] = states::no_message();
+                next.count = next.count - 1;
+            } else {
+                m.used = m.used + 1;
+                next.messages[i] = m;
+            }
+        }
+    }
+    UnitResult {
+        answer: a,
+        state: next,
     }
 }

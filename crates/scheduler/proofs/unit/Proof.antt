@@ -1,75 +1,171 @@
--- `scheduler::unit` meets its contract. Assumes nothing.
+-- `scheduler::unit` meets its contract. While messages move up, taking k out of what there is comes to the same as taking i out of what there was. Assumes nothing.
+use native.Mathlib.Omega.{arith}
 use borrow.Author.Needs.{needs}
-use mathlib.Core.Path.{_≡_, refl, sym, ap, _∙_}
+use Prim.Native.Nat.{_-_, _≤_}
+use mathlib.Core.Path.{_≡_, refl, sym, _∙_}
 use Rattle.laws.proofs.Parts.{sized}
-use Rattle.choosing.proofs.Looking.{serves, rests, ill}
-use Rattle.scheduler.proofs.Ways.{servable, unit-12, unit-3, unit-rests, unit-serves}
+use Rattle.rules.specs.Steps.{servedOf, unitOf}
+use Rattle.scheduler.proofs.Serving.{Moving, moving-go, moved-up, leaves, stays, unit-by, Serving, serving, told}
 use Rattle.scheduler.proofs.unit.Statement.{statement}
 use Rattle.scheduler.proofs.unit.Tie as tie
 
-look-requires : tie.Need-look-requires
+abbrev Inv-loop : tie.InvT-loop
+Inv-loop done next₀ a i j spent k₀ next k = (k ≤ 63) × Moving next₀ i next k
+
+abbrev μ-loop : tie.MeasureT-loop
+μ-loop done next₀ a i j spent k₀ next k = 63 - k
+
+-- where a message is served: what that relies on, and that it is the unit
+facts : (c : tie.After-what2 Inv-loop μ-loop) → Serving (c .before .before .before .before .args .s) (c .what2 .given .0 .0)
+facts c =
+    let start = c .before .before .before .before in
+    serving (start .args .s) (start .args .done) (c .before .before .before .look .result) (c .before .before .decide .result) _ (c .before .before .before .look .ensures) (c .before .before .decide .ensures) (c .what2 .given .1) (sized _ (start .args .s .messages) 64 (start .good .0 .1 .1 .1 .1 .1 .0 .1 .0 .1)) (sized _ (start .args .s .set .streams) 16 (start .good .0 .1 .1 .0 .1 .1 .1 .0 .1 .0 .1))
+
+serves : (c : tie.After-what2 Inv-loop μ-loop) → servedOf (c .before .before .before .before .args .s) (c .what2 .given .0 .0) (c .before .before .before .before .args .done) ≡ unitOf (c .before .before .before .before .args .s) (c .before .before .before .before .args .done)
+serves c = unit-by _ _ _ _ (c .before .before .before .look .ensures) (sym (c .what2 .given .1) ∙ c .before .before .decide .ensures)
+
+look-requires : tie.Need-look-requires Inv-loop μ-loop
 look-requires c κs = search needs
 
-enum-told : tie.Need-enum-told
+decide-requires : tie.Need-decide-requires Inv-loop μ-loop
+decide-requires c κs = search needs
+
+enum-known-what : tie.Need-enum-known-what Inv-loop μ-loop
+enum-known-what c = search needs
+
+enum-told : tie.Need-enum-told Inv-loop μ-loop
 enum-told c = search needs
 
-answer-requires : tie.Need-answer-requires
-answer-requires c κs = search needs
+add-next : tie.Need-add-next Inv-loop μ-loop
+add-next c = omega (arith, told _ _ _ _ (sym (c .enum-told .given .1) ∙ c .before .before .decide .ensures))
 
-enum-told-2 : tie.Need-enum-told-2
-enum-told-2 c = search needs
+enum-known-what-2 : tie.Need-enum-known-what-2 Inv-loop μ-loop
+enum-known-what-2 c = search needs
 
-answer-requires-2 : tie.Need-answer-requires-2
-answer-requires-2 c κs = search needs
+mul-m : tie.Need-mul-m Inv-loop μ-loop
+mul-m c = omega (arith, facts (c .before .before) .place)
 
-returns : tie.Need-returns
-returns c = c .answer2 .ensures ∙ unit-3 _ _ (rests _ _ (c .before .before .before .before .before .look .ensures) (c .before .before .before .enum-told2 .given .1) .formed) (c .before .if1 .taken)
+element-copy-out-m : tie.Need-element-copy-out-m Inv-loop μ-loop
+element-copy-out-m c = facts (c .before .before) .place
 
-rest-requires : tie.Need-rest-requires
-rest-requires c κs = search needs
+mul-x : tie.Need-mul-x Inv-loop μ-loop
+mul-x c = omega (arith, facts (c .before .before .before) .stream)
 
-enum-known-found : tie.Need-enum-known-found
-enum-known-found c = search needs
+element-copy-out-x : tie.Need-element-copy-out-x Inv-loop μ-loop
+element-copy-out-x c = facts (c .before .before .before) .stream
 
-serve-requires : tie.Need-serve-requires
-serve-requires c κs =
-    let start = c .before .before .before .before .before .before in
-    servable _ _ (serves (start .args .s) (c .before .before .before .before .before .look .result) (c .before .before .before .before .before .look .ensures) _ (c .before .before .before .found .given .1)) (sized _ (start .args .s .messages) 64 (start .good .0 .1 .1 .1 .1 .1 .0 .1 .0 .1)) (sized _ (start .args .s .set .streams) 16 (start .good .0 .1 .1 .0 .1 .1 .1 .0 .1 .0 .1)) (c .if2 .taken)
+add-spent : tie.Need-add-spent Inv-loop μ-loop
+add-spent c = omega (arith, facts (c .before .before .before .before .before) .used)
 
-returns-2 : tie.Need-returns-2
-returns-2 c =
-    let start = c .before .before .before .before .before .before .before in
-    unit-serves _ _ _ _ (serves (start .args .s) (c .before .before .before .before .before .before .look .result) (c .before .before .before .before .before .before .look .ensures) _ (c .before .before .before .before .found .given .1)) (c .before .if2 .taken) (c .serve .ensures)
+add-next-2 : tie.Need-add-next-2 Inv-loop μ-loop
+add-next-2 c = omega (arith, facts (c .before .before .before .before .before .before) .clock)
 
-answer-requires-3 : tie.Need-answer-requires-3
-answer-requires-3 c κs = search needs
+served-requires : tie.Need-served-requires Inv-loop μ-loop
+served-requires c κs = search needs
 
-returns-3 : tie.Need-returns-3
-returns-3 c = c .answer .ensures ∙ unit-12 _ _ (ill _ _ (c .before .before .before .look .ensures) (c .before .enum-told .given .1))
+loop-holds : tie.Need-loop-holds Inv-loop μ-loop
+loop-holds c =
+    let h = facts (c .before .before .before .before .before .before .before .before) in
+    (omega (arith, h .place), record { set = refl; clock = refl; count = refl; long = h .long; moved = refl })
 
-returns-4 : tie.Need-returns-4
-returns-4 c = unit-rests _ _ _ (rests _ _ (c .before .before .before .before .before .look .ensures) (c .before .before .before .enum-told2 .given .1)) (c .before .if1 .left) (c .rest .ensures)
+add-behind : tie.Need-add-behind Inv-loop μ-loop
+add-behind c = search needs
 
-returns-5 : tie.Need-returns-5
-returns-5 c =
-    let start = c .before .before .before .before .before .before .before in
-    c .answer3 .ensures ∙ unit-3 _ _ ((serves (start .args .s) (c .before .before .before .before .before .before .look .result) (c .before .before .before .before .before .before .look .ensures) _ (c .before .before .before .before .found .given .1)) .formed) (c .before .if2 .left)
+mul-behind : tie.Need-mul-behind Inv-loop μ-loop
+mul-behind c = search needs
+
+element-copy-out-behind : tie.Need-element-copy-out-behind Inv-loop μ-loop
+element-copy-out-behind c = search needs
+
+mul-behind-2 : tie.Need-mul-behind-2 Inv-loop μ-loop
+mul-behind-2 c = search needs
+
+element-set-from-behind : tie.Need-element-set-from-behind Inv-loop μ-loop
+element-set-from-behind c = search needs
+
+add-k : tie.Need-add-k Inv-loop μ-loop
+add-k c = search needs
+
+loop-less : tie.Need-loop-less Inv-loop μ-loop
+loop-less c = search needs
+
+loop-again : tie.Need-loop-again Inv-loop μ-loop
+loop-again c =
+    let loop = c .before .before .loop in
+    (omega arith, moving-go _ _ _ _ (loop .inv .1) (c .before .loop-test .taken))
+
+no-message-requires : tie.Need-no-message-requires Inv-loop μ-loop
+no-message-requires c κs = search needs
+
+element-set-from-next : tie.Need-element-set-from-next Inv-loop μ-loop
+element-set-from-next c = search needs
+
+sub-next : tie.Need-sub-next Inv-loop μ-loop
+sub-next c = omega (arith, facts (c .before .before .before .before .before .before .before .before .before .before .before) .some, c .before .before .loop .inv .1 .count)
+
+add-m : tie.Need-add-m Inv-loop μ-loop
+add-m c = omega (arith, facts (c .before .before .before .before .before .before .before .before .before) .used)
+
+mul-m-2 : tie.Need-mul-m-2 Inv-loop μ-loop
+mul-m-2 c = omega (arith, facts (c .before .before .before .before .before .before .before .before .before) .place)
+
+element-set-from-m : tie.Need-element-set-from-m Inv-loop μ-loop
+element-set-from-m c = facts (c .before .before .before .before .before .before .before .before .before) .place
+
+returns : tie.Need-returns Inv-loop μ-loop
+returns c = unit-by _ _ _ _ (c .before .before .before .before .look .ensures) (sym (c .before .what .given .1) ∙ c .before .before .before .decide .ensures)
+
+returns-2 : tie.Need-returns-2 Inv-loop μ-loop
+returns-2 c = unit-by _ _ _ _ (c .before .before .before .look .ensures) (sym (c .enum-told .given .1) ∙ c .before .before .decide .ensures)
+
+returns-3 : tie.Need-returns-3 Inv-loop μ-loop
+returns-3 c =
+    let into = c .before .before .before in
+    let loop = c .before .before .loop in
+    let what = into .before .before .before .before .before .before .before .before in
+    rw (c .no-message .ensures) (moved-up _ _ _ _ _ (loop .inv .1) (omega (arith, c .before .loop-test .left, loop .inv .0)))
+    ∙ leaves _ _ _ _ (facts what .read) _ (into .before .served .ensures) (into .if1 .taken) ∙ serves what
+
+returns-4 : tie.Need-returns-4 Inv-loop μ-loop
+returns-4 c =
+    let what = c .before .before .before .before .before .before .before .before .before in
+    stays _ _ _ _ (facts what .read) _ (c .before .before .served .ensures) (c .before .if1 .left) ∙ serves what
 
 pub unit-spec : {M : Type 1} → statement M
 unit-spec =
     tie.close
     (tie.spec
+    Inv-loop
+    μ-loop
     look-requires
+    decide-requires
+    enum-known-what
     enum-told
-    answer-requires
-    enum-told-2
-    answer-requires-2
+    add-next
+    enum-known-what-2
+    mul-m
+    element-copy-out-m
+    mul-x
+    element-copy-out-x
+    add-spent
+    add-next-2
+    served-requires
+    loop-holds
+    add-behind
+    mul-behind
+    element-copy-out-behind
+    mul-behind-2
+    element-set-from-behind
+    add-k
+    loop-less
+    loop-again
+    no-message-requires
+    element-set-from-next
+    sub-next
+    add-m
+    mul-m-2
+    element-set-from-m
     returns
-    rest-requires
-    enum-known-found
-    serve-requires
     returns-2
-    answer-requires-3
     returns-3
-    returns-4
-    returns-5)
+    returns-4)
