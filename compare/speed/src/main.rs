@@ -57,12 +57,28 @@ struct Table {
 }
 
 impl Table {
-    fn row(&mut self, what: &str, limit: f64, proved: &dyn Fn() -> u64, plain: &dyn Fn() -> u64) {
+    /// A row; one without a limit is there to be known.
+    fn row(
+        &mut self,
+        what: &str,
+        limit: Option<f64>,
+        proved: &dyn Fn() -> u64,
+        plain: &dyn Fn() -> u64,
+    ) {
         let (a, b) = (proved(), plain());
         assert_eq!(a, b, "{what}: the two programs differ");
         let (ratio, rounds) = measure::ratio(proved, plain, self.seconds);
-        println!("| {what} | {ratio:.2} | {limit:.1} | {rounds} |");
-        self.within &= ratio <= limit;
+        let shown = limit.map_or("none".to_string(), |limit| format!("{limit:.1}"));
+        println!("| {what} | {ratio:.2} | {shown} | {rounds} |");
+        self.within &= limit.map_or(true, |limit| ratio <= limit);
+    }
+
+    /// A run of calls beside the plain scheduler by value, and beside the one in place.
+    fn run(&mut self, what: &str, sheet: &[u8], calls: &[u8]) {
+        let proved = || proved::run(sheet, calls);
+        self.row(what, Some(1.5), &proved, &|| plain::run(sheet, calls));
+        let what = format!("{what}, beside a state in place");
+        self.row(&what, None, &proved, &|| plain::run_in_place(sheet, calls));
     }
 
     fn steps(&mut self, streams: usize, tuples: u32) {
@@ -70,15 +86,13 @@ impl Table {
         for pending in [1, 16, 64] {
             let on = format!("{pending} pending, {}", size(streams, tuples));
             let calls = inputs::posts_and_units(streams, pending, 20_000);
-            let what = format!("a post and a unit with done, {on}");
-            self.row(&what, 1.5, &|| proved::run(&sheet, &calls), &|| {
-                plain::run(&sheet, &calls)
-            });
+            self.run(
+                &format!("a post and a unit with done, {on}"),
+                &sheet,
+                &calls,
+            );
             let calls = inputs::units(streams, pending, 20_000);
-            let what = format!("a unit that runs, {on}");
-            self.row(&what, 1.5, &|| proved::run(&sheet, &calls), &|| {
-                plain::run(&sheet, &calls)
-            });
+            self.run(&format!("a unit that runs, {on}"), &sheet, &calls);
         }
     }
 }
@@ -103,18 +117,18 @@ fn main() -> ExitCode {
         let sheet = inputs::long_check(tuples);
         let what = format!("load check, accepted, H = 1,000,000, {}", size(16, tuples));
         assert_eq!(proved::verdict(&sheet), 0, "{what}: not accepted");
-        table.row(&what, 1.2, &|| proved::verdict(&sheet), &|| {
+        table.row(&what, Some(1.2), &|| proved::verdict(&sheet), &|| {
             plain::verdict(&sheet)
         });
     }
     let sheet = inputs::long_check(4);
     assert_eq!(sheet.len(), 378);
     let what = "reading a full sheet of 378 bytes, plain reader by bytes";
-    table.row(what, 1.5, &|| proved::read(&sheet, 15), &|| {
+    table.row(what, Some(1.5), &|| proved::read(&sheet, 15), &|| {
         plain::read(&sheet, 15)
     });
     let what = "reading a full sheet of 378 bytes, plain reader by bits";
-    table.row(what, 1.5, &|| proved::read(&sheet, 15), &|| {
+    table.row(what, Some(1.5), &|| proved::read(&sheet, 15), &|| {
         slow::read(&sheet, 15)
     });
     table.steps(16, 4);

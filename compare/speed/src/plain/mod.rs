@@ -32,8 +32,22 @@ pub fn verdict(sheet: &[u8]) -> u64 {
     }
 }
 
-/// As [`crate::proved::run`].
+/// As [`crate::proved::run`], by calls that take a state and give one back.
 pub fn run(sheet: &[u8], calls: &[u8]) -> u64 {
+    let set = sheet::read(sheet).unwrap_or(set::Set::EMPTY);
+    let mut state = steps::State::start(&set);
+    for &call in calls {
+        let out = match call {
+            0..=15 => steps::post(state, call.into()),
+            _ => steps::unit(state, call != 16),
+        };
+        state = out.state;
+    }
+    halves(state.count as u64, state.clock.into())
+}
+
+/// As [`crate::proved::run`], by calls that change one state in place.
+pub fn run_in_place(sheet: &[u8], calls: &[u8]) -> u64 {
     let set = sheet::read(sheet).unwrap_or(set::Set::EMPTY);
     let mut state = steps::State::start(&set);
     for &call in calls {

@@ -1,4 +1,7 @@
 //! The state and the steps post and unit. Every call tests the whole state first.
+//!
+//! The methods change a state in place. `post` and `unit` do the same by value, as document 01 has it: a state goes in, and
+//! the answer comes back with the state after the call.
 
 use super::set::{Set, Stream};
 
@@ -9,6 +12,7 @@ pub struct Message {
     used: u32,
 }
 
+#[derive(Clone, Copy)]
 pub struct State {
     set: Set,
     pub clock: u32,
@@ -17,6 +21,7 @@ pub struct State {
 }
 
 #[allow(dead_code)] // what a caller would read
+#[derive(Clone, Copy)]
 pub enum Answer {
     Posted(usize, u32),
     Ran(usize, usize),
@@ -166,4 +171,24 @@ impl State {
         self.messages[place].used += 1;
         Answer::Ran(task, stream)
     }
+}
+
+/// An answer, and the state after the call.
+#[allow(dead_code)] // what a caller would read
+pub struct Outcome {
+    pub answer: Answer,
+    pub state: State,
+}
+
+// Calls of a library: not drawn into the caller's loop.
+#[inline(never)]
+pub fn post(mut state: State, stream: usize) -> Outcome {
+    let answer = state.post(stream);
+    Outcome { answer, state }
+}
+
+#[inline(never)]
+pub fn unit(mut state: State, done: bool) -> Outcome {
+    let answer = state.unit(done);
+    Outcome { answer, state }
 }
