@@ -31,11 +31,12 @@ fn message_unused(m: Message) -> bool
 
 // Is the state well formed? A first pass over the pending messages: each names a stream of the set, has used less than c, was posted by now and not before
 // the one in front of it, and is its task's only started one. A second over the places behind: they are zero. Both passes stand here, since a state
-// that is handed to another function is copied.
+// that is handed to another function is copied; the set and the messages are taken apart once.
 pub fn well_formed(s: State) -> bool
     ensures { λ r. ⌜ r ≡ wellFormed s ⌝ }
 {
     let set = s.set;
+    let messages = s.messages;
     if !streams::is_valid(set) {
         return false;
     }
@@ -50,7 +51,7 @@ pub fn well_formed(s: State) -> bool
     let mut before: u32 = 0;
     let mut k: usize = 0;
     while k < n {
-        let m = s.messages[k];
+        let m = messages[k];
         let i = m.stream;
         if set.count <= i {
             return false;
@@ -70,7 +71,7 @@ pub fn well_formed(s: State) -> bool
     }
     let mut unused = true;
     while k < 64 {
-        let m = s.messages[k];
+        let m = messages[k];
         let zero = message_unused(m);
         unused = unused & zero;
         k = k + 1;
