@@ -3,8 +3,3 @@ pub mod Keeps
 pub mod Chunks
 pub mod ByField
 pub mod Feeding
-pub mod Whole
-pub mod Back
-pub mod Accepted
-pub mod Rounds
-pub mod Writing

@@ -4,12 +4,12 @@ use Prim.Native.Nat.{_+_, _-_, _≤_}
 use mathlib.Core.Path.{_≡_, refl}
 use lib.ListN.{length}
 use Rattle.laws.specs.Lists.{flat}
-use Rattle.sheet.proofs.Writing.{end-fits, end-is, end-next, stream-written, upTo}
-use Rattle.sheet.proofs.fields_end.Statement.{statement}
-use Rattle.sheet.proofs.fields_end.Tie as tie
-use Rattle.sheet.proofs.fields_end.Reads as reads
-use Rattle.sheet.proofs.fields_end.Lts as lts
-use Rattle.sheet.proofs.stream_end.Reads as stream-end-reads
+use Rattle.writing.proofs.Writing.{end-fits, end-is, end-next, stream-written, upTo}
+use Rattle.writing.proofs.fields_end.Statement.{statement}
+use Rattle.writing.proofs.fields_end.Tie as tie
+use Rattle.writing.proofs.fields_end.Reads as reads
+use Rattle.writing.proofs.fields_end.Lts as lts
+use Rattle.writing.proofs.stream_end.Reads as stream-end-reads
 
 abbrev Inv-loop : tie.InvT-loop
 Inv-loop x n end₀ k₀ end k = (k ≤ x .count) × (end ≡ 9 + length (upTo x k))

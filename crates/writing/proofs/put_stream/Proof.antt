@@ -10,13 +10,13 @@ use Rattle.laws.specs.Bits.{bits, toBits}
 use Rattle.laws.proofs.Fields.{bits-length}
 use Rattle.rules.specs.Streams.{tuplesOf}
 use Rattle.rules.specs.Sheet.{placeBits}
-use Rattle.sheet.proofs.Writing.{stream-parts, stream-paste}
-use Rattle.sheet.proofs.put_stream.Statement.{statement}
-use Rattle.sheet.proofs.put_stream.Tie as tie
-use Rattle.sheet.proofs.put_stream.Reads as reads
-use Rattle.sheet.proofs.put_stream.Lts as lts
-use Rattle.sheet.proofs.put.Reads as put-reads
-use Rattle.sheet.proofs.put_tuples.Reads as put-tuples-reads
+use Rattle.writing.proofs.Writing.{stream-parts, stream-paste}
+use Rattle.writing.proofs.put_stream.Statement.{statement}
+use Rattle.writing.proofs.put_stream.Tie as tie
+use Rattle.writing.proofs.put_stream.Reads as reads
+use Rattle.writing.proofs.put_stream.Lts as lts
+use Rattle.writing.proofs.put.Reads as put-reads
+use Rattle.writing.proofs.put_tuples.Reads as put-tuples-reads
 
 -- src/lib.rt:538:21
 cast-put : tie.Need-cast-put

@@ -11,15 +11,15 @@ use Rattle.laws.proofs.Parts.{sized}
 use Rattle.laws.proofs.Fields.{areBytes-of}
 use Rattle.rules.specs.Streams.{streamsOf}
 use Rattle.rules.specs.Sheet.{streamBits}
-use Rattle.sheet.proofs.Rounds.{sheet-length}
-use Rattle.sheet.proofs.Writing.{invalid, sheet-most, short, written-set, wrote}
-use Rattle.sheet.proofs.write.Statement.{statement}
-use Rattle.sheet.proofs.write.Tie as tie
-use Rattle.sheet.proofs.write.Reads as reads
-use Rattle.sheet.proofs.write.Lts as lts
-use Rattle.sheet.proofs.fields_end.Reads as fields-end-reads
-use Rattle.sheet.proofs.put.Reads as put-reads
-use Rattle.sheet.proofs.put_streams.Reads as put-streams-reads
+use Rattle.writing.proofs.Rounds.{sheet-length}
+use Rattle.writing.proofs.Writing.{invalid, sheet-most, short, written-set, wrote}
+use Rattle.writing.proofs.write.Statement.{statement}
+use Rattle.writing.proofs.write.Tie as tie
+use Rattle.writing.proofs.write.Reads as reads
+use Rattle.writing.proofs.write.Lts as lts
+use Rattle.writing.proofs.fields_end.Reads as fields-end-reads
+use Rattle.writing.proofs.put.Reads as put-reads
+use Rattle.writing.proofs.put_streams.Reads as put-streams-reads
 use Rattle.streams.proofs.is_valid.Reads as is-valid-reads
 
 -- src/lib.rt:580:8

@@ -10,14 +10,14 @@ use Rattle.laws.proofs.Parts.{sized}
 use Rattle.laws.specs.Bits.{bits, toBits}
 use Rattle.laws.proofs.Fields.{bits-length}
 use Rattle.rules.specs.Sheet.{placeBits}
-use Rattle.sheet.proofs.Writing.{tuple-more, tuples-all, tuples-room}
-use Rattle.sheet.proofs.put_tuples.Statement.{statement}
-use Rattle.sheet.proofs.put_tuples.Tie as tie
-use Rattle.sheet.proofs.put_tuples.Reads as reads
-use Rattle.sheet.proofs.put_tuples.Lts as lts
-use Rattle.sheet.proofs.cycle_of.Reads as cycle-of-reads
-use Rattle.sheet.proofs.offset_of.Reads as offset-of-reads
-use Rattle.sheet.proofs.put.Reads as put-reads
+use Rattle.writing.proofs.Writing.{tuple-more, tuples-all, tuples-room}
+use Rattle.writing.proofs.put_tuples.Statement.{statement}
+use Rattle.writing.proofs.put_tuples.Tie as tie
+use Rattle.writing.proofs.put_tuples.Reads as reads
+use Rattle.writing.proofs.put_tuples.Lts as lts
+use Rattle.writing.proofs.cycle_of.Reads as cycle-of-reads
+use Rattle.writing.proofs.offset_of.Reads as offset-of-reads
+use Rattle.writing.proofs.put.Reads as put-reads
 
 abbrev Inv-loop : tie.InvT-loop
 Inv-loop buf₀ at s n k₀ buf k =

@@ -1,11 +1,11 @@
 use native.Mathlib.Omega.{arith}
 use borrow.Author.Needs.{needs}
 use Rattle.laws.proofs.Parts.{sized}
-use Rattle.sheet.proofs.Writing.{stream-bits-length}
-use Rattle.sheet.proofs.stream_end.Statement.{statement}
-use Rattle.sheet.proofs.stream_end.Tie as tie
-use Rattle.sheet.proofs.stream_end.Reads as reads
-use Rattle.sheet.proofs.stream_end.Lts as lts
+use Rattle.writing.proofs.Writing.{stream-bits-length}
+use Rattle.writing.proofs.stream_end.Statement.{statement}
+use Rattle.writing.proofs.stream_end.Tie as tie
+use Rattle.writing.proofs.stream_end.Reads as reads
+use Rattle.writing.proofs.stream_end.Lts as lts
 
 -- src/lib.rt:531:10
 mul-result : tie.Need-mul-result

@@ -2,11 +2,11 @@ use native.Mathlib.Omega.{arith}
 use borrow.Author.Needs.{needs}
 use Prim.Native.Nat.{_+_, _*_, _/_, _%_}
 use mathlib.Core.Path.{_∙_}
-use Rattle.sheet.proofs.Writing.{put-is}
-use Rattle.sheet.proofs.put.Statement.{statement}
-use Rattle.sheet.proofs.put.Tie as tie
-use Rattle.sheet.proofs.put.Reads as reads
-use Rattle.sheet.proofs.put.Lts as lts
+use Rattle.writing.proofs.Writing.{put-is}
+use Rattle.writing.proofs.put.Statement.{statement}
+use Rattle.writing.proofs.put.Tie as tie
+use Rattle.writing.proofs.put.Reads as reads
+use Rattle.writing.proofs.put.Lts as lts
 use Rattle.bits.proofs.put.Reads as put-reads
 
 -- src/lib.rt:506:28

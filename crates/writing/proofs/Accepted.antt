@@ -25,8 +25,8 @@ use Rattle.rules.specs.declared.ReadResult.{ReadResult}
 use Rattle.rules.specs.Streams.{FourTuples, Placed, cycleOk, noStream, noTuple, offset, offsetAt, streamOk, streamTests, streamUnused, streamsOf, tupleOk, tupleUnused, tuplesOk, valid}
 use Rattle.rules.specs.Sheet.{field, inRule, isZero, noSet, placeBits, readBits, readEnd, readStream, readStreams, readTuples, setOf, sheetBits, streamBits, streamOf, tupleBits, tupleOf}
 use Rattle.rules.proofs.Valid.{ValidCycle, ValidPlace}
 use Rattle.sheet.proofs.Filled.{cond-elim}
-use Rattle.sheet.proofs.Back.{Chain, costNext, countNext, cycleNext, deadlineNext, offsetNext, taskNext, tuplesNext, versionNext}
+use Rattle.writing.proofs.Back.{Chain, costNext, countNext, cycleNext, deadlineNext, offsetNext, taskNext, tuplesNext, versionNext}
 
 -- ---- tests that pass, put together
 

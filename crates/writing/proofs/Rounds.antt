@@ -28,10 +28,10 @@ use Rattle.rules.specs.declared.WriteAnswer.the-variants.{Wrote, Refused as Not
 use Rattle.rules.specs.Streams.{Placed, emptySet, streamsOf, tuplesOf, valid}
 use Rattle.rules.specs.Sheet.{bufferBy, bufferOf, isZero, noSet, placeBits, readBits, readEnd, readOf, setOf, sheetBits, sheetOf, streamBits, tupleBits, writeOf}
 use Rattle.rules.proofs.Valid.{valid-set}
 use Rattle.sheet.proofs.Filled.{cond-elim}
-use Rattle.sheet.proofs.Whole.{set-holds, whole-set}
-use Rattle.sheet.proofs.Back.{fields-read, read-back, sheet-bits, versionNext, countNext}
-use Rattle.sheet.proofs.Accepted.{count-ends, field-ends}
+use Rattle.writing.proofs.Whole.{set-holds, whole-set}
+use Rattle.writing.proofs.Back.{fields-read, read-back, sheet-bits, versionNext, countNext}
+use Rattle.writing.proofs.Accepted.{count-ends, field-ends}
 
 -- ---- what is accepted
 

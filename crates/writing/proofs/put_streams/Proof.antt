@@ -9,13 +9,13 @@ use Rattle.laws.specs.Lists.{flat}
 use Rattle.laws.specs.Bits.{bits}
 use Rattle.laws.proofs.Fields.{bits-length}
 use Rattle.rules.specs.Sheet.{streamBits}
-use Rattle.sheet.proofs.Writing.{end-fits, end-next, stream-room, stream-step, stream-written, streams-all, upTo, upTo-most}
-use Rattle.sheet.proofs.put_streams.Statement.{statement}
-use Rattle.sheet.proofs.put_streams.Tie as tie
-use Rattle.sheet.proofs.put_streams.Reads as reads
-use Rattle.sheet.proofs.put_streams.Lts as lts
-use Rattle.sheet.proofs.put_stream.Reads as put-stream-reads
-use Rattle.sheet.proofs.stream_end.Reads as stream-end-reads
+use Rattle.writing.proofs.Writing.{end-fits, end-next, stream-room, stream-step, stream-written, streams-all, upTo, upTo-most}
+use Rattle.writing.proofs.put_streams.Statement.{statement}
+use Rattle.writing.proofs.put_streams.Tie as tie
+use Rattle.writing.proofs.put_streams.Reads as reads
+use Rattle.writing.proofs.put_streams.Lts as lts
+use Rattle.writing.proofs.put_stream.Reads as put-stream-reads
+use Rattle.writing.proofs.stream_end.Reads as stream-end-reads
 
 abbrev Inv-loop : tie.InvT-loop
 Inv-loop buf₀ x n at₀ k₀ buf at k =

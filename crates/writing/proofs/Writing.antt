@@ -28,9 +28,9 @@ use Rattle.rules.specs.declared.WriteAnswer.the-variants.{Wrote, Refused as Not
 use Rattle.rules.specs.Streams.{noStream, offset, streamsOf, tuplesOf, valid}
 use Rattle.rules.specs.Sheet.{bufferBy, bufferOf, placeBits, sheetBits, sheetOf, streamBits, tupleBits, writeOf}
 use Rattle.rules.proofs.Valid.{ValidSet, ValidStream, valid-set}
-use Rattle.sheet.specs.Writer.{Written, WrittenSet, cycleOf}
-use Rattle.sheet.proofs.Back.{sheet-bits}
-use Rattle.sheet.proofs.Rounds.{sheet-length, stream-length, tuples-length}
+use Rattle.writing.specs.Writer.{Written, WrittenSet, cycleOf}
+use Rattle.writing.proofs.Back.{sheet-bits}
+use Rattle.writing.proofs.Rounds.{sheet-length, stream-length, tuples-length}
 
 -- ---- one field
 

@@ -25,7 +25,7 @@ use Rattle.rules.specs.declared.ReadAnswer.the-variants.{Read}
 use Rattle.rules.specs.Streams.{FourTuples, Placed, cycleOk, noTuple, offset, offsetAt, streamsOf, tupleOk, tuplesOf, tuplesOk, valid}
 use Rattle.rules.specs.Sheet.{field, inRule, isZero, noSet, placeBits, readBits, readEnd, readOf, readStream, readStreams, readTuples, setOf, sheetBits, sheetOf, streamBits, streamOf, tupleBits, tupleOf}
 use Rattle.rules.proofs.Valid.{FirstZero, ValidCycle, ValidPlace, ValidSet, ValidStream, valid-place, valid-set}
-use Rattle.sheet.proofs.Whole.{set-holds, stream-holds, whole-set, whole-stream}
+use Rattle.writing.proofs.Whole.{set-holds, stream-holds, whole-set, whole-stream}
 
 -- a field that was written is read: one law for every width
 field-reads : (w v : ℕ) (rest : List ℕ) (next : ℕ → List ℕ → ReadResult) → v < 2 ^ w → field w (toBits w v ++ rest) next ≡ next v rest
