@@ -1,6 +1,7 @@
 // A sheet is read.
 // The reader takes bits: it keeps the whole fields that it has read, and the bits that have come of the next one.
 
+use bits::Gathered;
 use rules::ReadAnswer;
 use rules::ReadResult;
 use rules::Refusal;
@@ -10,12 +11,12 @@ use rules::Tuple;
 use rules::TuplePlace;
 ghost use mathlib.Core.Path.{_≡_};
 ghost use Prim.Native.Nat.{_+_, _-_, _*_, _^_, _<_, _≤_};
-ghost use lib.ListN.{length};
+ghost use lib.ListN.{length, replicate};
 ghost use Rattle.laws.specs.Bits.{bits};
-ghost use Rattle.rules.specs.Streams.{emptySet};
-ghost use Rattle.rules.specs.Sheet.{noSet, tupleOf, readOf};
-ghost use Rattle.sheet.specs.Reader.{widthOf, fresh, stoppedOf, openedOf, streamIn, afterVersion, afterCount, afterTask, afterCost, afterDeadline, afterTuples, afterCycle, afterOffset, afterPadding, afterOf, isWhole, settledOf, startOf, run, answerOf, closeOf};
-ghost use Rattle.sheet.specs.Kept.{Kept};
+ghost use Rattle.rules.specs.Streams.{emptySet, noStream, noTuple};
+ghost use Rattle.rules.specs.Sheet.{tupleOf, readOf};
+ghost use Rattle.sheet.specs.Reader.{widthOf, isOffset, pointAt, joinedOf, fresh, stoppedOf, openedOf, streamIn, afterVersion, afterCount, afterTask, afterCost, afterDeadline, afterTuples, afterCycle, afterOffset, afterPadding, afterOf, isWhole, settledOf, startOf, run, answerOf, closeOf};
+ghost use Rattle.sheet.specs.Kept.{Holds, Kept};
 
 // ---- the reader's state
 
@@ -37,7 +38,7 @@ pub enum Field {
     Stopped(Refusal),
 }
 
-// What has been read of the stream that is being read, and what is still to come.
+// The numbers that have been read of the stream that is being read, and what is still to come.
 pub struct Head {
     // how many streams come behind this one, and how many tuples behind this tuple
     pub streams: usize,
@@ -50,9 +51,8 @@ pub struct Head {
     pub high: u32,
     // the cycle of the tuple that is being read
     pub cycle: u32,
-    // the tuples that are whole
+    // how many tuples are whole
     pub count: usize,
-    pub places: [TuplePlace; 4],
     // padding bits read
     pub pads: usize,
 }
@@ -62,12 +62,18 @@ pub struct Stage {
     pub head: Head,
 }
 
-// A stage, the streams that are whole, the bits that have come of the next field as a number, and how many have not.
-pub struct Carried {
+// A stage, the bits that have come of its field as a number, and how many have not.
+pub struct Point {
     pub stage: Stage,
-    pub set: Set,
     pub acc: u64,
     pub left: u32,
+}
+
+// What is kept between two pieces: a point, the whole tuples of the stream that is being read, and the streams that are whole.
+pub struct Carried {
+    pub point: Point,
+    pub places: [TuplePlace; 4],
+    pub set: Set,
 }
 
 fn width(f: Field) -> u32
@@ -106,6 +112,24 @@ fn is_whole(f: Field) -> bool
     }
 }
 
+fn is_offset(f: Field) -> bool
+    ensures { λ r. ⌜ r ≡ isOffset f ⌝ }
+{
+    match f {
+        Field::Version => false,
+        Field::Count => false,
+        Field::Task => false,
+        Field::Cost => false,
+        Field::Deadline => false,
+        Field::Tuples => false,
+        Field::Cycle => false,
+        Field::Offset => true,
+        Field::Whole => false,
+        Field::Padding => false,
+        Field::Stopped(_) => false,
+    }
+}
+
 fn fresh_head() -> Head
     ensures { λ r. ⌜ r ≡ fresh ⌝ }
 {
@@ -119,9 +143,6 @@ fn fresh_head() -> Head
         high: 0,
         cycle: 0,
         count: 0,
-        places: [TuplePlace {
-            tuple: Tuple::Once(0),
-        }; 4],
         pads: 0,
     }
 }
@@ -246,20 +267,6 @@ fn after_cycle(h: Head, v: u32) -> Stage
     }
 }
 
-fn tuple_of(cycle: u32, offset: u32) -> TuplePlace
-    ensures { λ r. ⌜ r ≡ tupleOf cycle offset ⌝ }
-{
-    if cycle == 0 {
-        TuplePlace {
-            tuple: Tuple::Once(offset),
-        }
-    } else {
-        TuplePlace {
-            tuple: Tuple::Every(cycle, offset),
-        }
-    }
-}
-
 fn after_offset(h: Head, v: u32) -> Stage
     requires { ⌜ h .count < 4 ⌝ }
     ensures { λ r. ⌜ r ≡ afterOffset h v ⌝ }
@@ -268,7 +275,6 @@ fn after_offset(h: Head, v: u32) -> Stage
         let k = h.count;
         let more = h.more;
         let mut next = h;
-        next.places[k] = tuple_of(h.cycle, v);
         next.count = k + 1;
         next.low = v;
         next.high = 100000;
@@ -336,10 +342,46 @@ fn settled(s: Stage) -> Stage
     }
 }
 
-fn stream_in(h: Head) -> Stream
-    ensures { λ r. ⌜ r ≡ streamIn h ⌝ }
+// The field behind that one, of which no bit has come.
+fn begun(next: Stage) -> Point
+    ensures { λ r. ⌜ r ≡ pointAt (settledOf next) ⌝ }
 {
-    let tuples = h.places;
+    let stage = settled(next);
+    let f = stage.field;
+    Point {
+        stage,
+        acc: 0,
+        left: width(f),
+    }
+}
+
+// ---- tuples and streams
+
+fn tuple_of(cycle: u32, offset: u32) -> TuplePlace
+    ensures { λ r. ⌜ r ≡ tupleOf cycle offset ⌝ }
+{
+    if cycle == 0 {
+        TuplePlace {
+            tuple: Tuple::Once(offset),
+        }
+    } else {
+        TuplePlace {
+            tuple: Tuple::Every(cycle, offset),
+        }
+    }
+}
+
+fn no_tuples() -> [TuplePlace; 4]
+    ensures { λ r. ⌜ r ≡ replicate 4 noTuple ⌝ }
+{
+    [TuplePlace {
+        tuple: Tuple::Once(0),
+    }; 4]
+}
+
+fn stream_in(h: Head, tuples: [TuplePlace; 4]) -> Stream
+    ensures { λ r. ⌜ r ≡ streamIn h tuples ⌝ }
+{
     Stream {
         task: h.task,
         cost: h.cost,
@@ -355,13 +397,30 @@ fn start() -> Carried
     ensures { λ r. ⌜ r ≡ startOf ⌝ }
 {
     Carried {
-        stage: Stage {
-            field: Field::Version,
-            head: fresh_head(),
+        point: Point {
+            stage: Stage {
+                field: Field::Version,
+                head: fresh_head(),
+            },
+            acc: 0,
+            left: 4,
         },
+        places: no_tuples(),
         set: streams::empty_set(),
-        acc: 0,
-        left: 4,
+    }
+}
+
+// Bits come behind those of a field that have come.
+fn joined(p: Point, g: Gathered) -> Point
+    requires { ⌜ (g .got ≤ p .left) × (g .got ≤ 20) × (p .acc < 1048576) × (g .value < 1048576) ⌝ }
+    ensures { λ r. ⌜ r ≡ joinedOf p g ⌝ }
+{
+    let stage = p.stage;
+    let got = g.got;
+    Point {
+        stage,
+        acc: (p.acc << got) + g.value,
+        left: p.left - got,
     }
 }
 
@@ -370,66 +429,55 @@ fn feed(s: Carried, piece: &[u8]) -> Carried
     requires { ⌜ Kept s ⌝ }
     ensures { λ r. ⌜ r ≡ run s (bits (now (piece .entry))) ⌝ }
 {
-    let mut stage = s.stage;
+    let mut point = s.point;
+    let mut places = s.places;
     let mut set = s.set;
-    let mut acc = s.acc;
-    let mut left = s.left;
     let mut byte: usize = 0;
     let mut bit: u32 = 0;
-    while byte < piece.len() {
-        if left == 0 {
-            return Carried {
-                stage,
-                set,
-                acc,
-                left,
-            };
-        }
-        let g = bits::gather(piece, byte, bit, left);
-        let got = g.got;
-        acc = (acc << got) + g.value;
-        if got < left {
-            left -= got;
-            return Carried {
-                stage,
-                set,
-                acc,
-                left,
-            };
-        }
-        let f = stage.field;
-        let h = stage.head;
-        let next = after(f, h, acc as u32);
-        let end = bit + left;
+    while (byte < piece.len()) & (0 < point.left) {
+        let g = bits::gather(piece, byte, bit, point.left);
+        let end = bit + g.got;
         byte += (end / 8) as usize;
         bit = end % 8;
-        stage = settled(next);
-        acc = 0;
-        let g = stage.field;
-        left = width(g);
-        let e = next.field;
-        if is_whole(e) {
-            let k = set.count;
-            let h = next.head;
-            set.streams[k] = stream_in(h);
-            set.count = k + 1;
+        point = joined(point, g);
+        if point.left == 0 {
+            let stage = point.stage;
+            let f = stage.field;
+            let h = stage.head;
+            let v = point.acc as u32;
+            if is_offset(f) {
+                let k = h.count;
+                places[k] = tuple_of(h.cycle, v);
+            }
+            let next = after(f, h, v);
+            point = begun(next);
+            let e = next.field;
+            if is_whole(e) {
+                let k = set.count;
+                let whole = next.head;
+                set.streams[k] = stream_in(whole, places);
+                set.count = k + 1;
+                places = no_tuples();
+            }
         }
     }
-    Carried {
-        stage,
-        set,
-        acc,
-        left,
-    }
+    Carried { point, places, set }
 }
 
-fn no_set(why: Refusal) -> ReadResult
-    ensures { λ r. ⌜ r ≡ noSet why ⌝ }
+// The streams in use are taken out of a set.
+fn cleared(x: Set) -> Set
+    requires { ⌜ (x .count ≤ 16) × Holds 16 noStream (x .count) (x .streams) ⌝ }
+    ensures { λ r. ⌜ r ≡ emptySet ⌝ }
 {
-    ReadResult {
-        answer: ReadAnswer::Refused(why),
-        set: streams::empty_set(),
+    let mut set = x;
+    let n = x.count;
+    let mut k: usize = 0;
+    while k < n {
+        set.streams[k] = stream_in(fresh_head(), no_tuples());
+        k += 1;
     }
+    set.count = 0;
+    set
 }
 
 // What the sheet reads as when no bit comes any more.
@@ -452,9 +500,11 @@ fn answer(f: Field) -> ReadAnswer
 }
 
 fn close(s: Carried) -> ReadResult
+    requires { ⌜ Kept s ⌝ }
     ensures { λ r. ⌜ r ≡ closeOf s ⌝ }
 {
-    let stage = s.stage;
+    let point = s.point;
+    let stage = point.stage;
     let f = stage.field;
     let set = s.set;
     match answer(f) {
@@ -462,7 +512,10 @@ fn close(s: Carried) -> ReadResult
             answer: ReadAnswer::Read,
             set,
         },
-        ReadAnswer::Refused(why) => no_set(why),
+        ReadAnswer::Refused(why) => ReadResult {
+            answer: ReadAnswer::Refused(why),
+            set: cleared(set),
+        },
     }
 }
 
