@@ -2,4 +2,4 @@ pub mod Filled
 pub mod Keeps
 pub mod Chunks
 pub mod ByField
-pub mod Feeding
+pub mod Turns

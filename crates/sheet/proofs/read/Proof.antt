@@ -12,9 +12,9 @@ use Rattle.sheet.proofs.read.Statement.{statement}
 use Rattle.sheet.proofs.read.Tie as tie
 use Rattle.sheet.proofs.read.Reads as reads
 use Rattle.sheet.proofs.read.Lts as lts
-use Rattle.sheet.proofs.close.Reads as close-reads
-use Rattle.sheet.proofs.feed.Reads as feed-reads
-use Rattle.sheet.proofs.start.Reads as start-reads
+use Rattle.sheet.proofs.closing.close.Reads as close-reads
+use Rattle.sheet.proofs.feeding.feed.Reads as feed-reads
+use Rattle.sheet.proofs.feeding.start.Reads as start-reads
 
 -- src/lib.rt:482:16
 start-requires : tie.Need-start-requires
