@@ -11,6 +11,7 @@ use lib.Dec.{eqb, leb, ltb}
 use lib.Pow.{pow-pos, pow-mono}
 use borrow.Author.Tests.{leb-true, ltb-true}
 use Rattle.laws.specs.Lists.{within}
+use Rattle.laws.proofs.Sums.{and-parts}
 use Rattle.laws.proofs.Fields.{AreBits}
 use Rattle.rules.specs.declared.Stream.{Stream}
 use Rattle.rules.specs.declared.TuplePlace.{TuplePlace}
@@ -87,15 +88,8 @@ drafted h ts v b k =
       held = subst (λ (n : ℕ). Holds 4 noTuple n ts) (sym (b .none)) (subst (Holds 4 noTuple 0) (sym (b .places)) (holds-none 4 noTuple));
     }
 
-false-not : _≡_ {A = Bool} false true → ⊥
-false-not e = let z : _≡_ {A = ℕ} 0 1 = cc in omega arith
-
-and-second : (a b : Bool) → a && b ≡ true → b ≡ true
-and-second true b e = e
-and-second false b e = absurd (false-not e)
-
-pub pads-lt : (v p : ℕ) → eqb v 0 && ltb p 7 ≡ true → p + 1 < 8
-pads-lt v p e = omega (arith, ltb-true p 7 (and-second (eqb v 0) (ltb p 7) e))
+pub pads-lt : (b : Bool) (p : ℕ) → b && ltb p 7 ≡ true → p + 1 < 8
+pads-lt b p e = omega (arith, ltb-true p 7 (and-parts b (ltb p 7) e .1))
 
 pub next-kept : (f : Field) (h : Head) (ts : List TuplePlace) (x : Set) (v : ℕ) → Tidy x → h .count < 4 → KeptBy f h ts x → v < 2 ^ widthOf f
     → Next (tupledOf f h ts v) x (afterOf f h v)
@@ -127,7 +121,7 @@ next-kept Offset h ts x v t r k w =
 next-kept Whole h ts x v t r k w = absurd k
 next-kept Padding h ts x v t r k w =
     cond-elim (Next ts x) (eqb v 0 && ltb (h .pads) 7) (staged Padding (withPad h)) (stoppedOf Leftover)
-    (λ e. kept-begun (staged Padding (withPad h)) ts x t r (k .0, pads-lt v (h .pads) e)) (λ e. next-stopped ts x Leftover t (k .0))
+    (λ e. kept-begun (staged Padding (withPad h)) ts x t r (k .0, pads-lt (eqb v 0) (h .pads) e)) (λ e. next-stopped ts x Leftover t (k .0))
 next-kept (Stopped why) h ts x v t r k w = next-stopped ts x why t k
 
 -- one bit more

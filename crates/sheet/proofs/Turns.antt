@@ -10,8 +10,8 @@ use lib.ListN.{length, take, drop, set, length-drop, length-take, length-set, le
 use lib.Seq.{drop-drop, length-take-le, take-all}
 use lib.Arith.{digits-lt}
 use lib.Pow.{pow-add, pow-mono, shl-exact, shl-lt}
-use lib.Dec.{ltb}
-use borrow.Author.Tests.{ltb-false, ltb-true}
+use lib.Dec.{eqb, ltb}
+use borrow.Author.Tests.{le-ltb, ltb-false, ltb-true}
 use Rattle.laws.specs.Lists.{within}
 use Rattle.laws.proofs.Sums.{and-parts}
 use Rattle.laws.specs.Bits.{bits, onto, value}
@@ -21,6 +21,7 @@ use Rattle.bits.specs.Places.{fieldAt, gatherOf, gotOf}
 use Rattle.rules.specs.declared.Set.{Set}
 use Rattle.rules.specs.declared.Stream.{Stream}
 use Rattle.rules.specs.declared.TuplePlace.{TuplePlace}
+use Rattle.rules.specs.declared.Refusal.the-variants.{Leftover}
 use Rattle.rules.specs.Streams.{noStream, noTuple}
 use Rattle.rules.specs.Sheet.{tupleOf}
 use Rattle.sheet.specs.declared.Field.{Field}
@@ -29,7 +30,7 @@ use Rattle.sheet.specs.declared.Head.{Head}
 use Rattle.sheet.specs.declared.Stage.{Stage}
 use Rattle.sheet.specs.declared.Point.{Point}
 use Rattle.sheet.specs.declared.Carried.{Carried}
-use Rattle.sheet.specs.Reader.{afterOf, afterOffset, fresh, goesOn, isOffset, isWhole, joinedOf, leftOf, nextOf, openedOf, placedOf, pointAt, reading, run, settledOf, staged, storedOf, streamIn, tupledOf, widthOf, withStream, withStreams, withTuple}
+use Rattle.sheet.specs.Reader.{afterOf, afterOffset, afterPadding, fresh, goesOn, isOffset, isWhole, joinedOf, leftOf, nextOf, openedOf, placedOf, pointAt, reading, run, settledOf, staged, stoppedOf, storedOf, streamIn, tupledOf, widthOf, withStream, withStreams, withTuple}
 use Rattle.sheet.specs.Kept.{Holds, Kept}
 use Rattle.sheet.proofs.Keeps.{kept-run}
 use Rattle.sheet.proofs.Chunks.{run-append, run-part, run-stopped, run-whole}
@@ -48,6 +49,16 @@ module _ (h : Head) (v : ℕ) (w : within (h .low) v (h .high) ≡ true) where
   pub offset-more : (h .more ≡ 0 → ⊥) → staged Cycle (withTuple h v (h .more - 1)) ≡ afterOffset h v
   unfolding afterOffset
   offset-more z = ap (placedOf h v) (let q : suc (h .more - 1) ≡ h .more = omega (arith, z) in q) ∙ sym (simp w)
+
+-- ---- padding
+
+no-more : (b : Bool) → b && false ≡ false
+no-more true = refl
+no-more false = refl
+
+pub pads-over : (h : Head) (v : ℕ) → 7 ≤ h .pads → stoppedOf Leftover ≡ afterPadding h v
+unfolding afterPadding
+pads-over h v k = sym (simp (ap (λ (b : Bool). eqb v 0 && b) (le-ltb (h .pads) 7 k) ∙ no-more (eqb v 0)))
 
 -- ---- bits behind those that have come
 

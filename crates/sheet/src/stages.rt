@@ -230,7 +230,10 @@ fn after_offset(h: Head, v: u32) -> Stage
 fn after_padding(h: Head, v: u32) -> Stage
     ensures { λ r. ⌜ r ≡ afterPadding h v ⌝ }
 {
-    if (v == 0) & (h.pads < 7) {
+    if 7 <= h.pads {
+        return stopped(Refusal::Leftover);
+    }
+    if v == 0 {
         let mut next = h;
         next.pads = h.pads + 1;
         Stage {
