@@ -6,14 +6,14 @@ use mathlib.Core.Path.{_≡_, refl, sym, ap, ap₂, _∙_, subst}
 use mathlib.Core.Bool.{Bool, true, false, cond}
 use native.Mathlib.Omega.{arith}
 use native.Mathlib.Numerals.{add-one}
-use lib.ListN.{length, getD, take, drop, length-append, length-take, take-append-drop}
-use lib.Seq.{paste, take-suc, getD-take, length-take-le, take-length}
+use lib.ListN.{length, getD, take, drop, replicate, length-append, length-replicate, length-take, replicate-append-replicate, take-append-drop}
+use lib.Seq.{drop-append-le, paste, take-suc, getD-take, length-take-le, take-length}
 use lib.Dec.{leb}
 use borrow.Author.Tests.{le-leb, lt-leb}
 use Rattle.laws.specs.Lists.{All, flat}
 use Rattle.laws.specs.Bits.{bits, bytesFor, pack, toBits, zeros}
-use Rattle.laws.proofs.Fields.{AreBytes, toBits-length, toBits-zero, bits-length}
-use Rattle.laws.proofs.Packing.{front, front-bytes, pack-length, padOf, paste-front, paste-more}
+use Rattle.laws.proofs.Fields.{AreBytes, bits-append, bits-length, toBits-length, toBits-zero}
+use Rattle.laws.proofs.Packing.{drop-bits, front, front-bytes, pack-length, padOf, paste-front, paste-more}
 use Rattle.bits.specs.Places.{behind, putBits, putBy, putOf}
 use Rattle.bits.specs.declared.Placing.{Placing}
 use Rattle.bits.specs.declared.Placing.the-variants.{Done}
@@ -219,10 +219,22 @@ all-written (s ∷ ss) h = (record { task = h .0 .task; some = h .0 .count .low;
 pub written-set : (x : Set) → valid x ≡ true → length (x .streams) ≡ 16 → WrittenSet x
 written-set x v e = let k : ValidSet x = valid-set x v in record { few = k .count; sixteen = e; streams = all-written (streamsOf x) (k .streams) }
 
--- the four writes of a sheet, in a buffer's bits
-abbrev writes : Set → ℕ → ℕ → List ℕ → List ℕ
-writes x end pad d =
-    paste (paste (paste (paste d 0 (toBits 4 1) 4) 4 (toBits 5 (x .count)) 5) 9 (flat streamBits (streamsOf x)) (length (flat streamBits (streamsOf x)))) end (toBits pad 0) pad
+-- the three writes of a sheet, in a buffer's bits
+abbrev writes : Set → List ℕ → List ℕ
+writes x d =
+    paste (paste (paste d 0 (toBits 4 1) 4) 4 (toBits 5 (x .count)) 5) 9 (flat streamBits (streamsOf x)) (length (flat streamBits (streamsOf x)))
+
+-- bytes that are zero
+zero-bits : (n : ℕ) → bits (replicate n 0) ≡ zeros (8 * n)
+unfolding bits
+zero-bits zero = refl
+zero-bits (suc n) =
+    ap₂ (λ (a b : List ℕ). a ++ b) (toBits-zero 8) (zero-bits n) ∙ replicate-append-replicate 8 (8 * n) 0 ∙ ap zeros (let e : 8 + 8 * n ≡ 8 * suc n = omega arith in e)
+
+drop-zeros : (k m : ℕ) → k ≤ m → drop k (zeros m) ≡ zeros (m - k)
+drop-zeros zero m h = ap zeros (let e : m ≡ m - 0 = omega arith in e)
+drop-zeros (suc k) zero h = absurd (omega arith)
+drop-zeros (suc k) (suc m) h = drop-zeros k m (omega arith) ∙ ap zeros (let e : m - k ≡ suc m - suc k = omega arith in e)
 
 module _ (x : Set) (old new : List ℕ) (end n : ℕ) (v : valid x ≡ true) (ee : end ≡ length (sheetBits x)) (en : n ≡ (end + 7) / 8) where
   n-is : n ≡ length (sheetOf x)
@@ -235,31 +247,44 @@ module _ (x : Set) (old new : List ℕ) (end n : ℕ) (v : valid x ≡ true) (ee
       let e : NotWritten ShortBuffer ≡ writeOf x (length old) = simp (v, lt-leb (length (sheetOf x)) (length old) (omega (arith, n-is))) in
       (e, ap (λ (r : WriteAnswer). bufferBy r x old) e)
 
-  front-is : (pad : ℕ) → pad ≡ 8 * n - end → bits new ≡ writes x end pad (bits old) → bits new ≡ front (sheetBits x ++ zeros (padOf (length (sheetBits x)))) (bits old)
+  -- the bits behind the fields: zeros up to the end of the byte, and the others as they were
+  behind-is : n ≤ length old → drop end (bits (replicate n 0 ++ drop n old)) ≡ zeros (8 * n - end) ++ drop (8 * n) (bits old)
+  behind-is h =
+      ap (drop end) (bits-append (replicate n 0) (drop n old) ∙ ap (λ (l : List ℕ). l ++ bits (drop n old)) (zero-bits n))
+      ∙ drop-append-le end (zeros (8 * n)) (bits (drop n old)) (omega (arith, en, length-replicate {A = ℕ} (8 * n) 0))
+      ∙ ap₂ (λ (a b : List ℕ). a ++ b) (drop-zeros end (8 * n) (omega (arith, en))) (sym (drop-bits n old))
+
+  padded : n ≤ length old → front (sheetBits x) (bits (replicate n 0 ++ drop n old)) ≡ front (sheetBits x ++ zeros (padOf (length (sheetBits x)))) (bits old)
+  padded h =
+      let f : List ℕ = sheetBits x in
+      let p : ℕ = padOf (length f) in
+      ap (λ (k : ℕ). f ++ drop k (bits (replicate n 0 ++ drop n old))) (sym ee) ∙ ap (λ (l : List ℕ). f ++ l) (behind-is h)
+      ∙ sym (append-assoc f (zeros (8 * n - end)) (drop (8 * n) (bits old)))
+      ∙ ap₂ (λ (j k : ℕ). (f ++ zeros j) ++ drop k (bits old)) (let q : 8 * n - end ≡ p = omega (arith, ee, en) in q)
+      (let q : 8 * n ≡ length (f ++ zeros p) = omega (arith, ee, en, length-append f (zeros p), length-replicate {A = ℕ} p 0) in q)
+
+  front-is : n ≤ length old → bits new ≡ writes x (bits (replicate n 0 ++ drop n old)) → bits new ≡ front (sheetBits x ++ zeros (padOf (length (sheetBits x)))) (bits old)
   unfolding sheetBits
-  front-is pad ep e =
-      let d : List ℕ = bits old in
+  front-is h e =
+      let d : List ℕ = bits (replicate n 0 ++ drop n old) in
       let a : List ℕ = toBits 4 1 in
       let c : List ℕ = toBits 5 (x .count) in
       let ss : List ℕ = flat streamBits (streamsOf x) in
-      let p : List ℕ = toBits pad 0 in
       let la : length a ≡ 4 = toBits-length 4 1 in
       let lc : length c ≡ 5 = toBits-length 5 (x .count) in
       e
-      ∙ ap (λ (l : List ℕ). paste (paste l 9 ss (length ss)) end p pad) (paste-next d a c 0 4 5 4 (omega arith) la lc refl)
-      ∙ ap (λ (l : List ℕ). paste l end p pad) (paste-next d (a ++ c) ss 0 9 (length ss) 9 (omega arith) (omega (arith, length-append a c)) refl refl)
-      ∙ paste-next d ((a ++ c) ++ ss) p 0 (9 + length ss) pad end (omega arith) (omega (arith, length-append (a ++ c) ss, length-append a c)) (toBits-length pad 0) (omega (arith, ee, sheet-length x))
-      ∙ paste-front d (((a ++ c) ++ ss) ++ p) (9 + length ss + pad) (omega (arith, length-append ((a ++ c) ++ ss) p, length-append (a ++ c) ss, length-append a c, toBits-length pad 0))
-      ∙ ap (λ (l : List ℕ). front l d)
-      (ap₂ (λ (f g : List ℕ). f ++ g) (append-assoc a c ss) (toBits-zero pad ∙ ap zeros (let q : pad ≡ padOf (length (sheetBits x)) = omega (arith, ee, en, ep) in q)))
+      ∙ ap (λ (l : List ℕ). paste l 9 ss (length ss)) (paste-next d a c 0 4 5 4 (omega arith) la lc refl)
+      ∙ paste-next d (a ++ c) ss 0 9 (length ss) 9 (omega arith) (omega (arith, length-append a c)) refl refl
+      ∙ paste-front d ((a ++ c) ++ ss) (9 + length ss) (omega (arith, length-append (a ++ c) ss, length-append a c))
+      ∙ ap (λ (l : List ℕ). front l d) (append-assoc a c ss) ∙ padded h
 
-  pub wrote : n ≤ length old → AreBytes old → AreBytes new → (pad : ℕ) → pad ≡ 8 * n - end → bits new ≡ writes x end pad (bits old)
+  pub wrote : n ≤ length old → AreBytes old → AreBytes new → bits new ≡ writes x (bits (replicate n 0 ++ drop n old))
       → (Wrote n ≡ writeOf x (length old)) × (new ≡ bufferOf x old)
   unfolding writeOf bufferOf sheetOf
-  wrote h ho hn pad ep e =
+  wrote h ho hn e =
       let r : Wrote n ≡ writeOf x (length old) = simp (v, le-leb (length (sheetOf x)) (length old) (omega (arith, n-is))) (ap Wrote n-is) in (
         r,
-        front-bytes (sheetBits x) old new (sheet-bits x) ho hn (front-is pad ep e)
+        front-bytes (sheetBits x) old new (sheet-bits x) ho hn (front-is h e)
             ∙ ap (λ (j : ℕ). sheetOf x ++ drop j old) (sym (pack-length (sheetBits x)) ∙ sym n-is) ∙ ap (λ (y : WriteAnswer). bufferBy y x old) r,
       )
 

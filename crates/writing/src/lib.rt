@@ -7,7 +7,8 @@ use rules::Tuple;
 use rules::WriteAnswer;
 ghost use mathlib.Core.Path.{_≡_};
 ghost use Prim.Native.Nat.{_+_, _-_, _*_, _^_, _<_, _≤_};
-ghost use lib.ListN.{length};
+ghost use mathlib.Core.List.{_++_};
+ghost use lib.ListN.{drop, length, replicate};
 ghost use lib.Seq.{paste};
 ghost use Rattle.laws.specs.Lists.{flat};
 ghost use Rattle.laws.specs.Bits.{bits, toBits};
@@ -40,6 +41,18 @@ fn put(buf: &mut [u8], at: usize, w: u32, v: u32)
     ensures { λ r. ⌜ bits (now (buf .exit)) ≡ paste (bits (now (buf .entry))) at (toBits w v) w ⌝ }
 {
     bits::put(buf, at / 8, (at % 8) as u32, w, v as u64);
+}
+
+// The first `n` bytes are zero.
+fn clear(buf: &mut [u8], n: usize)
+    requires { ⌜ n ≤ length (now buf) ⌝ }
+    ensures { λ r. ⌜ now (buf .exit) ≡ replicate n 0 ++ drop n (now (buf .entry)) ⌝ }
+{
+    let mut k: usize = 0;
+    while k < n {
+        buf[k] = 0;
+        k += 1;
+    }
 }
 
 fn put_tuples(buf: &mut [u8], at: usize, s: Stream)
@@ -118,10 +131,10 @@ pub fn write(x: Set, buf: &mut [u8]) -> WriteAnswer
         let n = (end + 7) / 8;
         if n <= buf.len() {
             let count = x.count;
+            clear(buf, n);
             put(buf, 0, 4, 1);
             put(buf, 4, 5, count as u32);
             put_streams(buf, x);
-            put(buf, end, (8 * n - end) as u32, 0);
             return WriteAnswer::Wrote(n);
         }
         return WriteAnswer::Refused(Refusal::ShortBuffer);
