@@ -13,7 +13,7 @@ use Rattle.bits.specs.declared.Gathered.{Gathered}
 use Rattle.bits.specs.declared.Taken.the-variants.{Field, Missing, TooWide}
 use Rattle.bits.specs.declared.Placing.{Placing}
 use Rattle.bits.specs.declared.Placing.the-variants.{Done, NoRoom, TooWide as PutTooWide}
-use Rattle.bits.specs.Places.{behind, fieldAt, gatherOf, gotOf, putBits, putBy, putOf, takeOf}
+use Rattle.bits.specs.Places.{Near, behind, fieldAt, gatherOf, gotOf, putBits, putBy, putOf, takeOf}
 use Rattle.bits.proofs.Words.{field-joined, field-lt, field-none}
 
 -- ---- gathering
@@ -27,6 +27,9 @@ gather-none s at w got e z = gather-is s at w 0 0 (sym z ∙ e) (field-none s at
 
 pub gather-one : (s : List ℕ) (at w v got p : ℕ) → got ≡ gotOf (length s) at w → v ≡ fieldAt s p got → p ≡ at → record { value = v; got = got } ≡ gatherOf s at w
 gather-one s at w v got p e h q = gather-is s at w v got e (h ∙ ap (λ (x : ℕ). fieldAt s x got) q)
+
+pub gather-near : (s : List ℕ) (byte bit w v : ℕ) → Near (length s) byte bit w → v ≡ fieldAt s (8 * byte + bit) w → record { value = v; got = w } ≡ gatherOf s (8 * byte + bit) w
+gather-near s byte bit w v n h = gather-is s (8 * byte + bit) w v w (omega (arith, n .few, n .first, n .there)) h
 
 module _ (s : List ℕ) (at w got high low p q : ℕ) (e : got ≡ gotOf (length s) at w) (long : 32 < got) (hh : high ≡ fieldAt s p (got - 32)) (hp : p ≡ at) (hl : low ≡ fieldAt s q 32) (hq : q ≡ at + (got - 32)) where
   high-is : high ≡ fieldAt s at (got - 32)

@@ -1,7 +1,7 @@
 -- A field is the bytes that it touches as one number, without the bits in front and behind: once for every place and width.
 -- Assumes nothing.
 use Prim.Native.Nat.{ℕ, zero, suc, _+_, _*_, _/_, _%_, _^_, _<_, _≤_, _-_, min}
-use mathlib.Core.Path.{_≡_, refl, sym, ap, _∙_}
+use mathlib.Core.Path.{_≡_, refl, sym, ap, ap₂, _∙_}
 use mathlib.Core.List.{List, [], _∷_, _++_, append-nil}
 use native.Mathlib.Omega.{arith}
 use native.Mathlib.Numerals.{add-one}
@@ -12,11 +12,7 @@ use lib.Pow.{mod-pow-add, shl-shr, shr-shr, pow-mono}
 use Rattle.laws.specs.Bits.{bits, onto, toBits, value}
 use Rattle.laws.proofs.Fields.{AreBits, AreBytes, IsBit, IsByte, all-drop, all-take, bits-append, bits-bits, bits-length, onto-append, onto-toBits, onto-value, taken-lt, value-back, value-front, value-lt}
 use Rattle.laws.proofs.Packing.{drop-bits}
-use Rattle.bits.specs.Places.{fieldAt}
-
--- the number that n bytes from the byte i on stand for
-abbrev pub wordOf : List ℕ → ℕ → ℕ → ℕ
-wordOf s i n = value (bits (take n (drop i s)))
+use Rattle.bits.specs.Places.{fieldAt, wordOf}
 
 pub word-none : (s : List ℕ) (i : ℕ) → 0 ≡ wordOf s i 0
 unfolding bits onto
@@ -82,6 +78,27 @@ word-field s i bit w n h k f =
     ∙ ap (λ (j : ℕ). value (drop bit x) / 2 ^ (j - w)) (sym ld)
     ∙ sym (value-front w (drop bit x) (all-drop IsBit bit x hx) (omega arith))
     ∙ ap value (sym (in-word s i bit w n h k))
+
+-- four bytes
+pub word-four : (s : List ℕ) (i a b c d : ℕ) → i + 4 ≤ length s
+    → (a ≡ getD s i 0) × (a < 256) → (b ≡ getD s (i + 1) 0) × (b < 256) → (c ≡ getD s (i + 2) 0) × (c < 256) → (d ≡ getD s (i + 3) 0) × (d < 256)
+    → a * 16777216 + b * 65536 + (c * 256 + d) ≡ wordOf s i 4
+word-four s i a b c d h ea eb ec ed =
+    omega (
+      arith,
+      word-none s i,
+      ap (λ (k : ℕ). getD s k 0) (add-zero i),
+      word-more s i 0 (omega arith) (omega (arith, ap (λ (k : ℕ). getD s k 0) (add-zero i))),
+      word-more s i 1 (omega arith) (omega arith),
+      word-more s i 2 (omega arith) (omega arith),
+      word-more s i 3 (omega arith) (omega arith),
+    )
+
+-- a field that lies in four bytes
+pub near-field : (s : List ℕ) (i bit w v : ℕ) → i + 4 ≤ length s → bit + w ≤ 32 → v ≡ wordOf s i 4 → v * 2 ^ (32 + bit) % 2 ^ 64 / 2 ^ (64 - w) ≡ fieldAt s (8 * i + bit) w
+near-field s i bit w v h k e =
+    ap₂ (λ (x j : ℕ). x * 2 ^ j % 2 ^ 64 / 2 ^ (64 - w)) e (let q : 32 + bit ≡ 64 - (8 * 4 - bit) = omega arith in q)
+    ∙ word-field s i bit w 4 h k (omega arith)
 
 pub field-none : (s : List ℕ) (at : ℕ) → 0 ≡ fieldAt s at 0
 unfolding fieldAt onto

@@ -1,6 +1,6 @@
 -- What taking a field from a string of bytes, and putting one into it, finds and leaves. A place is counted in bits from the front.
 -- Assumes nothing.
-use Prim.Native.Nat.{ℕ, _+_, _-_, _*_, min}
+use Prim.Native.Nat.{ℕ, _+_, _-_, _*_, _<_, _≤_, min}
 use mathlib.Core.List.{List}
 use mathlib.Core.Bool.{Bool, cond}
 use lib.ListN.{length, take, drop}
@@ -16,6 +16,17 @@ use Rattle.bits.specs.declared.Placing.the-variants.{Done, NoRoom, TooWi
 -- the value of the w bits at a place
 unfoldable pub fieldAt : List ℕ → ℕ → ℕ → ℕ
 fieldAt s at w = value (take w (drop at (bits s)))
+
+-- the number that n bytes from the byte i on stand for
+abbrev pub wordOf : List ℕ → ℕ → ℕ → ℕ
+wordOf s i n = value (bits (take n (drop i s)))
+
+-- a field that lies in the four bytes from a byte on, and the four bytes are there
+pub record Near (n byte bit w : ℕ) : Type 0 where
+  pub some : 0 < w
+  pub few : w ≤ 24
+  pub first : bit < 8
+  pub there : byte + 4 ≤ n
 
 -- how many bits n bytes have behind a place
 abbrev pub behind : ℕ → ℕ → ℕ

@@ -2,11 +2,12 @@
 // A place is a byte and a bit behind it, so that no place is too large for its number.
 
 ghost use mathlib.Core.Path.{_≡_};
+ghost use mathlib.Core.Bool.{true};
 ghost use Prim.Native.Nat.{_+_, _-_, _*_, _^_, _<_, _≤_};
 ghost use lib.ListN.{length, set};
 ghost use lib.Seq.{paste};
 ghost use Rattle.laws.specs.Bits.{bits, toBits};
-ghost use Rattle.bits.specs.Places.{fieldAt, gotOf, gatherOf, takeOf, putOf, putBits};
+ghost use Rattle.bits.specs.Places.{wordOf, Near, fieldAt, gotOf, gatherOf, takeOf, putOf, putBits};
 
 // Bits that were taken: the number that they stand for, and how many there were.
 pub struct Gathered {
@@ -51,6 +52,41 @@ fn there(len: usize, byte: usize, bit: u32, width: u32) -> u32
     w
 }
 
+fn wide(b: u8) -> u64
+    ensures { λ r. ⌜ (r ≡ b) × (r < 256) ⌝ }
+{
+    b as u64
+}
+
+// Whether a field lies in the four bytes from a byte on, and all four are there.
+fn near(len: usize, byte: usize, bit: u32, width: u32) -> bool
+    ensures { λ r. ⌜ (r ≡ true → Near len byte bit width) ⌝ }
+{
+    if width == 0 {
+        return false;
+    }
+    if 24 < width {
+        return false;
+    }
+    if 8 <= bit {
+        return false;
+    }
+    if len <= byte {
+        return false;
+    }
+    4 <= len - byte
+}
+
+// Four bytes as one number.
+fn four(s: &[u8], byte: usize) -> u64
+    requires { ⌜ byte + 4 ≤ length (now s) ⌝ }
+    ensures { λ r. ⌜ r ≡ wordOf (now (s .entry)) byte 4 ⌝ }
+{
+    let high = wide(s[byte]) * 16777216 + wide(s[byte + 1]) * 65536;
+    let low = wide(s[byte + 2]) * 256 + wide(s[byte + 3]);
+    high + low
+}
+
 // A field of 32 bits at most: the bytes that it touches as one number, without the bits in front and behind.
 fn word(s: &[u8], byte: usize, bit: u32, width: u32) -> u64
     requires { ⌜ (bit < 8) × (width ≤ 32) × (8 * byte + bit + width ≤ 8 * length (now s)) ⌝ }
@@ -69,8 +105,8 @@ fn word(s: &[u8], byte: usize, bit: u32, width: u32) -> u64
     (v << (64 - (8 * n - bit))) >> (64 - width)
 }
 
-// The bits at a place: as many as are asked for, 64 at most, and as many as there are.
-pub fn gather(s: &[u8], byte: usize, bit: u32, width: u32) -> Gathered
+// The bits at a place, one word or two.
+fn far(s: &[u8], byte: usize, bit: u32, width: u32) -> Gathered
     ensures { λ r. ⌜ r ≡ gatherOf (now (s .entry)) (8 * byte + bit) width ⌝ }
 {
     let got = there(s.len(), byte, bit, width);
@@ -92,6 +128,19 @@ pub fn gather(s: &[u8], byte: usize, bit: u32, width: u32) -> Gathered
         value: high * 4294967296 + low,
         got,
     }
+}
+
+// The bits at a place: as many as are asked for, 64 at most, and as many as there are.
+pub fn gather(s: &[u8], byte: usize, bit: u32, width: u32) -> Gathered
+    ensures { λ r. ⌜ r ≡ gatherOf (now (s .entry)) (8 * byte + bit) width ⌝ }
+{
+    if near(s.len(), byte, bit, width) {
+        return Gathered {
+            value: (four(s, byte) << (32 + bit)) >> (64 - width),
+            got: width,
+        };
+    }
+    far(s, byte, bit, width)
 }
 
 // The field of `width` bits at a place.

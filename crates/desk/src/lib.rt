@@ -157,7 +157,7 @@ fn read_sheet(d: Desk, line: &[u8], out: &mut [u8], at: usize) -> Step {
 
 // The set's sheet in a buffer, and the whole buffer in hex.
 fn sheet_onto(x: Set, bytes: &mut [u8], out: &mut [u8], at: usize) -> usize {
-    let answer = sheet::write(x, bytes);
+    let answer = writing::write(x, bytes);
     let end = page::append(out, at, words::write_line(answer));
     let last = hexes::print(bytes, out, end);
     page::append(out, last, said(b""))

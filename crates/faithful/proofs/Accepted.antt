@@ -20,8 +20,8 @@ use Rattle.rules.specs.Streams.{offset, offsetAt}
 use Rattle.rules.specs.Sheet.{streamOf, setOf}
 use Rattle.rules.proofs.Valid.{Between, ValidCycle, ValidPlace}
 use Rattle.sheet.proofs.Filled.{cond-elim}
-use Rattle.sheet.proofs.Back.{Chain}
-use Rattle.sheet.proofs.Accepted.{GoodStream, stream-four, stream-ok, set-ok, set-placed}
+use Rattle.writing.proofs.Back.{Chain}
+use Rattle.writing.proofs.Accepted.{GoodStream, stream-four, stream-ok, set-ok, set-placed}
 use Rattle.text.specs.Decimal.{letters, readOn}
 use Rattle.plain.specs.declared.Fault.{Fault}
 use Rattle.plain.specs.declared.Fault.the-variants.{NotTask, Task, NotCost, Cost, NotDeadline, Deadline, NotTuple, Cycle, Offset, FiveTuples, LongLine, ManyStreams}

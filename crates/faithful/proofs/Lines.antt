@@ -18,7 +18,7 @@ use Rattle.rules.specs.declared.Stream.{Stream}
 use Rattle.rules.specs.Streams.{FourTuples, noTuple, offset, offsetAt, cycleOk, tuplesOf, tupleOk, tuplesOk, streamOk}
 use Rattle.rules.specs.Sheet.{streamOf}
 use Rattle.rules.proofs.Valid.{ValidCycle, ValidPlace, ValidStream, FirstZero, valid-place, valid-stream}
-use Rattle.sheet.proofs.Whole.{stream-holds, whole-stream}
+use Rattle.writing.proofs.Whole.{stream-holds, whole-stream}
 use Rattle.text.specs.Decimal.{letters, decimalOf}
 use Rattle.rows.specs.Rows.{same}
 use Rattle.plain.specs.declared.TupleRead.the-variants.{Is as IsTuple}

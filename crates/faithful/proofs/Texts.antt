@@ -20,9 +20,9 @@ use Rattle.rules.specs.declared.ReadAnswer.the-variants.{Read}
 use Rattle.rules.specs.Streams.{FourTuples, Placed, streamsOf, streamOk, valid}
 use Rattle.rules.specs.Sheet.{setOf, sheetOf, readOf}
 use Rattle.rules.proofs.Valid.{ValidSet, valid-set, streams-few}
-use Rattle.sheet.proofs.Whole.{set-holds, whole-set}
-use Rattle.sheet.proofs.Back.{read-back}
-use Rattle.sheet.proofs.Rounds.{SheetOf, read-exactly}
+use Rattle.writing.proofs.Whole.{set-holds, whole-set}
+use Rattle.writing.proofs.Back.{read-back}
+use Rattle.writing.proofs.Rounds.{SheetOf, read-exactly}
 use Rattle.plain.specs.Lines.{streamText, lineRead, isStream}
 use Rattle.plain.proofs.Short.{stream-short}
 use Rattle.plain.proofs.Judged.{judged-short}

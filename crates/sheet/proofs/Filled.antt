@@ -1,13 +1,13 @@
 -- Places of which the first are in use: one place more.
 -- Assumes nothing.
-use Prim.Native.Nat.{ℕ, suc, _+_, _-_, _≤_, _<_}
+use Prim.Native.Nat.{ℕ, zero, suc, _+_, _-_, _≤_, _<_}
 use mathlib.Core.List.{List, [], _∷_, _++_}
 use mathlib.Core.Path.{_≡_, refl, sym, ap, ap₂, _∙_}
 use mathlib.Core.Bool.{Bool, true, false, cond}
 use native.Mathlib.Omega.{arith}
 use native.Mathlib.Numerals.{add-one}
-use lib.ListN.{length, take, drop, set, replicate, length-append, length-replicate}
-use lib.Seq.{take-suc-set, set-at, append-snoc, length-take-le}
+use lib.ListN.{length, take, drop, set, replicate, length-append, length-replicate, replicate-append-replicate}
+use lib.Seq.{drop-append-seam, take-suc-set, set-at, append-snoc, length-take-le}
 use Rattle.sheet.specs.Kept.{Holds}
 
 -- a case of a test
@@ -39,3 +39,21 @@ module _ {A : Type 0} (N : ℕ) (none : A) where
           used = ap length (taken-more a k) ∙ (let e : length (take n l ++ (a ∷ [])) ≡ n + 1 = omega (arith, length-append (take n l) (a ∷ []), h .used) in e);
           unused = set-more a k ∙ ap (λ (x : List A). x ++ replicate (N - (n + 1)) none) (sym (taken-more a k));
         }
+
+-- the places in use are cleared one by one
+module _ {A : Type 0} (none : A) where
+  cleared-next : (k : ℕ) (l : List A) → k < length l → set (replicate k none ++ drop k l) k none ≡ replicate (suc k) none ++ drop (suc k) l
+  cleared-next zero [] h = absurd (omega arith)
+  cleared-next zero (y ∷ l) h = refl
+  cleared-next (suc k) [] h = absurd (omega arith)
+  cleared-next (suc k) (y ∷ l) h = ap (λ (m : List A). none ∷ m) (cleared-next k l (omega arith))
+
+  pub cleared-more : (k : ℕ) (l : List A) → k < length l → set (replicate k none ++ drop k l) k none ≡ replicate (k + 1) none ++ drop (k + 1) l
+  cleared-more k l h = cleared-next k l h ∙ ap (λ (j : ℕ). replicate j none ++ drop j l) (sym (add-one k))
+
+  pub cleared-all : (N n : ℕ) (l : List A) → Holds N none n l → n ≤ N → replicate n none ++ drop n l ≡ replicate N none
+  cleared-all N n l h k =
+      let r : List A = replicate (N - n) none in
+      ap (λ (m : List A). replicate n none ++ m)
+      (ap (drop n) (h .unused) ∙ ap (λ (j : ℕ). drop j (take n l ++ r)) (sym (h .used)) ∙ drop-append-seam (take n l) r)
+      ∙ replicate-append-replicate n (N - n) none ∙ ap (λ (j : ℕ). replicate j none) (let e : n + (N - n) ≡ N = omega arith in e)

@@ -2,9 +2,4 @@ pub mod Filled
 pub mod Keeps
 pub mod Chunks
 pub mod ByField
-pub mod Feeding
-pub mod Whole
-pub mod Back
-pub mod Accepted
-pub mod Rounds
-pub mod Writing
+pub mod Turns

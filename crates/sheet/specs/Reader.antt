@@ -1,11 +1,13 @@
 -- The reader as a machine that takes bits. That it is document 01's reading, field by field, is proved in proofs/.
 -- Assumes nothing.
-use Prim.Native.Nat.{ℕ, zero, suc, _+_, _-_, _*_}
+use Prim.Native.Nat.{ℕ, zero, suc, _+_, _-_, _*_, _^_}
 use mathlib.Core.List.{List, [], _∷_}
 use mathlib.Core.Bool.{Bool, true, false, cond, _&&_}
 use lib.ListN.{set, replicate}
 use lib.Dec.{eqb, leb, ltb}
 use Rattle.laws.specs.Lists.{within}
+use Rattle.bits.specs.declared.Gathered.{Gathered}
+use Rattle.rules.specs.declared.TuplePlace.{TuplePlace}
 use Rattle.rules.specs.declared.Stream.{Stream}
 use Rattle.rules.specs.declared.Set.{Set}
 use Rattle.rules.specs.declared.Refusal.{Refusal}
@@ -19,6 +21,7 @@ use Rattle.sheet.specs.declared.Field.{Field}
 use Rattle.sheet.specs.declared.Field.the-variants.{Version, Count, Task, Cost, Deadline, Tuples, Cycle, Offset, Whole, Padding, Stopped}
 use Rattle.sheet.specs.declared.Head.{Head}
 use Rattle.sheet.specs.declared.Stage.{Stage}
+use Rattle.sheet.specs.declared.Point.{Point}
 use Rattle.sheet.specs.declared.Carried.{Carried}
 
 abbrev pub widthOf : Field → ℕ
@@ -47,40 +50,53 @@ isWhole Whole = true
 isWhole Padding = false
 isWhole (Stopped why) = false
 
+abbrev pub isOffset : Field → Bool
+isOffset Version = false
+isOffset Count = false
+isOffset Task = false
+isOffset Cost = false
+isOffset Deadline = false
+isOffset Tuples = false
+isOffset Cycle = false
+isOffset Offset = true
+isOffset Whole = false
+isOffset Padding = false
+isOffset (Stopped why) = false
+
 -- ---- heads
 
 abbrev pub fresh : Head
-fresh = record { streams = 0; more = 0; task = 0; cost = 0; deadline = 0; low = 0; high = 0; cycle = 0; count = 0; places = replicate 4 noTuple; pads = 0 }
+fresh = record { streams = 0; more = 0; task = 0; cost = 0; deadline = 0; low = 0; high = 0; cycle = 0; count = 0; pads = 0 }
 
 abbrev pub withStreams : Head → ℕ → Head
-withStreams h n = record { streams = n; more = h .more; task = h .task; cost = h .cost; deadline = h .deadline; low = h .low; high = h .high; cycle = h .cycle; count = h .count; places = h .places; pads = h .pads }
+withStreams h n = record { streams = n; more = h .more; task = h .task; cost = h .cost; deadline = h .deadline; low = h .low; high = h .high; cycle = h .cycle; count = h .count; pads = h .pads }
 
 abbrev pub withTask : Head → ℕ → Head
-withTask h v = record { streams = h .streams; more = h .more; task = v; cost = h .cost; deadline = h .deadline; low = h .low; high = h .high; cycle = h .cycle; count = h .count; places = h .places; pads = h .pads }
+withTask h v = record { streams = h .streams; more = h .more; task = v; cost = h .cost; deadline = h .deadline; low = h .low; high = h .high; cycle = h .cycle; count = h .count; pads = h .pads }
 
 abbrev pub withCost : Head → ℕ → Head
-withCost h v = record { streams = h .streams; more = h .more; task = h .task; cost = v; deadline = h .deadline; low = h .low; high = h .high; cycle = h .cycle; count = h .count; places = h .places; pads = h .pads }
+withCost h v = record { streams = h .streams; more = h .more; task = h .task; cost = v; deadline = h .deadline; low = h .low; high = h .high; cycle = h .cycle; count = h .count; pads = h .pads }
 
 abbrev pub withDeadline : Head → ℕ → Head
-withDeadline h v = record { streams = h .streams; more = h .more; task = h .task; cost = h .cost; deadline = v; low = h .low; high = h .high; cycle = h .cycle; count = h .count; places = h .places; pads = h .pads }
+withDeadline h v = record { streams = h .streams; more = h .more; task = h .task; cost = h .cost; deadline = v; low = h .low; high = h .high; cycle = h .cycle; count = h .count; pads = h .pads }
 
 abbrev pub withMore : Head → ℕ → Head
-withMore h v = record { streams = h .streams; more = v; task = h .task; cost = h .cost; deadline = h .deadline; low = h .low; high = h .high; cycle = h .cycle; count = h .count; places = h .places; pads = h .pads }
+withMore h v = record { streams = h .streams; more = v; task = h .task; cost = h .cost; deadline = h .deadline; low = h .low; high = h .high; cycle = h .cycle; count = h .count; pads = h .pads }
 
 abbrev pub withCycle : Head → ℕ → Head
-withCycle h v = record { streams = h .streams; more = h .more; task = h .task; cost = h .cost; deadline = h .deadline; low = h .low; high = h .high; cycle = v; count = h .count; places = h .places; pads = h .pads }
+withCycle h v = record { streams = h .streams; more = h .more; task = h .task; cost = h .cost; deadline = h .deadline; low = h .low; high = h .high; cycle = v; count = h .count; pads = h .pads }
 
 -- one tuple more, with n to come behind the next
 abbrev pub withTuple : Head → ℕ → ℕ → Head
 withTuple h v n =
-    record { streams = h .streams; more = n; task = h .task; cost = h .cost; deadline = h .deadline; low = v; high = 100000; cycle = 0; count = h .count + 1; places = set (h .places) (h .count) (tupleOf (h .cycle) v); pads = h .pads }
+    record { streams = h .streams; more = n; task = h .task; cost = h .cost; deadline = h .deadline; low = v; high = 100000; cycle = 0; count = h .count + 1; pads = h .pads }
 
 abbrev pub withPad : Head → Head
-withPad h = record { streams = h .streams; more = h .more; task = h .task; cost = h .cost; deadline = h .deadline; low = h .low; high = h .high; cycle = h .cycle; count = h .count; places = h .places; pads = h .pads + 1 }
+withPad h = record { streams = h .streams; more = h .more; task = h .task; cost = h .cost; deadline = h .deadline; low = h .low; high = h .high; cycle = h .cycle; count = h .count; pads = h .pads + 1 }
 
--- the stream that is whole
-abbrev pub streamIn : Head → Stream
-streamIn h = record { task = h .task; cost = h .cost; deadline = h .deadline; count = h .count; tuples = h .places }
+-- the stream that is whole, with its tuples
+abbrev pub streamIn : Head → List TuplePlace → Stream
+streamIn h ts = record { task = h .task; cost = h .cost; deadline = h .deadline; count = h .count; tuples = ts }
 
 -- ---- what comes behind each field, once its value is there
 
@@ -147,35 +163,53 @@ settledOf s = cond (isWhole (s .field)) (openedOf (s .head .streams)) s
 abbrev pub withStream : Set → Stream → Set
 withStream x s = record { count = x .count + 1; streams = set (x .streams) (x .count) s }
 
-unfoldable pub storedOf : Stage → Set → Set
-storedOf s x = cond (isWhole (s .field)) (withStream x (streamIn (s .head))) x
+unfoldable pub storedOf : Stage → List TuplePlace → Set → Set
+storedOf s ts x = cond (isWhole (s .field)) (withStream x (streamIn (s .head) ts)) x
+
+-- the tuples of the stream that is being read: one more behind an offset, none of the next stream
+unfoldable pub tupledOf : Field → Head → List TuplePlace → ℕ → List TuplePlace
+tupledOf f h ts v = cond (isOffset f) (set ts (h .count) (tupleOf (h .cycle) v)) ts
+
+unfoldable pub leftOf : Stage → List TuplePlace → List TuplePlace
+leftOf s ts = cond (isWhole (s .field)) (replicate 4 noTuple) ts
 
 -- ---- the machine
 
-abbrev pub begun : Stage → Set → Carried
-begun s x = record { stage = s; set = x; acc = 0; left = widthOf (s .field) }
+abbrev pub pointAt : Stage → Point
+pointAt s = record { stage = s; acc = 0; left = widthOf (s .field) }
 
-abbrev pub reading : Stage → Set → ℕ → ℕ → Carried
-reading s x a l = record { stage = s; set = x; acc = a; left = l }
+-- bits behind those that have come
+unfoldable pub joinedOf : Point → Gathered → Point
+joinedOf p g = record { stage = p .stage; acc = p .acc * 2 ^ g .got + g .value; left = p .left - g .got }
 
-unfoldable pub nextOf : Stage → Set → ℕ → Carried
-nextOf s x v = begun (settledOf (afterOf (s .field) (s .head) v)) (storedOf (afterOf (s .field) (s .head) v) x)
+abbrev pub begun : Stage → List TuplePlace → Set → Carried
+begun s ts x = record { point = pointAt s; places = ts; set = x }
+
+abbrev pub reading : Stage → List TuplePlace → Set → ℕ → ℕ → Carried
+reading s ts x a l = record { point = record { stage = s; acc = a; left = l }; places = ts; set = x }
+
+-- behind a field, whose tuples are ts: the stage s comes
+abbrev pub goesOn : Stage → List TuplePlace → Set → Carried
+goesOn s ts x = begun (settledOf s) (leftOf s ts) (storedOf s ts x)
+
+unfoldable pub nextOf : Stage → List TuplePlace → Set → ℕ → Carried
+nextOf s ts x v = goesOn (afterOf (s .field) (s .head) v) (tupledOf (s .field) (s .head) ts v) x
 
 -- one bit more: of no field, the last of a field, or one before
-abbrev pub stepBy : ℕ → Stage → Set → ℕ → ℕ → Carried
-stepBy zero s x a b = reading s x a 0
-stepBy (suc zero) s x a b = nextOf s x (a * 2 + b)
-stepBy (suc (suc l)) s x a b = reading s x (a * 2 + b) (suc l)
+abbrev pub stepBy : ℕ → Stage → List TuplePlace → Set → ℕ → ℕ → Carried
+stepBy zero s ts x a b = reading s ts x a 0
+stepBy (suc zero) s ts x a b = nextOf s ts x (a * 2 + b)
+stepBy (suc (suc l)) s ts x a b = reading s ts x (a * 2 + b) (suc l)
 
 unfoldable pub stepOf : Carried → ℕ → Carried
-stepOf c b = stepBy (c .left) (c .stage) (c .set) (c .acc) b
+stepOf c b = stepBy (c .point .left) (c .point .stage) (c .places) (c .set) (c .point .acc) b
 
 unfoldable pub run : Carried → List ℕ → Carried
 run c [] = c
 run c (b ∷ bs) = run (stepOf c b) bs
 
 abbrev pub startOf : Carried
-startOf = begun (staged Version fresh) emptySet
+startOf = begun (staged Version fresh) (replicate 4 noTuple) emptySet
 
 -- what the sheet reads as when no bit comes any more
 abbrev pub answerOf : Field → ReadAnswer
@@ -196,4 +230,4 @@ closeAs Read x = record { answer = Read; set = x }
 closeAs (Refused why) x = noSet why
 
 unfoldable pub closeOf : Carried → ReadResult
-closeOf c = closeAs (answerOf (c .stage .field)) (c .set)
+closeOf c = closeAs (answerOf (c .point .stage .field)) (c .set)

@@ -42,7 +42,7 @@ fn wrote(a: WriteAnswer) {
 // The sheet of a set, written to as many bytes as the longest sheet has.
 fn again(set: Set) {
     let mut buf = [238u8; 378];
-    wrote(sheet::write(set, &mut buf));
+    wrote(writing::write(set, &mut buf));
 }
 
 // What the bytes read as, and, of a set, what it is written as.
@@ -66,7 +66,7 @@ fn byte(b: u8) {
 // The sheet of a set, written to the first `room` bytes of a buffer.
 fn part(set: Set, buf: &mut [u8], room: usize) {
     if room <= buf.len() {
-        wrote(sheet::write(set, &mut buf[..room]));
+        wrote(writing::write(set, &mut buf[..room]));
     }
 }
 

@@ -149,7 +149,7 @@ fn save(bytes: &[u8]) -> bool {
 fn keep(x: Set) -> bool {
     let count = x.count;
     let mut bytes = [0u8; 378];
-    match sheet::write(x, &mut bytes) {
+    match writing::write(x, &mut bytes) {
         WriteAnswer::Wrote(n) => {
             let len = page::within(n, &bytes);
             if save(&bytes[..len]) {
@@ -184,7 +184,7 @@ pub fn make() -> bool {
 // A set's sheet in hex, and its text.
 fn print_both(x: Set) -> bool {
     let mut bytes = [0u8; 378];
-    match sheet::write(x, &mut bytes) {
+    match writing::write(x, &mut bytes) {
         WriteAnswer::Wrote(n) => {
             let len = page::within(n, &bytes);
             let mut out = io::buffer();

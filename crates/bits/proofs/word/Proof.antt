@@ -3,8 +3,8 @@ use borrow.Author.Needs.{needs}
 use Prim.Native.Nat.{_+_, _-_, _*_, _/_, _%_, _^_, _≤_}
 use mathlib.Core.Path.{_≡_, ap, sym, _∙_}
 use lib.ListN.{length, getD}
-use Rattle.bits.proofs.Words.{field-none, word-field, word-more, word-none, word-small, wordOf}
-use Rattle.bits.specs.Places.{fieldAt}
+use Rattle.bits.proofs.Words.{field-none, word-field, word-more, word-none, word-small}
+use Rattle.bits.specs.Places.{fieldAt, wordOf}
 use Rattle.bits.proofs.word.Statement.{statement}
 use Rattle.bits.proofs.word.Tie as tie
 use Rattle.bits.proofs.word.Reads as reads

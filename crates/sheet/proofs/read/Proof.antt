@@ -2,18 +2,19 @@ use native.Mathlib.Omega.{arith}
 use borrow.Author.Needs.{needs}
 use mathlib.Core.Path.{sym, ap, subst, _∙_}
 use Rattle.laws.specs.Bits.{bits}
+use Rattle.laws.proofs.Fields.{bits-bits}
 use Rattle.sheet.specs.declared.Carried.{Carried}
-use Rattle.sheet.specs.Reader.{closeOf, run}
+use Rattle.sheet.specs.Reader.{closeOf, run, startOf}
 use Rattle.sheet.specs.Kept.{Kept}
-use Rattle.sheet.proofs.Keeps.{kept-start}
+use Rattle.sheet.proofs.Keeps.{kept-run, kept-start}
 use Rattle.sheet.proofs.ByField.{by-field}
 use Rattle.sheet.proofs.read.Statement.{statement}
 use Rattle.sheet.proofs.read.Tie as tie
 use Rattle.sheet.proofs.read.Reads as reads
 use Rattle.sheet.proofs.read.Lts as lts
-use Rattle.sheet.proofs.close.Reads as close-reads
-use Rattle.sheet.proofs.feed.Reads as feed-reads
-use Rattle.sheet.proofs.start.Reads as start-reads
+use Rattle.sheet.proofs.closing.close.Reads as close-reads
+use Rattle.sheet.proofs.feeding.feed.Reads as feed-reads
+use Rattle.sheet.proofs.feeding.start.Reads as start-reads
 
 -- src/lib.rt:482:16
 start-requires : tie.Need-start-requires
@@ -25,7 +26,8 @@ feed-requires c κs = subst Kept (sym (c .start .ensures)) kept-start
 
 -- src/lib.rt:482:5
 close-requires : tie.Need-close-requires
-close-requires c κs = search needs
+close-requires c κs =
+    subst Kept (sym (c .feed .ensures ∙ ap (λ (s : Carried). run s (bits (c .before .before .before .args .bytes .now))) (c .before .start .ensures))) (kept-run startOf (bits (c .before .before .before .args .bytes .now)) kept-start (bits-bits (c .before .before .before .args .bytes .now)))
 
 -- src/lib.rt:479:1
 returns : tie.Need-returns

@@ -5,7 +5,7 @@ use Rattle.sheet_rows.proofs.part.Statement.{statement}
 use Rattle.sheet_rows.proofs.part.Tie as tie
 use Rattle.sheet_rows.proofs.part.Reads as reads
 use Rattle.sheet_rows.proofs.part.Lts as lts
-use Rattle.sheet.proofs.write.Reads as write-reads
+use Rattle.writing.proofs.write.Reads as write-reads
 use Rattle.sheet_rows.proofs.wrote.Reads as wrote-reads
 
 -- src/main.rt:69:33

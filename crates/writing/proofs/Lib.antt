@@ -1,0 +1,5 @@
+pub mod Whole
+pub mod Back
+pub mod Accepted
+pub mod Rounds
+pub mod Writing
