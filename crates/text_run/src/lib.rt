@@ -11,33 +11,12 @@ use rules::Refusal;
 use rules::Set;
 use rules::Verdict;
 use rules::WriteAnswer;
-use text::Line;
-
-// Writes a line out.
-fn say(l: Line) -> bool {
-    let mut out = io::buffer();
-    let end = page::append(&mut out, 0, l);
-    let n = page::within(end, &out);
-    io::write_all(STDOUT_FILENO, &out[..n])
-}
 
 fn refuse(why: Refusal) -> bool {
-    say(words::verdict_line(Verdict::Refused(why)))
+    files::say(words::verdict_line(Verdict::Refused(why)))
 }
 
 // ---- a set's text, from its sheet
-
-// The sheet in the file set.bin; a missing file is read as no bytes. No sheet has more than 378 bytes, so of a longer file 379 tell all.
-fn read_sheet() -> ReadResult {
-    let mut bytes = [0u8; 379];
-    let fd = os::open_read(b"set.bin");
-    if fd < 0 {
-        return sheet::read(&bytes[..0]);
-    }
-    let n = io::read_full(fd, &mut bytes);
-    libc::close(fd);
-    sheet::read(&bytes[..n])
-}
 
 fn print_text(x: Set) -> bool {
     let mut out = io::buffer();
@@ -52,7 +31,7 @@ fn print_text(x: Set) -> bool {
 
 // `sheet_show`: the file set.bin as text.
 pub fn show() -> bool {
-    let r = read_sheet();
+    let r = files::read_sheet();
     let answer = r.answer;
     let set = r.set;
     match answer {
@@ -153,7 +132,7 @@ fn keep(x: Set) -> bool {
         WriteAnswer::Wrote(n) => {
             let len = page::within(n, &bytes);
             if save(&bytes[..len]) {
-                say(notes::made_line(count as u64, len as u64))
+                files::say(notes::made_line(count as u64, len as u64))
             } else {
                 false
             }
@@ -175,7 +154,7 @@ pub fn make() -> bool {
     let set = r.set;
     match found {
         Found::Fine => keep(set),
-        Found::Bad(n, why) => say(notes::fault_line(n, why)),
+        Found::Bad(n, why) => files::say(notes::fault_line(n, why)),
     }
 }
 
@@ -190,7 +169,7 @@ fn print_both(x: Set) -> bool {
             let mut out = io::buffer();
             let end = page::within(hexes::print(&bytes[..len], &mut out, 0), &out);
             io::write_all(STDOUT_FILENO, &out[..end]);
-            say(text::put(text::blank(), b'\n'));
+            files::say(text::put(text::blank(), b'\n'));
             print_text(x)
         }
         WriteAnswer::Refused(why) => refuse(why),
@@ -202,7 +181,7 @@ fn told(r: TextRead) -> bool {
     let set = r.set;
     match found {
         Found::Fine => print_both(set),
-        Found::Bad(n, why) => say(notes::fault_line(n, why)),
+        Found::Bad(n, why) => files::say(notes::fault_line(n, why)),
     }
 }
 
@@ -217,7 +196,7 @@ fn take_byte(p: Pile, b: u8) -> Pile {
     let draft = p.draft;
     let number = p.number;
     if b == 0 {
-        say(text::put(text::one(text::blank(), b"text", number), b'\n'));
+        files::say(text::put(text::one(text::blank(), b"text", number), b'\n'));
         told(readable::close(draft));
         return Pile {
             draft: readable::start(),

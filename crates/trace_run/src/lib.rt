@@ -6,29 +6,7 @@ use rules::ReadAnswer;
 use rules::ReadResult;
 use rules::Set;
 use rules::Verdict;
-use text::Line;
 use tracer::Run;
-
-// Writes a line out.
-fn say(l: Line) -> bool {
-    let mut out = io::buffer();
-    let end = page::append(&mut out, 0, l);
-    let n = page::within(end, &out);
-    io::write_all(STDOUT_FILENO, &out[..n])
-}
-
-// The sheet in the file set.bin; a missing file is read as no bytes. No sheet has more than 378 bytes, so of a longer file 379
-// tell all: either a field among the first 378 is refused, or the 379th is a further byte, and so it is for the whole file.
-fn read_sheet() -> ReadResult {
-    let mut bytes = [0u8; 379];
-    let fd = os::open_read(b"set.bin");
-    if fd < 0 {
-        return sheet::read(&bytes[..0]);
-    }
-    let n = io::read_full(fd, &mut bytes);
-    libc::close(fd);
-    sheet::read(&bytes[..n])
-}
 
 fn started(x: Set, live: bool) -> Run {
     let r = scheduler::start(x);
@@ -46,11 +24,11 @@ fn begin(r: ReadResult) -> Run {
     let set = r.set;
     match answer {
         ReadAnswer::Read => {
-            let written = say(words::verdict_line(load::verdict(set)));
+            let written = files::say(words::verdict_line(load::verdict(set)));
             started(set, written)
         }
         ReadAnswer::Refused(why) => {
-            say(words::verdict_line(Verdict::Refused(why)));
+            files::say(words::verdict_line(Verdict::Refused(why)));
             started(set, false)
         }
     }
@@ -81,7 +59,7 @@ fn go_on(r: Run) -> Run {
     let got = libc::read(STDIN_FILENO, &mut bytes);
     let n = io::count(got, &bytes);
     if n == 0 {
-        say(tracer::end_line(r));
+        files::say(tracer::end_line(r));
         return stopped(r);
     }
     told(r, &bytes[..n])
@@ -89,7 +67,7 @@ fn go_on(r: Run) -> Run {
 
 // A proved loop has to end, and nothing says that the input does: the turns are counted down from a number that no run uses up.
 pub fn run() {
-    let mut r = begin(read_sheet());
+    let mut r = begin(files::read_sheet());
     let mut turns = u64::MAX;
     while turns > 0 {
         let live = r.live;
@@ -145,7 +123,7 @@ fn rest_of(fd: i32, run: Run, n: usize) -> bool {
     let mut i = 0;
     while i < 64 {
         if n <= i {
-            return say(tracer::end_line(told(run, &piece[..i])));
+            return files::say(tracer::end_line(told(run, &piece[..i])));
         }
         piece[i] = next_byte(fd);
         i = i + 1;
@@ -169,7 +147,7 @@ fn trace_of(fd: i32, run: Run, n: u64) -> bool {
 // A case's number, and all that the trace program prints for its sheet, of `n` bytes, and its trace.
 fn one_case(fd: i32, at: u64, n: u64) -> bool {
     let head = text::put(text::one(text::blank(), b"case", at), b'\n');
-    if !say(head) {
+    if !files::say(head) {
         return false;
     }
     let r = begin(sheet_of(fd, n as usize));
