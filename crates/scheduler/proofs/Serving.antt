@@ -1,14 +1,15 @@
 -- What a unit does: what it is to do, what is answered, and how a message leaves or stays.
 -- Assumes nothing.
-use Prim.Native.Nat.{ℕ, _+_, _-_, _<_}
+use Prim.Native.Nat.{ℕ, _+_, _-_, _≤_, _<_}
 use mathlib.Core.Bool.{Bool, true, false, cond, _||_, false≢true}
-use mathlib.Core.Path.{_≡_, refl, ap, sym, _∙_}
+use mathlib.Core.Path.{_≡_, refl, sym, _∙_}
 use native.Mathlib.Omega.{arith}
 use borrow.Author.Tests.{ltb-true}
 use lib.Dec.{ltb, eqb}
 use lib.IntN.{ℤ}
-use lib.ListN.{length, getD, set, length-set}
-use Rattle.laws.proofs.Parts.{remove-step, remove-last}
+use lib.ListN.{length, set, length-set}
+use lib.Seq.{getD-set-other}
+use Rattle.laws.proofs.Parts.{remove-step, remove-rest}
 use Rattle.laws.specs.Lists.{remove}
 use Rattle.rules.specs.declared.Message.{Message}
 use Rattle.rules.specs.declared.State.{State}
@@ -18,7 +19,7 @@ use Rattle.rules.specs.declared.UnitAnswer.{UnitAnswer}
 use Rattle.rules.specs.declared.UnitAnswer.the-variants.{Ran, Finished, Cut, Idle, Refused as UnitRefused}
 use Rattle.rules.specs.States.{noMessage, taskOf, costOf, lastClock, wellFormed}
 use Rattle.rules.specs.Steps.{messageAt, placeOf, ticked, stayed, departed, laxityOf, answered, servedOf, emptyUnit, unitOf}
-use Rattle.states.proofs.WellFormed.{sound, stands, message-stream}
+use Rattle.states.proofs.WellFormed.{well-formed, sound, unused-zero, stands, message-stream}
 use Rattle.choosing.specs.declared.Found.{Found}
 use Rattle.choosing.specs.declared.Found.the-variants.{IllFormed as NotFormed, Nothing as Nowhere, At}
 use Rattle.choosing.specs.Found.{foundOf}
@@ -48,27 +49,33 @@ module _ (task : ℕ) (m : Message) (now : ℕ) (done spent : Bool) where
 pub record Moving (from : State) (i : ℕ) (next : State) (k : ℕ) : Type 0 where
   pub set : next .set ≡ from .set
   pub clock : next .clock ≡ from .clock
-  pub count : next .count ≡ from .count
+  pub few : from .count ≤ 64
+  pub here : k < from .count
   pub long : length (next .messages) ≡ 64
   pub moved : remove noMessage k (next .messages) ≡ remove noMessage i (from .messages)
+  pub rest : (j : ℕ) → from .count ≤ j → messageAt next j ≡ noMessage
 
-pub moving-go : (from : State) (i : ℕ) (next : State) (k : ℕ) → Moving from i next k → k < 63
-    → Moving from i (record { set = next .set; clock = next .clock; count = next .count; messages = set (next .messages) k (getD (next .messages) (k + 1) noMessage) }) (k + 1)
+pub moving-go : (from : State) (i : ℕ) (next : State) (k : ℕ) → Moving from i next k → k < from .count - 1
+    → Moving from i (record { set = next .set; clock = next .clock; count = next .count; messages = set (next .messages) k (messageAt next (k + 1)) }) (k + 1)
 moving-go from i next k h q = record {
   set = h .set;
   clock = h .clock;
-  count = h .count;
+  few = h .few;
+  here = omega arith;
   long = simp length-set (h .long);
-  moved = remove-step noMessage k (next .messages) (omega (arith, h .long)) ∙ h .moved;
+  moved = remove-step noMessage k (next .messages) (omega (arith, h .long, h .few)) ∙ h .moved;
+  rest = λ j g. getD-set-other (next .messages) k j (messageAt next (k + 1)) noMessage (λ z. omega arith) ∙ h .rest j g;
 }
 
-pub moved-up : (from : State) (i : ℕ) (next : State) (k : ℕ) (a : UnitAnswer) → Moving from i next k → 63 ≡ k
-    → _≡_ {A = UnitResult} (record { answer = a; state = record { set = next .set; clock = next .clock; count = next .count - 1; messages = set (next .messages) 63 noMessage } })
+-- only zeros stand behind the last one
+pub moved-up : (from : State) (i : ℕ) (next : State) (k : ℕ) (a : UnitAnswer) → Moving from i next k → from .count - 1 ≤ k
+    → _≡_ {A = UnitResult} (record { answer = a; state = record { set = next .set; clock = next .clock; count = from .count - 1; messages = set (next .messages) (from .count - 1) noMessage } })
     (record { answer = a; state = record { set = from .set; clock = from .clock; count = from .count - 1; messages = remove noMessage i (from .messages) } })
-moved-up from i next k a h e =
-    let m : set (next .messages) 63 noMessage ≡ remove noMessage i (from .messages) =
-    sym (remove-last noMessage 63 (next .messages) (h .long)) ∙ (ap (λ (j : ℕ). remove noMessage j (next .messages)) e ∙ h .moved) in
-    rw (h .set, h .clock, h .count, m)
+moved-up from i next k a h q =
+    let e : k ≡ from .count - 1 = omega (arith, h .here) in
+    let m : set (next .messages) (from .count - 1) noMessage ≡ remove noMessage i (from .messages) =
+    rw (← e) (sym (remove-rest noMessage k (next .messages) (λ j g. h .rest j (omega arith))) ∙ h .moved) in
+    rw (h .set, h .clock, m)
 
 module _ (s : State) (i task cost : ℕ) (done : Bool) (e : task ≡ taskOf (s .set) (messageAt s i)) (e′ : cost ≡ costOf (s .set) (messageAt s i))
     (a : UnitAnswer) (q : a ≡ servedAnswer task (messageAt s i) (s .clock + 1) done (eqb (messageAt s i .used + 1) cost)) where
@@ -135,8 +142,10 @@ told w f clock done q = rw q (told-if f clock _ done refl)
 -- what a unit of the message at i relies on
 pub record Serving (s : State) (i t c : ℕ) : Type 0 where
   pub clock : s .clock < 4000000000
-  pub some : 0 < s .count
+  pub here : i < s .count
   pub place : i < 64
+  pub few : s .count ≤ 64
+  pub rest : (j : ℕ) → s .count ≤ j → messageAt s j ≡ noMessage
   pub long : length (s .messages) ≡ 64
   pub used : messageAt s i .used < 65535
   pub task : t ≡ taskOf (s .set) (messageAt s i)
@@ -148,11 +157,14 @@ module _ (s : State) (done : Bool) (f : Found) (w : Work) (i t c : ℕ) (e : f �
       let at = told (Serve i t c) f (s .clock) done (sym r ∙ q) in
       let h = serves s f e i t c (at .1) in
       let formed = sound s (h .chosen .formed) in
+      let well = well-formed s (h .chosen .formed) in
       let in-count = place-count s i (h .chosen) ms ss in
       record {
         clock = at .0;
-        some = omega (arith, in-count);
+        here = in-count;
         place = place-lt s i (h .chosen) ms ss;
+        few = well .few;
+        rest = unused-zero s well;
         long = ms;
         used = omega (arith, stands s formed ms i in-count .1 .used, message-stream s formed ms i in-count ss .cost .high);
         task = h .task;

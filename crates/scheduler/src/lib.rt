@@ -155,7 +155,7 @@ fn served(task: usize, m: Message, now: u32, done: bool, spent: bool) -> UnitAns
     UnitAnswer::Ran(task, m.stream)
 }
 
-// A unit of running. Where the message leaves, those behind it move up, in their order, and the last place is zero.
+// A unit of running. Where the message leaves, those behind it move up, in their order, and the place of the last is zero.
 pub fn unit(s: State, done: bool) -> UnitResult
     ensures { λ r. ⌜ r ≡ unitOf s done ⌝ }
 {
@@ -176,14 +176,15 @@ pub fn unit(s: State, done: bool) -> UnitResult
             next.clock = next.clock + 1;
             a = served(task, m, next.clock, done, spent);
             if done | spent {
+                let end = next.count - 1;
                 let mut k = i;
-                while k < 63 {
+                while k < end {
                     let behind = next.messages[k + 1];
                     next.messages[k] = behind;
                     k = k + 1;
                 }
-                next.messages[63] = states::no_message();
-                next.count = next.count - 1;
+                next.messages[end] = states::no_message();
+                next.count = end;
             } else {
                 m.used = m.used + 1;
                 next.messages[i] = m;

@@ -1,7 +1,7 @@
 -- `choosing::look` meets its contract. The tables hold what the messages behind k say. Assumes nothing.
 use native.Mathlib.Omega.{arith}
 use borrow.Author.Needs.{needs}
-use borrow.Author.Tests.{eq-eqb, ne-eqb, not-true, not-false}
+use borrow.Author.Tests.{eq-eqb, not-true, not-false}
 use Prim.Native.Nat.{_+_, _-_}
 use mathlib.Core.Bool.{true}
 use mathlib.Core.Logic.{⊎-elim}
