@@ -8,11 +8,12 @@ ghost use Rattle.choosing.specs.Table.{at};
 ghost use Rattle.choosing.specs.Found.{foundOf};
 use rules::State;
 
-// What there is to serve in a state: nothing where it is not well formed, nothing pending, or the message at a place.
+// What there is to serve in a state: nothing where it is not well formed, nothing pending, or the message at a place, with its
+// task and its cost c.
 pub enum Found {
     IllFormed,
     Nothing,
-    At(usize),
+    At(usize, usize, u32),
 }
 
 // t where a is less than b, else best.
@@ -68,10 +69,12 @@ pub fn look(s: State) -> Found
         }
     }
     let t = least_task(deadlines);
-    let going = started[t];
-    if going < n {
-        return Found::At(going);
+    let mut place = started[t];
+    if n <= place {
+        place = due[t];
     }
-    let first = due[t];
-    Found::At(first)
+    let m = s.messages[place];
+    let j = m.stream;
+    let x = streams[j];
+    Found::At(place, x.task, x.cost)
 }

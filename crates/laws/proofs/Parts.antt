@@ -139,6 +139,13 @@ module _ {A : Type 0} (p : A → Bool) where
   all-at (x ∷ l) zero d e h = both-first (p x) (all p l) e
   all-at (x ∷ l) (suc k) d e h = all-at l k d (both-second (p x) (all p l) e) (omega arith)
 
+  -- at any place, where the default passes
+  pub all-any : (l : List A) (k : ℕ) (d : A) → p d ≡ true → all p l ≡ true → p (getD l k d) ≡ true
+  unfolding all
+  all-any [] k d t e = rw (List·getD-eq-default [] d {n = k} (omega arith)) t
+  all-any (x ∷ l) zero d t e = both-first (p x) (all p l) e
+  all-any (x ∷ l) (suc k) d t e = all-any l k d t (both-second (p x) (all p l) e)
+
   pub all-within : (l : List A) (n k : ℕ) (d : A) → all p (take n l) ≡ true → k < n → k < length l → p (getD l k d) ≡ true
   all-within l n k d e h g = rw (getD-take n l k d h) at (all-at (take n l) k d e (simp length-take (omega arith)))
 
@@ -163,13 +170,16 @@ module _ {A : Type 0} (d : A) where
   pub remove-step : (k : ℕ) (l : List A) → k + 1 < length l → remove d (k + 1) (set l k (getD l (k + 1) d)) ≡ remove d k l
   remove-step k l h = rw add-one (remove-suc k l (rw add-one at h))
 
-  -- at the last place d is put
-  pub remove-last : (k : ℕ) (l : List A) → length l ≡ suc k → remove d k l ≡ set l k d
+  -- where there is only d behind k, d is put at k
+  only-last : (l : List A) → ((j : ℕ) → getD l j d ≡ d) → l ++ (d ∷ []) ≡ d ∷ l
+  only-last [] h = refl
+  only-last (x ∷ l) h = rw (only-last l (λ j. h (suc j)), h 0)
+
+  pub remove-rest : (k : ℕ) (l : List A) → ((j : ℕ) → k < j → getD l j d ≡ d) → remove d k l ≡ set l k d
   unfolding remove
-  remove-last k [] e = refl
-  remove-last zero (x ∷ []) e = refl
-  remove-last zero (x ∷ (y ∷ l)) e = absurd (let z : suc (suc (length l)) ≡ 1 = e in omega arith)
-  remove-last (suc k) (x ∷ l) e = ap (λ (xs : List A). x ∷ xs) (remove-last k l (omega arith))
+  remove-rest k [] h = refl
+  remove-rest zero (x ∷ l) h = only-last l (λ j. h (suc j) (omega arith))
+  remove-rest (suc k) (x ∷ l) h = ap (λ (xs : List A). x ∷ xs) (remove-rest k l (λ j q. h (suc j) (omega arith)))
 
   pub length-remove : (i : ℕ) (l : List A) → length (remove d i l) ≡ length l
   unfolding remove

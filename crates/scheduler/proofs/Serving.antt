@@ -1,34 +1,32 @@
 -- What a unit does: what it is to do, what is answered, and how a message leaves or stays.
 -- Assumes nothing.
-use Prim.Native.Nat.{ℕ, _+_, _-_, _<_}
+use Prim.Native.Nat.{ℕ, _+_, _-_, _≤_, _<_}
 use mathlib.Core.Bool.{Bool, true, false, cond, _||_, false≢true}
-use mathlib.Core.Path.{_≡_, refl, ap, sym, _∙_}
+use mathlib.Core.Path.{_≡_, refl, sym, _∙_}
 use native.Mathlib.Omega.{arith}
 use borrow.Author.Tests.{ltb-true}
 use lib.Dec.{ltb, eqb}
 use lib.IntN.{ℤ}
-use lib.ListN.{length, getD, set, length-set}
-use Rattle.laws.proofs.Parts.{remove-step, remove-last}
+use lib.ListN.{length, set, length-set}
+use lib.Seq.{getD-set-other}
+use Rattle.laws.proofs.Parts.{remove-step, remove-rest}
 use Rattle.laws.specs.Lists.{remove}
-use Rattle.rules.specs.declared.Stream.{Stream}
 use Rattle.rules.specs.declared.Message.{Message}
 use Rattle.rules.specs.declared.State.{State}
 use Rattle.rules.specs.declared.Refusal.the-variants.{LastClock, IllFormed}
 use Rattle.rules.specs.declared.UnitResult.{UnitResult}
 use Rattle.rules.specs.declared.UnitAnswer.{UnitAnswer}
 use Rattle.rules.specs.declared.UnitAnswer.the-variants.{Ran, Finished, Cut, Idle, Refused as UnitRefused}
-use Rattle.rules.specs.Streams.{streamAt}
-use Rattle.rules.specs.States.{noMessage, lastClock, wellFormed, costOf}
+use Rattle.rules.specs.States.{noMessage, taskOf, costOf, lastClock, wellFormed}
 use Rattle.rules.specs.Steps.{messageAt, placeOf, ticked, stayed, departed, laxityOf, answered, servedOf, emptyUnit, unitOf}
-use Rattle.states.proofs.WellFormed.{blank, sound, stands, message-stream}
+use Rattle.states.proofs.WellFormed.{well-formed, sound, unused-zero, stands, message-stream}
 use Rattle.choosing.specs.declared.Found.{Found}
 use Rattle.choosing.specs.declared.Found.the-variants.{IllFormed as NotFormed, Nothing as Nowhere, At}
 use Rattle.choosing.specs.Found.{foundOf}
-use Rattle.choosing.proofs.Looking.{serves}
+use Rattle.choosing.proofs.Looking.{serves, place-count, place-lt}
 use Rattle.scheduler.specs.declared.Work.{Work}
 use Rattle.scheduler.specs.declared.Work.the-variants.{Refused as Refuse, Idle as Rest, Serve}
 use Rattle.scheduler.specs.Serving.{workOf, servedAnswer}
-use Rattle.scheduler.proofs.Ways.{place-count, place-lt, stream-lt, stream-is}
 
 -- ---- what is answered
 
@@ -51,46 +49,53 @@ module _ (task : ℕ) (m : Message) (now : ℕ) (done spent : Bool) where
 pub record Moving (from : State) (i : ℕ) (next : State) (k : ℕ) : Type 0 where
   pub set : next .set ≡ from .set
   pub clock : next .clock ≡ from .clock
-  pub count : next .count ≡ from .count
+  pub few : from .count ≤ 64
+  pub here : k < from .count
   pub long : length (next .messages) ≡ 64
   pub moved : remove noMessage k (next .messages) ≡ remove noMessage i (from .messages)
+  pub rest : (j : ℕ) → from .count ≤ j → messageAt next j ≡ noMessage
 
-pub moving-go : (from : State) (i : ℕ) (next : State) (k : ℕ) → Moving from i next k → k < 63
-    → Moving from i (record { set = next .set; clock = next .clock; count = next .count; messages = set (next .messages) k (getD (next .messages) (k + 1) noMessage) }) (k + 1)
+pub moving-go : (from : State) (i : ℕ) (next : State) (k : ℕ) → Moving from i next k → k < from .count - 1
+    → Moving from i (record { set = next .set; clock = next .clock; count = next .count; messages = set (next .messages) k (messageAt next (k + 1)) }) (k + 1)
 moving-go from i next k h q = record {
   set = h .set;
   clock = h .clock;
-  count = h .count;
+  few = h .few;
+  here = omega arith;
   long = simp length-set (h .long);
-  moved = remove-step noMessage k (next .messages) (omega (arith, h .long)) ∙ h .moved;
+  moved = remove-step noMessage k (next .messages) (omega (arith, h .long, h .few)) ∙ h .moved;
+  rest = λ j g. getD-set-other (next .messages) k j (messageAt next (k + 1)) noMessage (λ z. omega arith) ∙ h .rest j g;
 }
 
-pub moved-up : (from : State) (i : ℕ) (next : State) (k : ℕ) (a : UnitAnswer) → Moving from i next k → 63 ≡ k
-    → _≡_ {A = UnitResult} (record { answer = a; state = record { set = next .set; clock = next .clock; count = next .count - 1; messages = set (next .messages) 63 noMessage } })
+-- only zeros stand behind the last one
+pub moved-up : (from : State) (i : ℕ) (next : State) (k : ℕ) (a : UnitAnswer) → Moving from i next k → from .count - 1 ≤ k
+    → _≡_ {A = UnitResult} (record { answer = a; state = record { set = next .set; clock = next .clock; count = from .count - 1; messages = set (next .messages) (from .count - 1) noMessage } })
     (record { answer = a; state = record { set = from .set; clock = from .clock; count = from .count - 1; messages = remove noMessage i (from .messages) } })
-moved-up from i next k a h e =
-    let m : set (next .messages) 63 noMessage ≡ remove noMessage i (from .messages) =
-    sym (remove-last noMessage 63 (next .messages) (h .long)) ∙ (ap (λ (j : ℕ). remove noMessage j (next .messages)) e ∙ h .moved) in
-    rw (h .set, h .clock, h .count, m)
+moved-up from i next k a h q =
+    let e : k ≡ from .count - 1 = omega (arith, h .here) in
+    let m : set (next .messages) (from .count - 1) noMessage ≡ remove noMessage i (from .messages) =
+    rw (← e) (sym (remove-rest noMessage k (next .messages) (λ j g. h .rest j (omega arith))) ∙ h .moved) in
+    rw (h .set, h .clock, m)
 
-module _ (s : State) (i : ℕ) (done : Bool) (x : Stream) (e : x ≡ streamAt (s .set) (messageAt s i .stream)) (a : UnitAnswer) (q : a ≡ servedAnswer (x .task) (messageAt s i) (s .clock + 1) done (eqb (messageAt s i .used + 1) (x .cost))) where
+module _ (s : State) (i task cost : ℕ) (done : Bool) (e : task ≡ taskOf (s .set) (messageAt s i)) (e′ : cost ≡ costOf (s .set) (messageAt s i))
+    (a : UnitAnswer) (q : a ≡ servedAnswer task (messageAt s i) (s .clock + 1) done (eqb (messageAt s i .used + 1) cost)) where
   leaves-if : (d z : Bool) → done ≡ d → eqb (messageAt s i .used + 1) (costOf (s .set) (messageAt s i)) ≡ z → (d || z) ≡ true → answered (departed s i) a ≡ servedOf s i done
   unfolding servedOf servedAnswer
   leaves-if true z f g h = rw (q, e, f)
-  leaves-if false true f g h = rw (q, e, f, g)
+  leaves-if false true f g h = rw (q, e, e′, f, g)
   leaves-if false false f g h = absurd (false≢true h)
 
   stays-if : (d z : Bool) → done ≡ d → eqb (messageAt s i .used + 1) (costOf (s .set) (messageAt s i)) ≡ z → (d || z) ≡ false → answered (stayed s i) a ≡ servedOf s i done
   unfolding servedOf servedAnswer
   stays-if true z f g h = absurd (false≢true (sym h))
   stays-if false true f g h = absurd (false≢true (sym h))
-  stays-if false false f g h = rw (q, e, f, g)
+  stays-if false false f g h = rw (q, e, e′, f, g)
 
-  pub leaves : (done || eqb (messageAt s i .used + 1) (x .cost)) ≡ true → answered (departed s i) a ≡ servedOf s i done
-  leaves h = leaves-if done _ refl refl (rw e at h)
+  pub leaves : (done || eqb (messageAt s i .used + 1) cost) ≡ true → answered (departed s i) a ≡ servedOf s i done
+  leaves h = leaves-if done _ refl refl (rw e′ at h)
 
-  pub stays : (done || eqb (messageAt s i .used + 1) (x .cost)) ≡ false → answered (stayed s i) a ≡ servedOf s i done
-  stays h = stays-if done _ refl refl (rw e at h)
+  pub stays : (done || eqb (messageAt s i .used + 1) cost) ≡ false → answered (stayed s i) a ≡ servedOf s i done
+  stays h = stays-if done _ refl refl (rw e′ at h)
 
 -- ---- what a unit is to do
 
@@ -98,29 +103,29 @@ module _ (s : State) (i : ℕ) (done : Bool) (x : Stream) (e : x ≡ streamAt (s
 abbrev unitBy : Work → State → Bool → UnitResult
 unitBy (Refuse why) s done = answered s (UnitRefused why)
 unitBy Rest s done = answered (ticked s) Idle
-unitBy (Serve i) s done = servedOf s i done
+unitBy (Serve i task cost) s done = servedOf s i done
 
-unit-if : (s : State) (i : ℕ) (w z l d : Bool) → ltb (s .clock) lastClock ≡ l
-    → unitBy (workOf (cond w (cond z Nowhere (At i)) NotFormed) (s .clock) d) s d
+unit-if : (s : State) (i task cost : ℕ) (w z l d : Bool) → ltb (s .clock) lastClock ≡ l
+    → unitBy (workOf (cond w (cond z Nowhere (At i task cost)) NotFormed) (s .clock) d) s d
     ≡ cond w (cond (ltb (s .clock) lastClock) (cond z (emptyUnit s d) (servedOf s i d)) (answered s (UnitRefused LastClock))) (answered s (UnitRefused IllFormed))
 unfolding workOf emptyUnit
-unit-if s i false z l d e = refl
-unit-if s i true true true true e = rw e
-unit-if s i true true true false e = rw e
-unit-if s i true true false d e = rw e
-unit-if s i true false true d e = rw e
-unit-if s i true false false d e = rw e
+unit-if s i task cost false z l d e = refl
+unit-if s i task cost true true true true e = rw e
+unit-if s i task cost true true true false e = rw e
+unit-if s i task cost true true false d e = rw e
+unit-if s i task cost true false true d e = rw e
+unit-if s i task cost true false false d e = rw e
 
 module _ (s : State) (done : Bool) (f : Found) (w : Work) (e : f ≡ foundOf s) (q : w ≡ workOf f (s .clock) done) where
   pub unit-by : unitBy w s done ≡ unitOf s done
   unfolding foundOf unitOf
-  unit-by = rw (q, e) (unit-if s (placeOf s) (wellFormed s) (eqb (s .count) 0) _ done refl)
+  unit-by = rw (q, e) (unit-if s (placeOf s) _ _ (wellFormed s) (eqb (s .count) 0) _ done refl)
 
 -- what follows of what was found and of the clock
 abbrev Told : Work → Found → ℕ → Type 0
 Told (Refuse why) f clock = Unit {0}
 Told Rest f clock = clock < lastClock
-Told (Serve i) f clock = (clock < lastClock) × (f ≡ At i)
+Told (Serve i task cost) f clock = (clock < lastClock) × (f ≡ At i task cost)
 
 told-if : (f : Found) (clock : ℕ) (l d : Bool) → ltb clock lastClock ≡ l → Told (workOf f clock d) f clock
 unfolding workOf
@@ -128,33 +133,40 @@ told-if NotFormed clock l d e = tt
 told-if Nowhere clock true true e = rw e tt
 told-if Nowhere clock true false e = rw e (ltb-true clock lastClock e)
 told-if Nowhere clock false d e = rw e tt
-told-if (At i) clock true d e = rw e (ltb-true clock lastClock e, refl)
-told-if (At i) clock false d e = rw e tt
+told-if (At i task cost) clock true d e = rw e (ltb-true clock lastClock e, refl)
+told-if (At i task cost) clock false d e = rw e tt
 
 pub told : (w : Work) (f : Found) (clock : ℕ) (done : Bool) → w ≡ workOf f clock done → Told w f clock
 told w f clock done q = rw q (told-if f clock _ done refl)
 
 -- what a unit of the message at i relies on
-pub record Serving (s : State) (i : ℕ) : Type 0 where
+pub record Serving (s : State) (i t c : ℕ) : Type 0 where
   pub clock : s .clock < 4000000000
-  pub some : 0 < s .count
+  pub here : i < s .count
   pub place : i < 64
+  pub few : s .count ≤ 64
+  pub rest : (j : ℕ) → s .count ≤ j → messageAt s j ≡ noMessage
   pub long : length (s .messages) ≡ 64
-  pub stream : messageAt s i .stream < 16
-  pub read : getD (s .set .streams) (messageAt s i .stream) blank ≡ streamAt (s .set) (messageAt s i .stream)
   pub used : messageAt s i .used < 65535
+  pub task : t ≡ taskOf (s .set) (messageAt s i)
+  pub cost : c ≡ costOf (s .set) (messageAt s i)
 
-module _ (s : State) (done : Bool) (f : Found) (w : Work) (i : ℕ) (e : f ≡ foundOf s) (q : w ≡ workOf f (s .clock) done) (r : w ≡ Serve i) where
-  pub serving : length (s .messages) ≡ 64 → length (s .set .streams) ≡ 16 → Serving s i
+module _ (s : State) (done : Bool) (f : Found) (w : Work) (i t c : ℕ) (e : f ≡ foundOf s) (q : w ≡ workOf f (s .clock) done) (r : w ≡ Serve i t c) where
+  pub serving : length (s .messages) ≡ 64 → length (s .set .streams) ≡ 16 → Serving s i t c
   serving ms ss =
-      let at = told (Serve i) f (s .clock) done (sym r ∙ q) in
-      let h = serves s f e i (at .1) in
+      let at = told (Serve i t c) f (s .clock) done (sym r ∙ q) in
+      let h = serves s f e i t c (at .1) in
+      let formed = sound s (h .chosen .formed) in
+      let well = well-formed s (h .chosen .formed) in
+      let in-count = place-count s i (h .chosen) ms ss in
       record {
         clock = at .0;
-        some = omega (arith, place-count s i h ms ss);
-        place = place-lt s i h ms ss;
+        here = in-count;
+        place = place-lt s i (h .chosen) ms ss;
+        few = well .few;
+        rest = unused-zero s well;
         long = ms;
-        stream = stream-lt s i h ms ss;
-        read = stream-is s i h ms ss;
-        used = omega (arith, stands s (sound s (h .formed)) ms i (place-count s i h ms ss) .1 .used, message-stream s (sound s (h .formed)) ms i (place-count s i h ms ss) ss .cost .high);
+        used = omega (arith, stands s formed ms i in-count .1 .used, message-stream s formed ms i in-count ss .cost .high);
+        task = h .task;
+        cost = h .cost;
       }

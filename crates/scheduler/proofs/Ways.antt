@@ -1,4 +1,4 @@
--- The ways out of post and choose, as the code goes, and what is known of the message that is served.
+-- The ways out of post and choose, as the code goes.
 -- Assumes nothing.
 use Prim.Native.Nat.{ℕ, _+_, _≤_, _<_}
 use mathlib.Core.Bool.{true, false}
@@ -7,7 +7,6 @@ use native.Mathlib.Omega.{arith}
 use borrow.Author.Tests.{lt-ltb, le-ltb, eq-eqb, ne-eqb}
 use lib.ListN.{length, getD}
 use Rattle.laws.proofs.Parts.{getD-any}
-use Rattle.rules.specs.declared.Stream.{Stream}
 use Rattle.rules.specs.declared.State.{State}
 use Rattle.rules.specs.declared.Refusal.the-variants.{NoStream, Full, IllFormed}
 use Rattle.rules.specs.declared.PostResult.{PostResult}
@@ -17,8 +16,7 @@ use Rattle.rules.specs.Streams.{streamAt, noStream}
 use Rattle.rules.specs.States.{wellFormed}
 use Rattle.rules.specs.Steps.{added, postRefused, postOf, messageAt, chooseOf}
 use Rattle.rules.proofs.Valid.{valid-set}
-use Rattle.states.proofs.WellFormed.{blank, well-formed, sound, stream-valid, stream-place, stream-read}
-use Rattle.choosing.proofs.Choice.{place-in}
+use Rattle.states.proofs.WellFormed.{blank, well-formed, stream-valid}
 use Rattle.choosing.proofs.Looking.{Serves, Rests}
 
 -- ---- post
@@ -53,21 +51,6 @@ module _ (s : State) (k : ℕ) where
         unfolding postOf
         posted g = rw (read, w, lt-ltb _ _ h, lt-ltb _ _ g)
 
--- ---- the message that is served
-
-module _ (s : State) (i : ℕ) (h : Serves s i) (ms : length (s .messages) ≡ 64) (ss : length (s .set .streams) ≡ 16) where
-  pub place-count : i < s .count
-  place-count = rw (h .place) (place-in s (h .formed) ms ss (h .some))
-
-  pub place-lt : i < 64
-  place-lt = omega (arith, place-count, well-formed s (h .formed) .few)
-
-  pub stream-lt : messageAt s i .stream < 16
-  stream-lt = stream-place s (sound s (h .formed)) ms i place-count
-
-  pub stream-is : getD (s .set .streams) (messageAt s i .stream) blank ≡ streamAt (s .set) (messageAt s i .stream)
-  stream-is = stream-read s (sound s (h .formed)) ms i place-count ss
-
 -- ---- choose
 
 module _ (s : State) where
@@ -79,6 +62,6 @@ module _ (s : State) where
   unfolding chooseOf
   choose-none h = rw (h .formed, eq-eqb _ _ (h .none))
 
-  pub choose-one : (i : ℕ) (x : Stream) → Serves s i → x ≡ streamAt (s .set) (messageAt s i .stream) → Runs (x .task) (messageAt s i .stream) ≡ chooseOf s
+  pub choose-one : (i t c : ℕ) → Serves s i t c → Runs t (messageAt s i .stream) ≡ chooseOf s
   unfolding chooseOf
-  choose-one i x h e = rw (e, h .formed, ne-eqb _ _ (h .some), h .place)
+  choose-one i t c h = rw (h .task, h .chosen .formed, ne-eqb _ _ (h .chosen .some), h .chosen .place)

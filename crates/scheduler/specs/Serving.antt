@@ -18,7 +18,7 @@ use Rattle.scheduler.specs.declared.Work.the-variants.{Refused, Idle, Se
 unfoldable pub workOf : Found → ℕ → Bool → Work
 workOf NotFormed clock done = Refused IllFormed
 workOf Nothing clock done = cond (ltb clock lastClock) (cond done (Refused NothingPending) Idle) (Refused LastClock)
-workOf (At i) clock done = cond (ltb clock lastClock) (Serve i) (Refused LastClock)
+workOf (At i task cost) clock done = cond (ltb clock lastClock) (Serve i task cost) (Refused LastClock)
 
 -- "If done, it leaves as finished. If not done and its used units now equal c, it leaves as cut. Otherwise it stays as ran.
 -- .. Each answer names task and stream; a leaving one also has the laxity": spent where its used units now equal c

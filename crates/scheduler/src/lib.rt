@@ -93,23 +93,20 @@ pub fn choose(s: State) -> ChooseAnswer
     match found {
         Found::IllFormed => ChooseAnswer::Refused(Refusal::IllFormed),
         Found::Nothing => ChooseAnswer::Nothing,
-        Found::At(i) => {
-            let set = s.set;
+        Found::At(i, task, _) => {
             let m = s.messages[i];
-            let k = m.stream;
-            let x = set.streams[k];
-            ChooseAnswer::Runs(x.task, k)
+            ChooseAnswer::Runs(task, m.stream)
         }
     }
 }
 
 // ---- unit
 
-// What a unit is to do: it is refused, only the clock moves, or the message at a place is served.
+// What a unit is to do: it is refused, only the clock moves, or the message at a place is served, of a task and with a cost c.
 enum Work {
     Refused(Refusal),
     Idle,
-    Serve(usize),
+    Serve(usize, usize, u32),
 }
 
 // In the order 12, 3, 4.
@@ -127,9 +124,9 @@ fn decide(found: Found, clock: u32, done: bool) -> Work
             }
             Work::Idle
         }
-        Found::At(i) => {
+        Found::At(i, task, cost) => {
             if clock < 4000000000 {
-                return Work::Serve(i);
+                return Work::Serve(i, task, cost);
             }
             Work::Refused(Refusal::LastClock)
         }
@@ -158,7 +155,7 @@ fn served(task: usize, m: Message, now: u32, done: bool, spent: bool) -> UnitAns
     UnitAnswer::Ran(task, m.stream)
 }
 
-// A unit of running. Where the message leaves, those behind it move up, in their order, and the last place is zero.
+// A unit of running. Where the message leaves, those behind it move up, in their order, and the place of the last is zero.
 pub fn unit(s: State, done: bool) -> UnitResult
     ensures { λ r. ⌜ r ≡ unitOf s done ⌝ }
 {
@@ -173,23 +170,21 @@ pub fn unit(s: State, done: bool) -> UnitResult
         Work::Idle => {
             next.clock = next.clock + 1;
         }
-        Work::Serve(i) => {
-            let set = next.set;
+        Work::Serve(i, task, cost) => {
             let mut m = next.messages[i];
-            let j = m.stream;
-            let x = set.streams[j];
-            let spent = m.used + 1 == x.cost;
+            let spent = m.used + 1 == cost;
             next.clock = next.clock + 1;
-            a = served(x.task, m, next.clock, done, spent);
+            a = served(task, m, next.clock, done, spent);
             if done | spent {
+                let end = next.count - 1;
                 let mut k = i;
-                while k < 63 {
+                while k < end {
                     let behind = next.messages[k + 1];
                     next.messages[k] = behind;
                     k = k + 1;
                 }
-                next.messages[63] = states::no_message();
-                next.count = next.count - 1;
+                next.messages[end] = states::no_message();
+                next.count = end;
             } else {
                 m.used = m.used + 1;
                 next.messages[i] = m;

@@ -2,17 +2,19 @@
 -- Assumes nothing.
 use Prim.Native.Nat.{ℕ, _+_, _-_, _≤_, _<_}
 use mathlib.Core.Bool.{Bool, true, false, false≢true}
-use mathlib.Core.List.{[]}
+use mathlib.Core.List.{[], _∷_}
 use mathlib.Core.Path.{_≡_, refl, sym, _∙_}
 use native.Mathlib.Omega.{arith}
-use borrow.Author.Tests.{leb-true, le-leb}
+use borrow.Author.Tests.{leb-true, le-leb, eqb-true}
+use lib.Dec.{eqb}
 use lib.ListN.{length, getD, take, drop}
-use lib.Seq.{getD-take, length-take-le}
+use lib.Seq.{getD-take, getD-drop, length-take-le}
 use Rattle.laws.specs.Lists.{below, all}
-use Rattle.laws.proofs.Parts.{every-at, scan-at, getD-any}
+use Rattle.laws.proofs.Parts.{every-at, all-any, scan-at, getD-any}
 use Rattle.laws.proofs.Sums.{all-take-at, by-test}
 use Rattle.rules.specs.declared.Set.{Set}
 use Rattle.rules.specs.declared.Stream.{Stream}
+use Rattle.rules.specs.declared.Message.{Message}
 use Rattle.rules.specs.declared.State.{State}
 use Rattle.rules.specs.Streams.{streamAt, noStream, valid}
 use Rattle.rules.specs.States.{noMessage, pending, taskOf, postedAt, messageOk, messagesOk, startedOnce, messageUnused, lastClock, stateTests, wellFormed}
@@ -45,6 +47,21 @@ well-formed-back s h = rw (h .set, le-leb (s .count) 64 (h .few), le-leb (s .clo
 
 pub sound : (s : State) → wellFormed s ≡ true → Sound s
 sound s e = let h = well-formed s e in record { set = h .set; few = h .few; each = h .each }
+
+-- the places behind the messages
+pub unused-zero : (s : State) → WellFormed s → (j : ℕ) → s .count ≤ j → messageAt s j ≡ noMessage
+unfolding messageUnused
+unused-zero s h j q =
+    let place : s .count + (j - s .count) ≡ j = omega arith in
+    zero-message (messageAt s j)
+    (rw (getD-drop (s .count) (s .messages) (j - s .count) noMessage, place) at (all-any messageUnused (drop (s .count) (s .messages)) (j - s .count) noMessage refl (h .unused)))
+  where
+    zero-message : (m : Message) → messageUnused m ≡ true → m ≡ noMessage
+    zero-message m e =
+        let t = every-at (eqb (m .stream) 0 ∷ eqb (m .deadline) 0 ∷ eqb (m .used) 0 ∷ []) in
+        let all-zero : _≡_ {A = Message} (record { stream = m .stream; deadline = m .deadline; used = m .used }) noMessage =
+        rw (eqb-true (m .stream) 0 (t 0 e), eqb-true (m .deadline) 0 (t 1 e), eqb-true (m .used) 0 (t 2 e)) in
+        all-zero
 
 -- a stream of a valid set
 pub stream-valid : (x : Set) (k : ℕ) → valid x ≡ true → length (x .streams) ≡ 16 → k < x .count → ValidStream (streamAt x k)

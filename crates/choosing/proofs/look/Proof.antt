@@ -1,7 +1,7 @@
 -- `choosing::look` meets its contract. The tables hold what the messages behind k say. Assumes nothing.
 use native.Mathlib.Omega.{arith}
 use borrow.Author.Needs.{needs}
-use borrow.Author.Tests.{eq-eqb, ne-eqb, not-true, not-false}
+use borrow.Author.Tests.{eq-eqb, not-true, not-false}
 use Prim.Native.Nat.{_+_, _-_}
 use mathlib.Core.Bool.{true}
 use mathlib.Core.Logic.{⊎-elim}
@@ -11,6 +11,7 @@ use Rattle.rules.specs.States.{wellFormed}
 use Rattle.choosing.specs.Found.{foundOf}
 use Rattle.choosing.proofs.Filling.{Filled, filled-start, filled-go, message-in, stream-in, task-in, due-now, due-later, started-now, started-later}
 use Rattle.choosing.proofs.Places.{place-started, place-due}
+use Rattle.choosing.proofs.Looking.{Chosen, place-lt, stream-lt, found}
 use Rattle.choosing.proofs.look.Statement.{statement}
 use Rattle.choosing.proofs.look.Tie as tie
 
@@ -138,31 +139,57 @@ loop-again-2 c =
 least-task-requires : tie.Need-least-task-requires Inv-loop μ-loop
 least-task-requires c κs = search needs
 
-mul-going : tie.Need-mul-going Inv-loop μ-loop
-mul-going c = search needs
+mul-place : tie.Need-mul-place Inv-loop μ-loop
+mul-place c = search needs
 
-array-read-going : tie.Need-array-read-going Inv-loop μ-loop
-array-read-going c = search needs
+array-read-place : tie.Need-array-read-place Inv-loop μ-loop
+array-read-place c = search needs
+
+mul-place-2 : tie.Need-mul-place-2 Inv-loop μ-loop
+mul-place-2 c = search needs
+
+array-read-place-2 : tie.Need-array-read-place-2 Inv-loop μ-loop
+array-read-place-2 c = search needs
+
+-- the place is that of the choice
+chosen : (c : tie.Joined5 Inv-loop μ-loop) → Chosen (c .before .before .before .before .before .before .before .before .args .t1) (c .if5 .place)
+chosen c =
+    let least = c .before .least-task in
+    let loop = c .before .before .before .loop in
+    let end = c .before .before .loop-test .left in
+    record {
+      formed = loop .inv .formed;
+      some = c .before .before .before .before .before .if2 .left;
+      place = ⊎-elim
+          (λ w. w .1 ∙ place-due _ (loop .inv) end (least .ensures .1) (least .ensures .0) (w .0 .taken))
+          (λ w. w .1 ∙ place-started _ (loop .inv) end (least .ensures .1) (least .ensures .0) (w .0 .left))
+          (c .if5 .came);
+    }
+
+mul-m-2 : tie.Need-mul-m-2 Inv-loop μ-loop
+mul-m-2 c =
+    let inv = c .before .before .before .before .loop .inv in
+    omega (arith, place-lt _ _ (chosen (c .before)) (inv .places) (inv .streams))
+
+element-copy-out-m-2 : tie.Need-element-copy-out-m-2 Inv-loop μ-loop
+element-copy-out-m-2 c =
+    let inv = c .before .before .before .before .loop .inv in
+    place-lt _ _ (chosen (c .before)) (inv .places) (inv .streams)
+
+mul-x-2 : tie.Need-mul-x-2 Inv-loop μ-loop
+mul-x-2 c =
+    let inv = c .before .before .before .before .before .loop .inv in
+    omega (arith, stream-lt _ _ (chosen (c .before .before)) (inv .places) (inv .streams))
+
+array-copy-out-x-2 : tie.Need-array-copy-out-x-2 Inv-loop μ-loop
+array-copy-out-x-2 c =
+    let inv = c .before .before .before .before .before .loop .inv in
+    stream-lt _ _ (chosen (c .before .before)) (inv .places) (inv .streams)
 
 returns-3 : tie.Need-returns-3 Inv-loop μ-loop
-unfolding foundOf
 returns-3 c =
-    let found = c .before .least-task in
-    let loop = c .before .before .before .loop in
-    simp (loop .inv .formed, ne-eqb _ _ (c .before .before .before .before .before .if2 .left), place-started _ (loop .inv) (c .before .before .loop-test .left) (found .ensures .1) (found .ensures .0) (c .if5 .taken))
-
-mul-first : tie.Need-mul-first Inv-loop μ-loop
-mul-first c = search needs
-
-array-read-first : tie.Need-array-read-first Inv-loop μ-loop
-array-read-first c = search needs
-
-returns-4 : tie.Need-returns-4 Inv-loop μ-loop
-unfolding foundOf
-returns-4 c =
-    let found = c .before .least-task in
-    let loop = c .before .before .before .loop in
-    simp (loop .inv .formed, ne-eqb _ _ (c .before .before .before .before .before .if2 .left), place-due _ (loop .inv) (c .before .before .loop-test .left) (found .ensures .1) (found .ensures .0) (c .if5 .left))
+    let inv = c .before .before .before .before .before .before .loop .inv in
+    found _ _ (chosen (c .before .before .before)) (inv .places) (inv .streams)
 
 pub look-spec : {M : Type 1} → statement M
 look-spec =
@@ -193,9 +220,12 @@ look-spec =
     loop-less-2
     loop-again-2
     least-task-requires
-    mul-going
-    array-read-going
-    returns-3
-    mul-first
-    array-read-first
-    returns-4)
+    mul-place
+    array-read-place
+    mul-place-2
+    array-read-place-2
+    mul-m-2
+    element-copy-out-m-2
+    mul-x-2
+    array-copy-out-x-2
+    returns-3)

@@ -1,7 +1,7 @@
 -- `scheduler::unit` meets its contract. While messages move up, taking k out of what there is comes to the same as taking i out of what there was. Assumes nothing.
 use native.Mathlib.Omega.{arith}
 use borrow.Author.Needs.{needs}
-use Prim.Native.Nat.{_-_, _≤_}
+use Prim.Native.Nat.{_-_}
 use mathlib.Core.Path.{_≡_, refl, sym, _∙_}
 use Rattle.laws.proofs.Parts.{sized}
 use Rattle.rules.specs.Steps.{servedOf, unitOf}
@@ -10,16 +10,16 @@ use Rattle.scheduler.proofs.unit.Statement.{statement}
 use Rattle.scheduler.proofs.unit.Tie as tie
 
 abbrev Inv-loop : tie.InvT-loop
-Inv-loop done next₀ a i j spent k₀ next k = (k ≤ 63) × Moving next₀ i next k
+Inv-loop done next₀ a i task cost spent end k₀ next k = Moving next₀ i next k
 
 abbrev μ-loop : tie.MeasureT-loop
-μ-loop done next₀ a i j spent k₀ next k = 63 - k
+μ-loop done next₀ a i task cost spent end k₀ next k = end - k
 
 -- where a message is served: what that relies on, and that it is the unit
-facts : (c : tie.After-what2 Inv-loop μ-loop) → Serving (c .before .before .before .before .args .s) (c .what2 .given .0 .0)
+facts : (c : tie.After-what2 Inv-loop μ-loop) → Serving (c .before .before .before .before .args .s) (c .what2 .given .0 .0) (c .what2 .given .0 .1 .0) (c .what2 .given .0 .1 .1 .0)
 facts c =
     let start = c .before .before .before .before in
-    serving (start .args .s) (start .args .done) (c .before .before .before .look .result) (c .before .before .decide .result) _ (c .before .before .before .look .ensures) (c .before .before .decide .ensures) (c .what2 .given .1) (sized _ (start .args .s .messages) 64 (start .good .0 .1 .1 .1 .1 .1 .0 .1 .0 .1)) (sized _ (start .args .s .set .streams) 16 (start .good .0 .1 .1 .0 .1 .1 .1 .0 .1 .0 .1))
+    serving (start .args .s) (start .args .done) (c .before .before .before .look .result) (c .before .before .decide .result) _ _ _ (c .before .before .before .look .ensures) (c .before .before .decide .ensures) (c .what2 .given .1) (sized _ (start .args .s .messages) 64 (start .good .0 .1 .1 .1 .1 .1 .0 .1 .0 .1)) (sized _ (start .args .s .set .streams) 16 (start .good .0 .1 .1 .0 .1 .1 .1 .0 .1 .0 .1))
 
 serves : (c : tie.After-what2 Inv-loop μ-loop) → servedOf (c .before .before .before .before .args .s) (c .what2 .given .0 .0) (c .before .before .before .before .args .done) ≡ unitOf (c .before .before .before .before .args .s) (c .before .before .before .before .args .done)
 serves c = unit-by _ _ _ _ (c .before .before .before .look .ensures) (sym (c .what2 .given .1) ∙ c .before .before .decide .ensures)
@@ -43,48 +43,45 @@ enum-known-what-2 : tie.Need-enum-known-what-2 Inv-loop μ-loop
 enum-known-what-2 c = search needs
 
 mul-m : tie.Need-mul-m Inv-loop μ-loop
-mul-m c = omega (arith, facts (c .before .before) .place)
+mul-m c = omega (arith, facts (c .before) .place)
 
 element-copy-out-m : tie.Need-element-copy-out-m Inv-loop μ-loop
-element-copy-out-m c = facts (c .before .before) .place
-
-mul-x : tie.Need-mul-x Inv-loop μ-loop
-mul-x c = omega (arith, facts (c .before .before .before) .stream)
-
-element-copy-out-x : tie.Need-element-copy-out-x Inv-loop μ-loop
-element-copy-out-x c = facts (c .before .before .before) .stream
+element-copy-out-m c = facts (c .before) .place
 
 add-spent : tie.Need-add-spent Inv-loop μ-loop
-add-spent c = omega (arith, facts (c .before .before .before .before .before) .used)
+add-spent c = omega (arith, facts (c .before .before .before) .used)
 
 add-next-2 : tie.Need-add-next-2 Inv-loop μ-loop
-add-next-2 c = omega (arith, facts (c .before .before .before .before .before .before) .clock)
+add-next-2 c = omega (arith, facts (c .before .before .before) .clock)
 
 served-requires : tie.Need-served-requires Inv-loop μ-loop
 served-requires c κs = search needs
 
+sub-end : tie.Need-sub-end Inv-loop μ-loop
+sub-end c = omega (arith, facts (c .before .before .before .before .before) .here)
+
 loop-holds : tie.Need-loop-holds Inv-loop μ-loop
 loop-holds c =
-    let h = facts (c .before .before .before .before .before .before .before .before) in
-    (omega (arith, h .place), record { set = refl; clock = refl; count = refl; long = h .long; moved = refl })
+    let h = facts (c .before .before .before .before .before) in
+    record { set = refl; clock = refl; few = h .few; here = h .here; long = h .long; moved = refl; rest = h .rest }
 
 add-behind : tie.Need-add-behind Inv-loop μ-loop
-add-behind c = search needs
+add-behind c = omega (arith, c .before .loop .inv .here, c .before .loop .inv .few)
 
 mul-behind : tie.Need-mul-behind Inv-loop μ-loop
-mul-behind c = search needs
+mul-behind c = omega (arith, c .loop-test .taken, c .before .loop .inv .few)
 
 element-copy-out-behind : tie.Need-element-copy-out-behind Inv-loop μ-loop
-element-copy-out-behind c = search needs
+element-copy-out-behind c = omega (arith, c .loop-test .taken, c .before .loop .inv .few)
 
 mul-behind-2 : tie.Need-mul-behind-2 Inv-loop μ-loop
-mul-behind-2 c = search needs
+mul-behind-2 c = omega (arith, c .before .before .loop .inv .here, c .before .before .loop .inv .few)
 
 element-set-from-behind : tie.Need-element-set-from-behind Inv-loop μ-loop
-element-set-from-behind c = search needs
+element-set-from-behind c = omega (arith, c .before .before .loop .inv .here, c .before .before .loop .inv .few)
 
 add-k : tie.Need-add-k Inv-loop μ-loop
-add-k c = search needs
+add-k c = omega (arith, c .before .before .loop .inv .here, c .before .before .loop .inv .few)
 
 loop-less : tie.Need-loop-less Inv-loop μ-loop
 loop-less c = search needs
@@ -92,25 +89,25 @@ loop-less c = search needs
 loop-again : tie.Need-loop-again Inv-loop μ-loop
 loop-again c =
     let loop = c .before .before .loop in
-    (omega arith, moving-go _ _ _ _ (loop .inv .1) (c .before .loop-test .taken))
+    moving-go _ _ _ _ (loop .inv) (c .before .loop-test .taken)
 
 no-message-requires : tie.Need-no-message-requires Inv-loop μ-loop
 no-message-requires c κs = search needs
 
-element-set-from-next : tie.Need-element-set-from-next Inv-loop μ-loop
-element-set-from-next c = search needs
+mul-t26 : tie.Need-mul-t26 Inv-loop μ-loop
+mul-t26 c = omega (arith, c .before .before .loop .inv .few)
 
-sub-next : tie.Need-sub-next Inv-loop μ-loop
-sub-next c = omega (arith, facts (c .before .before .before .before .before .before .before .before .before .before .before) .some, c .before .before .loop .inv .1 .count)
+element-set-from-next : tie.Need-element-set-from-next Inv-loop μ-loop
+element-set-from-next c = omega (arith, c .before .before .loop .inv .few)
 
 add-m : tie.Need-add-m Inv-loop μ-loop
-add-m c = omega (arith, facts (c .before .before .before .before .before .before .before .before .before) .used)
+add-m c = omega (arith, facts (c .before .before .before .before .before .before) .used)
 
 mul-m-2 : tie.Need-mul-m-2 Inv-loop μ-loop
-mul-m-2 c = omega (arith, facts (c .before .before .before .before .before .before .before .before .before) .place)
+mul-m-2 c = omega (arith, facts (c .before .before .before .before .before .before) .place)
 
 element-set-from-m : tie.Need-element-set-from-m Inv-loop μ-loop
-element-set-from-m c = facts (c .before .before .before .before .before .before .before .before .before) .place
+element-set-from-m c = facts (c .before .before .before .before .before .before) .place
 
 returns : tie.Need-returns Inv-loop μ-loop
 returns c = unit-by _ _ _ _ (c .before .before .before .before .look .ensures) (sym (c .before .what .given .1) ∙ c .before .before .before .decide .ensures)
@@ -122,14 +119,14 @@ returns-3 : tie.Need-returns-3 Inv-loop μ-loop
 returns-3 c =
     let into = c .before .before .before in
     let loop = c .before .before .loop in
-    let what = into .before .before .before .before .before .before .before .before in
-    rw (c .no-message .ensures) (moved-up _ _ _ _ _ (loop .inv .1) (omega (arith, c .before .loop-test .left, loop .inv .0)))
-    ∙ leaves _ _ _ _ (facts what .read) _ (into .before .served .ensures) (into .if1 .taken) ∙ serves what
+    let what = into .before .before .before .before .before in
+    rw (c .no-message .ensures) (moved-up _ _ _ _ _ (loop .inv) (c .before .loop-test .left))
+    ∙ leaves _ _ _ _ _ (facts what .task) (facts what .cost) _ (into .before .served .ensures) (into .if1 .taken) ∙ serves what
 
 returns-4 : tie.Need-returns-4 Inv-loop μ-loop
 returns-4 c =
-    let what = c .before .before .before .before .before .before .before .before .before in
-    stays _ _ _ _ (facts what .read) _ (c .before .before .served .ensures) (c .before .if1 .left) ∙ serves what
+    let what = c .before .before .before .before .before .before in
+    stays _ _ _ _ _ (facts what .task) (facts what .cost) _ (c .before .before .served .ensures) (c .before .if1 .left) ∙ serves what
 
 pub unit-spec : {M : Type 1} → statement M
 unit-spec =
@@ -145,11 +142,10 @@ unit-spec =
     enum-known-what-2
     mul-m
     element-copy-out-m
-    mul-x
-    element-copy-out-x
     add-spent
     add-next-2
     served-requires
+    sub-end
     loop-holds
     add-behind
     mul-behind
@@ -160,8 +156,8 @@ unit-spec =
     loop-less
     loop-again
     no-message-requires
+    mul-t26
     element-set-from-next
-    sub-next
     add-m
     mul-m-2
     element-set-from-m
