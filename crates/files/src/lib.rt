@@ -12,7 +12,7 @@ pub fn say(l: Line) -> bool {
 }
 
 // The sheet in the file set.bin; a missing file is read as no bytes. No sheet has more than 378 bytes, so of a longer file 379
-// tell all: either a field among the first 378 is refused, or the 379th is a further byte, and so it is for the whole file.
+// tell all: `long-sheet` of crates/writing.
 pub fn read_sheet() -> ReadResult {
     let mut bytes = [0u8; 379];
     let fd = os::open_read(b"set.bin");
