@@ -269,11 +269,12 @@ fn settled(s: Stage) -> Stage
     ensures { λ r. ⌜ r ≡ settledOf s ⌝ }
 {
     let f = s.field;
-    if is_whole(f) {
-        let head = s.head;
-        opened(head.streams)
-    } else {
-        s
+    match f {
+        Field::Whole => {
+            let head = s.head;
+            opened(head.streams)
+        }
+        _ => s,
     }
 }
 

@@ -1,31 +1,62 @@
-use native.Mathlib.Omega.{arith}
+-- `stages::settled` meets its contract. Assumes nothing.
 use borrow.Author.Needs.{needs}
-use Rattle.sheet.specs.Reader.{settledOf, openedOf}
-use mathlib.Core.Path.{sym, ap, ap₂, _∙_}
+use native.Mathlib.Omega.{arith}
+use mathlib.Core.Bool.{false}
+use mathlib.Core.Logic.{inl, inr}
+use mathlib.Core.List.{List, [], _∷_}
+use mathlib.Core.Path.{_≡_, refl, sym}
+use Prim.Native.Nat.{ℕ}
+use types.Run.{OneOf}
+use denote.Enum.Declared.{tagOf}
+use Rattle.sheet.proofs.Field as field
+use Rattle.sheet.specs.declared.Field.{Field}
+use Rattle.sheet.specs.declared.Field.the-variants.{Version, Count, Task, Cost, Deadline, Tuples, Cycle, Offset, Whole, Padding, Stopped}
+use Rattle.sheet.specs.Reader.{isWhole, settledOf}
 use Rattle.sheet.proofs.stages.settled.Statement.{statement}
 use Rattle.sheet.proofs.stages.settled.Tie as tie
-use Rattle.sheet.proofs.stages.settled.Reads as reads
-use Rattle.sheet.proofs.stages.settled.Lts as lts
-use Rattle.sheet.proofs.stages.is_whole.Reads as is-whole-reads
-use Rattle.sheet.proofs.stages.opened.Reads as opened-reads
 
--- src/lib.rt:319:8
-is-whole-requires : tie.Need-is-whole-requires
-is-whole-requires c κs = search needs
+-- the fields but `Whole`, by their numbers
+abbrev others : List ℕ
+others = 0 ∷ 1 ∷ 2 ∷ 3 ∷ 4 ∷ 5 ∷ 6 ∷ 7 ∷ 9 ∷ 10 ∷ []
 
--- src/lib.rt:321:9
+not-eight : OneOf others 8 → ⊥
+not-eight (inl e) = let q : _≡_ {A = ℕ} 8 0 = e in omega arith
+not-eight (inr (inl e)) = let q : _≡_ {A = ℕ} 8 1 = e in omega arith
+not-eight (inr (inr (inl e))) = let q : _≡_ {A = ℕ} 8 2 = e in omega arith
+not-eight (inr (inr (inr (inl e)))) = let q : _≡_ {A = ℕ} 8 3 = e in omega arith
+not-eight (inr (inr (inr (inr (inl e))))) = let q : _≡_ {A = ℕ} 8 4 = e in omega arith
+not-eight (inr (inr (inr (inr (inr (inl e)))))) = let q : _≡_ {A = ℕ} 8 5 = e in omega arith
+not-eight (inr (inr (inr (inr (inr (inr (inl e))))))) = let q : _≡_ {A = ℕ} 8 6 = e in omega arith
+not-eight (inr (inr (inr (inr (inr (inr (inr (inl e)))))))) = let q : _≡_ {A = ℕ} 8 7 = e in omega arith
+not-eight (inr (inr (inr (inr (inr (inr (inr (inr (inl e))))))))) = let q : _≡_ {A = ℕ} 8 9 = e in omega arith
+not-eight (inr (inr (inr (inr (inr (inr (inr (inr (inr e))))))))) = let q : _≡_ {A = ℕ} 8 10 = e in omega arith
+
+not-whole : (f : Field) → OneOf others (tagOf field.the-type f) → isWhole f ≡ false
+not-whole Version k = refl
+not-whole Count k = refl
+not-whole Task k = refl
+not-whole Cost k = refl
+not-whole Deadline k = refl
+not-whole Tuples k = refl
+not-whole Cycle k = refl
+not-whole Offset k = refl
+not-whole Whole k = absurd (not-eight k)
+not-whole Padding k = refl
+not-whole (Stopped why) k = refl
+
+enum-told : tie.Need-enum-told
+enum-told c = search needs
+
 opened-requires : tie.Need-opened-requires
 opened-requires c κs = search needs
 
--- src/lib.rt:315:1
 returns : tie.Need-returns
 unfolding settledOf
-returns c = c .opened .ensures ∙ sym (simp (sym (c .before .before .before .is-whole .ensures) ∙ c .before .before .if1 .taken))
+returns c = rw (c .before .before .enum-told .given .1) (c .opened .ensures)
 
--- src/lib.rt:315:1
 returns-2 : tie.Need-returns-2
 unfolding settledOf
-returns-2 c = sym (simp (sym (c .before .is-whole .ensures) ∙ c .if1 .left))
+returns-2 c = rw (not-whole (c .before .args .s .field) (c .match .keys2)) refl
 
 pub settled-spec : {M : Type 1} → statement M
-settled-spec = tie.close (tie.spec is-whole-requires opened-requires returns returns-2)
+settled-spec = tie.close (tie.spec enum-told opened-requires returns returns-2)
