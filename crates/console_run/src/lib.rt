@@ -1,6 +1,6 @@
 // The console's reading and writing: lines are put together from the bytes that come, each is obeyed, and what is printed is written
 // out.
-use desk::Desk;
+use held::Desk;
 use libc::STDIN_FILENO;
 use libc::STDOUT_FILENO;
 
@@ -26,9 +26,9 @@ fn flush(c: Carry, out: &[u8]) -> Carry {
 // The line that has come, obeyed. No command fills more than 16,384 bytes of the page.
 fn end_line(c: Carry, line: &[u8], out: &mut [u8]) -> Carry {
     let n = page::within(c.len, line);
-    let held = c.desk;
+    let before = c.desk;
     let live = c.live;
-    let s = desk::obey(held, &line[..n], out, c.at);
+    let s = desk::obey(before, &line[..n], out, c.at);
     let after = s.desk;
     let next = Carry {
         desk: after,
@@ -95,11 +95,9 @@ fn serve(first: Carry, line: &mut [u8], out: &mut [u8]) {
 }
 
 pub fn run() {
-    let set = streams::empty_set();
-    let r = scheduler::start(set);
-    let state = r.state;
+    let desk = held::first();
     let first = Carry {
-        desk: Desk { set, state },
+        desk,
         len: 0,
         at: 0,
         live: true,

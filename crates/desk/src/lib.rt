@@ -1,92 +1,49 @@
-// The console's desk: what it holds, and what each command does to it and prints. Which command a line is, and what line an answer
-// prints, is decided by proved functions.
+// The console's desk: a line's command is obeyed, and its answer goes on the page. What a command leaves and answers is decided in
+// `held`, which command a line is in `orders`, and the words of an answer in `words`.
 ghost use mathlib.Core.Path.{_≡_};
 ghost use Prim.Native.Nat.{_+_, _*_, _≤_};
-ghost use lib.ListN.{length, drop};
+ghost use lib.ListN.{length, take, drop};
 ghost use Rattle.text.specs.Hex.{unhexed};
-ghost use Rattle.rules.specs.Sheet.{readOf};
-use rows::Kind;
+ghost use Rattle.desk.specs.Obeyed.{deskAfter};
+use held::Answer;
+use held::Desk;
+use held::Said;
 use rules::Message;
-use rules::ReadResult;
 use rules::Set;
 use rules::State;
-use rules::Tuple;
-use rules::TuplePlace;
 use text::Line;
 
-// What the console holds.
-pub struct Desk {
-    pub set: Set,
-    pub state: State,
-}
-
-// What it holds after a command, and where the page ends.
+// What the console holds after a command, and where the page ends.
 pub struct Step {
     pub desk: Desk,
     pub at: usize,
 }
 
-// ---- what is put into the set and the state
-
-fn put_stream(x: Set, i: usize, n: [u32; 5]) -> Set {
-    let mut next = x;
-    if i < 16 {
-        let mut s = next.streams[i];
-        s.task = n[1] as usize;
-        s.cost = n[2];
-        s.deadline = n[3];
-        s.count = n[4] as usize;
-        next.streams[i] = s;
-    }
-    next
-}
-
-fn put_tuple(x: Set, i: usize, j: usize, t: Tuple) -> Set {
-    let mut next = x;
-    if i < 16 {
-        if j < 4 {
-            let mut s = next.streams[i];
-            s.tuples[j] = TuplePlace { tuple: t };
-            next.streams[i] = s;
-        }
-    }
-    next
-}
-
-fn put_message(s: State, i: usize, stream: usize, deadline: u32, used: u32) -> State {
-    let mut next = s;
-    if i < 64 {
-        next.messages[i] = Message {
-            stream,
-            deadline,
-            used,
-        };
-    }
-    next
-}
-
-fn with_set(d: Desk, x: Set) -> Desk {
-    let mut next = d;
-    next.set = x;
-    next
-}
-
-fn with_state(d: Desk, s: State) -> Desk {
-    let mut next = d;
-    next.state = s;
-    next
-}
-
-// ---- what is printed
+// ---- an answer of one line
 
 fn said(w: &[u8]) -> Line {
     text::put(text::word(text::blank(), w), b'\n')
 }
 
-fn told(d: Desk, out: &mut [u8], at: usize, l: Line) -> Step {
-    let end = page::append(out, at, l);
-    Step { desk: d, at: end }
+fn line_of(s: Said) -> Line {
+    match s {
+        Said::Unknown => said(b"?"),
+        Said::Put => said(b"put"),
+        Said::Read(a, n) => words::read_line(a, n),
+        Said::Valid => said(b"valid"),
+        Said::Invalid => said(b"invalid"),
+        Said::Count(a) => words::count_line(a),
+        Said::Jitter(a) => words::jitter_line(a),
+        Said::Start(a) => words::start_line(a),
+        Said::Post(clock, a) => words::post_line(clock, a),
+        Said::Unit(clock, a) => words::unit_line(clock, a),
+        Said::Choose(a) => words::choose_line(a),
+        Said::Formed => said(b"well formed"),
+        Said::IllFormed => said(b"refused 12"),
+    }
 }
+
+// ---- the state
 
 fn message_line(i: usize, m: Message) -> Line {
     let front = text::two(text::blank(), b"message", i as u64, m.stream as u64);
@@ -132,28 +89,7 @@ fn state_onto(s: State, out: &mut [u8], at: usize) -> usize {
     messages_onto(s, out, b)
 }
 
-// ---- the commands
-
-// The sheet whose bytes stand in hex from byte 5 of the line on; `bytes` is room for them.
-fn sheet_of(line: &[u8], bytes: &mut [u8]) -> ReadResult
-    ensures { λ r. ⌜ (length (now (line .entry)) ≤ 5 + 2 * length (now (bytes .entry)) → r ≡ readOf (unhexed (drop 5 (now (line .entry))))) ⌝ }
-{
-    if line.len() < 5 {
-        return sheet::read(b"");
-    }
-    let n = hexes::unhex(&line[5..], bytes);
-    sheet::read(&bytes[..n])
-}
-
-// A line has at most 4,091 hex digits.
-fn read_sheet(d: Desk, line: &[u8], out: &mut [u8], at: usize) -> Step {
-    let mut bytes = [0u8; 2048];
-    let r = sheet_of(line, &mut bytes);
-    let answer = r.answer;
-    let set = r.set;
-    let count = set.count;
-    told(with_set(d, set), out, at, words::read_line(answer, count))
-}
+// ---- the set's sheet
 
 // The set's sheet in a buffer, and the whole buffer in hex.
 fn sheet_onto(x: Set, bytes: &mut [u8], out: &mut [u8], at: usize) -> usize {
@@ -171,166 +107,48 @@ fn sheet_within(x: Set, bytes: &mut [u8], n: usize, out: &mut [u8], at: usize) -
     sheet_onto(x, &mut bytes[..n], out, at)
 }
 
-fn write_sheet(d: Desk, len: u32, out: &mut [u8], at: usize) -> Step {
+fn write_onto(x: Set, len: u32, out: &mut [u8], at: usize) -> usize {
     let mut bytes = [170u8; 1024];
-    let set = d.set;
-    let end = sheet_within(set, &mut bytes, len as usize, out, at);
-    Step { desk: d, at: end }
+    sheet_within(x, &mut bytes, len as usize, out, at)
 }
 
-fn is_valid(d: Desk) -> Line {
-    let set = d.set;
-    if streams::is_valid(set) {
-        said(b"valid")
-    } else {
-        said(b"invalid")
-    }
-}
+// ---- every answer
 
-fn is_formed(d: Desk) -> Line {
-    let state = d.state;
-    if states::well_formed(state) {
-        said(b"well formed")
-    } else {
-        said(b"refused 12")
-    }
-}
-
-fn start(d: Desk, out: &mut [u8], at: usize) -> Step {
-    let set = d.set;
-    let r = scheduler::start(set);
-    let answer = r.answer;
-    let state = r.state;
-    told(with_state(d, state), out, at, words::start_line(answer))
-}
-
-fn post(d: Desk, k: u32, out: &mut [u8], at: usize) -> Step {
-    let s = d.state;
-    let clock = s.clock;
-    let r = scheduler::post(s, k as usize);
-    let answer = r.answer;
-    let state = r.state;
-    told(
-        with_state(d, state),
-        out,
-        at,
-        words::post_line(clock, answer),
-    )
-}
-
-fn unit(d: Desk, done: bool, out: &mut [u8], at: usize) -> Step {
-    let s = d.state;
-    let clock = s.clock;
-    let r = scheduler::unit(s, done);
-    let answer = r.answer;
-    let state = r.state;
-    told(
-        with_state(d, state),
-        out,
-        at,
-        words::unit_line(clock, answer),
-    )
-}
-
-fn with_clock(d: Desk, n: u32) -> Desk {
-    let mut s = d.state;
-    s.clock = n;
-    with_state(d, s)
-}
-
-fn with_pending(d: Desk, n: u32) -> Desk {
-    let mut s = d.state;
-    s.count = n as usize;
-    with_state(d, s)
-}
-
-// Commands on the state; any other is none.
-fn about_state(d: Desk, k: Kind, n: [u32; 5], out: &mut [u8], at: usize) -> Step {
-    let s = d.state;
-    match k {
-        Kind::Start => start(d, out, at),
-        Kind::Clock => told(with_clock(d, n[0]), out, at, said(b"put")),
-        Kind::Pending => told(with_pending(d, n[0]), out, at, said(b"put")),
-        Kind::Message => told(
-            with_state(d, put_message(s, n[0] as usize, n[1] as usize, n[2], n[3])),
-            out,
-            at,
-            said(b"put"),
-        ),
-        Kind::Post => post(d, n[0], out, at),
-        Kind::Unit => unit(d, false, out, at),
-        Kind::Done => unit(d, true, out, at),
-        Kind::Choose => told(d, out, at, words::choose_line(scheduler::choose(s))),
-        Kind::Status => {
-            let end = state_onto(s, out, at);
-            Step { desk: d, at: end }
-        }
-        Kind::Formed => told(d, out, at, is_formed(d)),
-        _ => told(d, out, at, said(b"?")),
-    }
-}
-
-// Commands on the set; any other is one on the state.
-fn about_set(d: Desk, k: Kind, n: [u32; 5], out: &mut [u8], at: usize) -> Step {
+fn tell(d: Desk, a: Answer, out: &mut [u8], at: usize) -> usize {
     let x = d.set;
-    match k {
-        Kind::Write => write_sheet(d, n[0], out, at),
-        Kind::Streams => {
-            let mut y = x;
-            y.count = n[0] as usize;
-            told(with_set(d, y), out, at, said(b"put"))
-        }
-        Kind::Stream => told(
-            with_set(d, put_stream(x, n[0] as usize, n)),
-            out,
-            at,
-            said(b"put"),
-        ),
-        Kind::Once => told(
-            with_set(
-                d,
-                put_tuple(x, n[0] as usize, n[1] as usize, Tuple::Once(n[2])),
-            ),
-            out,
-            at,
-            said(b"put"),
-        ),
-        Kind::Every => told(
-            with_set(
-                d,
-                put_tuple(x, n[0] as usize, n[1] as usize, Tuple::Every(n[2], n[3])),
-            ),
-            out,
-            at,
-            said(b"put"),
-        ),
-        Kind::Valid => told(d, out, at, is_valid(d)),
-        Kind::Limit => told(
-            d,
-            out,
-            at,
-            words::count_line(streams::event_limit(x, n[0] as usize, n[1])),
-        ),
-        Kind::Demand => told(d, out, at, words::count_line(load::demand(x, n[0]))),
-        Kind::Jitter => told(
-            d,
-            out,
-            at,
-            words::jitter_line(streams::jittered(n[0], n[1])),
-        ),
-        Kind::Verdict => told(d, out, at, words::verdict_line(load::verdict(x))),
-        _ => about_state(d, k, n, out, at),
+    let state = d.state;
+    match a {
+        Answer::Nothing => at,
+        Answer::Says(s) => page::append(out, at, line_of(s)),
+        Answer::Write(len) => write_onto(x, len, out, at),
+        Answer::Verdict => page::append(out, at, words::verdict_line(load::verdict(x))),
+        Answer::State => state_onto(state, out, at),
     }
 }
 
-// A line's command, obeyed.
-pub fn obey(d: Desk, line: &[u8], out: &mut [u8], at: usize) -> Step {
-    let o = orders::parse(line);
-    let k = o.kind;
-    let n = o.numbers;
-    match k {
-        Kind::Nothing => Step { desk: d, at },
-        Kind::Read => read_sheet(d, line, out, at),
-        _ => about_set(d, k, n, out, at),
+// The bytes that stand in hex from byte 5 of the line on, in the first places of a buffer, and how many they are.
+fn hex_behind(line: &[u8], bytes: &mut [u8]) -> usize
+    ensures { λ r. ⌜ r ≤ length (now (bytes .exit)) ⌝ }
+    ensures { λ r. ⌜ (length (now (line .entry)) ≤ 5 + 2 * length (now (bytes .entry)) → take r (now (bytes .exit)) ≡ unhexed (drop 5 (now (line .entry)))) ⌝ }
+{
+    if line.len() < 5 {
+        return 0;
+    }
+    hexes::unhex(&line[5..], bytes)
+}
+
+// A line's command, obeyed. A line has at most 4,091 hex digits; no command but `read` looks at their bytes.
+pub fn obey(d: Desk, line: &[u8], out: &mut [u8], at: usize) -> Step
+    ensures { λ r. ⌜ r .desk ≡ deskAfter d (now (line .entry)) ⌝ }
+{
+    let mut bytes = [0u8; 2048];
+    let n = hex_behind(line, &mut bytes);
+    let l = held::after(d, orders::parse(line), &bytes[..n]);
+    let next = l.desk;
+    let answer = l.answer;
+    let end = tell(d, answer, out, at);
+    Step {
+        desk: next,
+        at: end,
     }
 }
