@@ -3,9 +3,16 @@
 use Prim.Native.Nat.{ℕ, _≤_}
 use mathlib.Core.Bool.{true}
 use mathlib.Core.Path.{_≡_}
+use mathlib.Core.List.{List}
+use Rattle.rules.specs.declared.Set.{Set}
+use Rattle.rules.specs.declared.Message.{Message}
 use Rattle.rules.specs.declared.State.{State}
 use Rattle.rules.specs.Streams.{valid}
 use Rattle.rules.specs.States.{pending, messagesOk}
+
+-- a state of its parts
+abbrev pub stateOf : Set → ℕ → ℕ → List Message → State
+stateOf x clock count messages = record { set = x; clock = clock; count = count; messages = messages }
 
 pub record Sound (s : State) : Type 0 where
   pub set : valid (s .set) ≡ true

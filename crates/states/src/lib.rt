@@ -3,7 +3,9 @@ ghost use mathlib.Core.Path.{_≡_};
 ghost use mathlib.Core.Bool.{cond};
 ghost use lib.Dec.{ltb};
 ghost use Rattle.rules.specs.States.{noMessage, messageUnused, wellFormed};
+ghost use Rattle.states.specs.Sound.{stateOf};
 use rules::Message;
+use rules::Set;
 use rules::State;
 
 pub fn no_message() -> Message
@@ -29,28 +31,25 @@ fn message_unused(m: Message) -> bool
     (m.stream == 0) & ((m.deadline == 0) & (m.used == 0))
 }
 
-// Is the state well formed? A first pass over the pending messages: each names a stream of the set, has used less than c, was posted by now and not before
-// the one in front of it, and is its task's only started one. A second over the places behind: they are zero. Both passes stand here, since a state
-// that is handed to another function is copied; the set and the messages are taken apart once.
-pub fn well_formed(s: State) -> bool
-    ensures { λ r. ⌜ r ≡ wellFormed s ⌝ }
+// Is a state of these parts well formed? A first pass over the pending messages: each names a stream of the set, has used less than c, was posted by now and
+// not before the one in front of it, and is its task's only started one. A second over the places behind: they are zero. Both passes stand here,
+// since what is handed to another function is copied.
+fn formed(set: Set, messages: [Message; 64], clock: u32, count: usize) -> bool
+    ensures { λ r. ⌜ r ≡ wellFormed (stateOf set clock count messages) ⌝ }
 {
-    let set = s.set;
-    let messages = s.messages;
     if !streams::is_valid(set) {
         return false;
     }
-    let n = s.count;
-    if 64 < n {
+    if 64 < count {
         return false;
     }
-    if 4000000000 < s.clock {
+    if 4000000000 < clock {
         return false;
     }
     let mut counts = [0u32; 16];
     let mut before: u32 = 0;
     let mut k: usize = 0;
-    while k < n {
+    while k < count {
         let m = messages[k];
         let i = m.stream;
         if set.count <= i {
@@ -60,7 +59,7 @@ pub fn well_formed(s: State) -> bool
         let t = x.task;
         let at = streams::less(m.deadline, x.deadline);
         let ok = (m.used < x.cost)
-            & (((x.deadline <= m.deadline) & (at <= s.clock)) & (before <= at));
+            & (((x.deadline <= m.deadline) & (at <= clock)) & (before <= at));
         let c = counts[t] + started(m.used);
         if !(ok & (c <= 1)) {
             return false;
@@ -77,4 +76,12 @@ pub fn well_formed(s: State) -> bool
         k = k + 1;
     }
     unused
+}
+
+// Is the state well formed? It is taken apart once.
+pub fn well_formed(s: State) -> bool
+    ensures { λ r. ⌜ r ≡ wellFormed s ⌝ }
+{
+    let messages = s.messages;
+    formed(s.set, messages, s.clock, s.count)
 }

@@ -1,4 +1,4 @@
--- `states::well_formed` meets its contract. Assumes nothing.
+-- `states::formed` meets its contract. Assumes nothing.
 use native.Mathlib.Omega.{arith}
 use borrow.Author.Needs.{needs}
 use borrow.Author.Tests.{lt-leb, not-true, not-false}
@@ -10,24 +10,25 @@ use Rattle.laws.specs.Lists.{all}
 use Rattle.laws.proofs.Parts.{sized}
 use Rattle.laws.proofs.Fits.{and-go, and-end}
 use Rattle.rules.specs.States.{noMessage, messageUnused}
+use Rattle.states.specs.Sound.{stateOf}
 use Rattle.states.proofs.Tally.{small-started}
 use Rattle.states.proofs.WellFormed.{no-test}
 use Rattle.states.proofs.Pass.{Opened, Pass, pass-start, pass-out, pass-stream, pass-task, pass-no, pass-go, Passed, pass-end, last-test}
-use Rattle.states.proofs.well_formed.Statement.{statement}
-use Rattle.states.proofs.well_formed.Tie as tie
+use Rattle.states.proofs.formed.Statement.{statement}
+use Rattle.states.proofs.formed.Tie as tie
 
 abbrev Inv-loop : tie.InvT-loop
-Inv-loop s set messages n counts₀ before₀ k₀ counts before k = Pass s k before counts
+Inv-loop clock count set messages counts₀ before₀ k₀ counts before k = Pass (stateOf set clock count messages) k before counts
 
 abbrev μ-loop : tie.MeasureT-loop
-μ-loop s set messages n counts₀ before₀ k₀ counts before k = n - k
+μ-loop clock count set messages counts₀ before₀ k₀ counts before k = count - k
 
 abbrev Inv-loop2 : tie.InvT-loop2
-Inv-loop2 messages n before k₀ unused₀ k unused =
-    (length messages ≡ 64) × ((unused && all messageUnused (drop k messages)) ≡ all messageUnused (drop n messages))
+Inv-loop2 clock count messages before k₀ unused₀ k unused =
+    (length messages ≡ 64) × ((unused && all messageUnused (drop k messages)) ≡ all messageUnused (drop count messages))
 
 abbrev μ-loop2 : tie.MeasureT-loop2
-μ-loop2 messages n before k₀ unused₀ k unused = 64 - k
+μ-loop2 clock count messages before k₀ unused₀ k unused = 64 - k
 
 is-valid-requires : tie.Need-is-valid-requires Inv-loop μ-loop Inv-loop2 μ-loop2
 is-valid-requires c κs = search needs
@@ -43,13 +44,13 @@ returns-3 c = no-test _ 2 (lt-leb _ 4000000000 (c .if3 .taken))
 
 loop-holds : tie.Need-loop-holds Inv-loop μ-loop Inv-loop2 μ-loop2
 loop-holds c =
-    let start = c .before .before .before .before .before .before .before in
-    pass-start (start .args .s) (record {
-      set = sym (c .before .before .before .before .is-valid .ensures) ∙ not-false _ (c .before .before .before .if1 .left);
-      few = c .before .before .if2 .left;
+    let start = c .before .before .before .before in
+    pass-start (stateOf (start .args .t1) (start .args .clock) (start .args .count) (start .args .t2)) (record {
+      set = sym (c .before .before .before .is-valid .ensures) ∙ not-false _ (c .before .before .if1 .left);
+      few = c .before .if2 .left;
       clock = c .if3 .left;
-      places = sized _ (start .args .s .messages) 64 (start .good .0 .1 .1 .1 .1 .1 .0 .1 .0 .1);
-      streams = sized _ (start .args .s .set .streams) 16 (start .good .0 .1 .1 .0 .1 .1 .1 .0 .1 .0 .1);
+      places = start .good .1 .0 .1 .0 .1;
+      streams = sized _ (start .args .t1 .streams) 16 (start .good .0 .1 .1 .1 .0 .1 .0 .1);
     })
 
 mul-m : tie.Need-mul-m Inv-loop μ-loop Inv-loop2 μ-loop2
@@ -78,38 +79,38 @@ less-requires c κs = search needs
 
 mul-c : tie.Need-mul-c Inv-loop μ-loop Inv-loop2 μ-loop2
 mul-c c =
-    let loop = c .before .before .before .before .before .before .before .before .before .before .loop in
-    omega (arith, pass-task _ (loop .k) _ _ (loop .inv) (c .before .before .before .before .before .before .before .before .before .loop-test .taken) (c .before .before .before .before .before .before .before .if4 .left))
+    let loop = c .before .before .before .before .before .before .before .before .before .loop in
+    omega (arith, pass-task _ (loop .k) _ _ (loop .inv) (c .before .before .before .before .before .before .before .before .loop-test .taken) (c .before .before .before .before .before .before .if4 .left))
 
 array-read-c : tie.Need-array-read-c Inv-loop μ-loop Inv-loop2 μ-loop2
 array-read-c c =
-    let loop = c .before .before .before .before .before .before .before .before .before .before .loop in
-    pass-task _ (loop .k) _ _ (loop .inv) (c .before .before .before .before .before .before .before .before .before .loop-test .taken) (c .before .before .before .before .before .before .before .if4 .left)
+    let loop = c .before .before .before .before .before .before .before .before .before .loop in
+    pass-task _ (loop .k) _ _ (loop .inv) (c .before .before .before .before .before .before .before .before .loop-test .taken) (c .before .before .before .before .before .before .if4 .left)
 
 started-requires : tie.Need-started-requires Inv-loop μ-loop Inv-loop2 μ-loop2
 started-requires c κs = search needs
 
 add-c : tie.Need-add-c Inv-loop μ-loop Inv-loop2 μ-loop2
 add-c c =
-    let start = c .before .before .before .before .before .before .before .before .before .before .before .before .before .before .before .before .before .before .before in
-    let loop = c .before .before .before .before .before .before .before .before .before .before .before .loop in
-    omega (arith, c .started .ensures, loop .inv .tally .small _ (pass-task _ (loop .k) _ _ (loop .inv) (c .before .before .before .before .before .before .before .before .before .before .loop-test .taken) (c .before .before .before .before .before .before .before .before .if4 .left)), small-started (getD (start .args .s .messages) (loop .k) noMessage .used))
+    let start = c .before .before .before .before .before .before .before .before .before .before .before .before .before .before .before in
+    let loop = c .before .before .before .before .before .before .before .before .before .before .loop in
+    omega (arith, c .started .ensures, loop .inv .tally .small _ (pass-task _ (loop .k) _ _ (loop .inv) (c .before .before .before .before .before .before .before .before .before .loop-test .taken) (c .before .before .before .before .before .before .before .if4 .left)), small-started (getD (start .args .t2) (loop .k) noMessage .used))
 
 returns-5 : tie.Need-returns-5 Inv-loop μ-loop Inv-loop2 μ-loop2
 returns-5 c =
-    let loop = c .before .before .before .before .before .before .before .before .before .before .before .before .loop in
-    pass-no _ (loop .k) _ _ (loop .inv) (c .before .before .before .before .before .before .before .before .before .before .before .loop-test .taken) (c .before .before .before .before .before .before .before .before .before .if4 .left) (c .before .before .before .before .before .before .before .less .result) (c .before .started .result) _ (c .before .before .before .before .before .before .before .less .ensures) (c .before .started .ensures) refl
+    let loop = c .before .before .before .before .before .before .before .before .before .before .before .loop in
+    pass-no _ (loop .k) _ _ (loop .inv) (c .before .before .before .before .before .before .before .before .before .before .loop-test .taken) (c .before .before .before .before .before .before .before .before .if4 .left) (c .before .before .before .before .before .before .less .result) (c .before .started .result) _ (c .before .before .before .before .before .before .less .ensures) (c .before .started .ensures) refl
     (not-true _ (c .if5 .taken))
 
 mul-counts : tie.Need-mul-counts Inv-loop μ-loop Inv-loop2 μ-loop2
 mul-counts c =
-    let loop = c .before .before .before .before .before .before .before .before .before .before .before .before .loop in
-    omega (arith, pass-task _ (loop .k) _ _ (loop .inv) (c .before .before .before .before .before .before .before .before .before .before .before .loop-test .taken) (c .before .before .before .before .before .before .before .before .before .if4 .left))
+    let loop = c .before .before .before .before .before .before .before .before .before .before .before .loop in
+    omega (arith, pass-task _ (loop .k) _ _ (loop .inv) (c .before .before .before .before .before .before .before .before .before .before .loop-test .taken) (c .before .before .before .before .before .before .before .before .if4 .left))
 
 array-write-counts : tie.Need-array-write-counts Inv-loop μ-loop Inv-loop2 μ-loop2
 array-write-counts c =
-    let loop = c .before .before .before .before .before .before .before .before .before .before .before .before .loop in
-    pass-task _ (loop .k) _ _ (loop .inv) (c .before .before .before .before .before .before .before .before .before .before .before .loop-test .taken) (c .before .before .before .before .before .before .before .before .before .if4 .left)
+    let loop = c .before .before .before .before .before .before .before .before .before .before .before .loop in
+    pass-task _ (loop .k) _ _ (loop .inv) (c .before .before .before .before .before .before .before .before .before .before .loop-test .taken) (c .before .before .before .before .before .before .before .before .if4 .left)
 
 add-k : tie.Need-add-k Inv-loop μ-loop Inv-loop2 μ-loop2
 add-k c = search needs
@@ -119,16 +120,16 @@ loop-less c = search needs
 
 loop-again : tie.Need-loop-again Inv-loop μ-loop Inv-loop2 μ-loop2
 loop-again c =
-    let loop = c .before .before .before .before .before .before .before .before .before .before .before .before .loop in
-    pass-go _ (loop .k) _ _ (loop .inv) (c .before .before .before .before .before .before .before .before .before .before .before .loop-test .taken) (c .before .before .before .before .before .before .before .before .before .if4 .left) (c .before .before .before .before .before .before .before .less .result) (c .before .started .result) _ (c .before .before .before .before .before .before .before .less .ensures) (c .before .started .ensures) refl
+    let loop = c .before .before .before .before .before .before .before .before .before .before .before .loop in
+    pass-go _ (loop .k) _ _ (loop .inv) (c .before .before .before .before .before .before .before .before .before .before .loop-test .taken) (c .before .before .before .before .before .before .before .before .if4 .left) (c .before .before .before .before .before .before .less .result) (c .before .started .result) _ (c .before .before .before .before .before .before .less .ensures) (c .before .started .ensures) refl
     (not-false _ (c .if5 .left))
 
 loop2-holds : tie.Need-loop2-holds Inv-loop μ-loop Inv-loop2 μ-loop2
 loop2-holds c =
-    let start = c .before .before .before .before .before .before .before .before .before in
+    let start = c .before .before .before .before .before .before in
     let loop = c .before .loop in (
       loop .inv .opened .places,
-      ap (λ (k : ℕ). all messageUnused (drop k (start .args .s .messages))) (let e : loop .k ≡ start .args .s .count = omega (arith, loop .inv .here, c .loop-test .left) in e),
+      ap (λ (k : ℕ). all messageUnused (drop k (start .args .t2))) (let e : loop .k ≡ start .args .count = omega (arith, loop .inv .here, c .loop-test .left) in e),
     )
 
 mul-m-2 : tie.Need-mul-m-2 Inv-loop μ-loop Inv-loop2 μ-loop2
@@ -148,19 +149,19 @@ loop2-less c = search needs
 
 loop2-again : tie.Need-loop2-again Inv-loop μ-loop Inv-loop2 μ-loop2
 loop2-again c =
-    let start = c .before .before .before .before .before .before .before .before .before .before .before .before .before in
+    let start = c .before .before .before .before .before .before .before .before .before .before in
     let loop = c .before .before .before .loop2 in
-    (loop .inv .0, and-go messageUnused (start .args .s .messages) (loop .k) (loop .unused) _ _ noMessage _ (loop .inv .1) refl (c .message-unused .ensures) (omega (arith, c .before .before .loop2-test .taken, loop .inv .0)))
+    (loop .inv .0, and-go messageUnused (start .args .t2) (loop .k) (loop .unused) _ _ noMessage _ (loop .inv .1) refl (c .message-unused .ensures) (omega (arith, c .before .before .loop2-test .taken, loop .inv .0)))
 
 returns-6 : tie.Need-returns-6 Inv-loop μ-loop Inv-loop2 μ-loop2
 returns-6 c =
-    let start = c .before .before .before .before .before .before .before .before .before .before .before in
+    let start = c .before .before .before .before .before .before .before .before in
     let loop = c .before .loop2 in
     last-test _ _ (pass-end _ _ _ _ (c .before .before .before .loop .inv) (c .before .before .loop-test .left))
-    (and-end messageUnused (start .args .s .messages) (loop .k) _ _ (loop .inv .1) (omega (arith, c .loop2-test .left, loop .inv .0)))
+    (and-end messageUnused (start .args .t2) (loop .k) _ _ (loop .inv .1) (omega (arith, c .loop2-test .left, loop .inv .0)))
 
-pub well-formed-spec : {M : Type 1} → statement M
-well-formed-spec =
+pub formed-spec : {M : Type 1} → statement M
+formed-spec =
     tie.close
     (tie.spec
     Inv-loop
