@@ -1,7 +1,7 @@
--- A line behind the first bytes of a page.
+-- Bytes, and lines, behind the first bytes of a page.
 -- Assumes nothing.
 use Prim.Native.Nat.{ℕ, _+_, _-_}
-use mathlib.Core.Bool.{Bool, cond}
+use mathlib.Core.Bool.{Bool, cond, _&&_}
 use mathlib.Core.List.{List, [], _∷_}
 use lib.ListN.{length}
 use lib.Seq.{paste}
@@ -9,11 +9,23 @@ use lib.Dec.{leb}
 use Rattle.laws.specs.Lists.{every}
 use Rattle.text.specs.declared.Line.{Line}
 
--- there is room for the line behind the first `at` bytes
+-- there is room for n bytes behind the first `at`
+unfoldable pub roomFor : List ℕ → ℕ → ℕ → Bool
+roomFor out at n = leb at (length out) && leb n (length out - at)
+
+-- the page with these bytes there, and where they end; one that has no room for all of them stays as it is.
+-- `paste out at w n` is out with the first n bytes of w from `at` on
+unfoldable pub printed : List ℕ → ℕ → List ℕ → List ℕ
+printed out at w = cond (roomFor out at (length w)) (paste out at w (length w)) out
+
+unfoldable pub printedEnd : List ℕ → ℕ → List ℕ → ℕ
+printedEnd out at w = cond (roomFor out at (length w)) (at + length w) at
+
+-- there is room for the line
 unfoldable pub hasRoom : List ℕ → ℕ → Line → Bool
 hasRoom out at l = every (leb (l .len) 128 ∷ leb at (length out) ∷ leb (l .len) (length out - at) ∷ [])
 
--- the page with the line there, and where the line ends; `paste out at w n` is out with the first n bytes of w from `at` on
+-- the page with the line there, and where the line ends
 unfoldable pub appended : List ℕ → ℕ → Line → List ℕ
 appended out at l = cond (hasRoom out at l) (paste out at (l .bytes) (l .len)) out
 
