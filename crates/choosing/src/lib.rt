@@ -41,7 +41,11 @@ fn least_task(table: [u64; 16]) -> usize
 pub fn look(s: State) -> Found
     ensures { λ r. ⌜ r ≡ foundOf s ⌝ }
 {
-    if !states::well_formed(s) {
+    if !streams::is_valid(s.set) {
+        return Found::IllFormed;
+    }
+    let messages = s.messages;
+    if !states::formed(s.set, messages, s.clock, s.count) {
         return Found::IllFormed;
     }
     let n = s.count;
@@ -55,7 +59,7 @@ pub fn look(s: State) -> Found
     let mut k = n;
     while 0 < k {
         k = k - 1;
-        let m = s.messages[k];
+        let m = messages[k];
         let i = m.stream;
         let x = streams[i];
         let t = x.task;
@@ -70,10 +74,10 @@ pub fn look(s: State) -> Found
     }
     let t = least_task(deadlines);
     let mut place = started[t];
-    if n <= place {
+    if s.count <= place {
         place = due[t];
     }
-    let m = s.messages[place];
+    let m = messages[place];
     let j = m.stream;
     let x = streams[j];
     Found::At(place, x.task, x.cost)

@@ -6,7 +6,7 @@ use mathlib.Core.Logic.{inl}
 use mathlib.Core.List.{List}
 use mathlib.Core.Path.{_≡_, refl, ap, sym, _∙_}
 use native.Mathlib.Omega.{arith}
-use borrow.Author.Tests.{leb-true, leb-false, le-leb}
+use borrow.Author.Tests.{ltb-true, ltb-false, le-leb}
 use lib.Dec.{ltb, leb}
 use lib.ListN.{length, getD, take, drop, set, replicate}
 use Rattle.laws.specs.Lists.{below, all, scan}
@@ -15,16 +15,15 @@ use Rattle.laws.proofs.Parts.{part, part-all, scan-go, scan-no, scan-end, both-
 use Rattle.rules.specs.declared.Message.{Message}
 use Rattle.rules.specs.declared.Stream.{Stream}
 use Rattle.rules.specs.declared.State.{State}
-use Rattle.rules.specs.Streams.{streamAt, noStream, valid}
-use Rattle.rules.specs.States.{noMessage, pending, taskOf, postedAt, messageOk, messagesOk, startedOnce, messageUnused, wellFormed}
-use Rattle.rules.proofs.Valid.{valid-set}
-use Rattle.states.proofs.Standing.{message-out, message-by}
-use Rattle.states.proofs.Tally.{Tally, tally-start, tally-go, tally-no, tally-end}
-use Rattle.states.proofs.WellFormed.{blank, stream-valid, no-test}
+use Rattle.rules.specs.Streams.{streamAt, noStream}
+use Rattle.rules.specs.States.{noMessage, pending, taskOf, postedAt, messageOk, messagesOk, startedOnce, messageUnused}
+use Rattle.states.specs.Sound.{restFormed}
+use Rattle.states.proofs.Standing.{message-out, message-beyond, message-by}
+use Rattle.states.proofs.Tally.{Tally, tally-start, tally-past, tally-go, tally-no, tally-end}
+use Rattle.states.proofs.WellFormed.{blank, no-test}
 
--- what was tested before the first message: the set, how many messages there are, the clock; and what the types say
+-- what was tested before the first message: how many messages there are, and the clock; and what the types say
 pub record Opened (s : State) : Type 0 where
-  pub set : valid (s .set) ≡ true
   pub few : s .count ≤ 64
   pub clock : s .clock ≤ 4000000000
   pub places : length (s .messages) ≡ 64
@@ -50,18 +49,24 @@ module _ (s : State) (k before : ℕ) (counts : List ℕ) (inv : Pass s k before
   inside = omega (arith, inv .opened .few, inv .opened .places)
 
   -- it does not pass
-  not-it : messageOk (s .set) (s .clock) before m ≡ false → false ≡ wellFormed s
+  not-it : messageOk (s .set) (s .clock) before m ≡ false → false ≡ restFormed s
   not-it e =
-      no-test s 3
+      no-test s 2
       (sym (scan-no (messageOk (s .set) (s .clock)) (postedAt (s .set)) (s .messages) (s .count) k before _ noMessage m (inv .left) refl e h inside))
 
-  -- it names no stream of the set
-  pub pass-out : s .set .count ≤ m .stream → false ≡ wellFormed s
-  pass-out g = not-it (message-out (s .set) (s .clock) before m g)
+  -- it names no stream of the set, or one that has no place
+  pub pass-out : (ltb (m .stream) (s .set .count) && ltb (m .stream) 16) ≡ false → false ≡ restFormed s
+  pass-out g =
+      by-test (ltb (m .stream) (s .set .count))
+      (λ t. not-it (message-beyond (s .set) (s .clock) before m (omega (arith, inv .opened .streams, ltb-false (m .stream) 16 (rw t at g)))))
+      (λ t. not-it (message-out (s .set) (s .clock) before m (ltb-false (m .stream) (s .set .count) t)))
 
-  module _ (g : m .stream < s .set .count) where
+  module _ (g : (ltb (m .stream) (s .set .count) && ltb (m .stream) 16) ≡ true) where
+    named : m .stream < s .set .count
+    named = ltb-true _ _ (both-first (ltb (m .stream) (s .set .count)) (ltb (m .stream) 16) g)
+
     pub pass-stream : m .stream < 16
-    pass-stream = omega (arith, valid-set (s .set) (inv .opened .set) .count)
+    pass-stream = ltb-true _ _ (both-second (ltb (m .stream) (s .set .count)) (ltb (m .stream) 16) g)
 
     -- its stream, as the code reads it within the array
     abbrev y : Stream
@@ -70,34 +75,46 @@ module _ (s : State) (k before : ℕ) (counts : List ℕ) (inv : Pass s k before
     read : y ≡ streamAt (s .set) (m .stream)
     read = getD-any (s .set .streams) (m .stream) blank noStream (omega (arith, pass-stream, inv .opened .streams))
 
-    pub pass-task : y .task < 16
-    pass-task = rw read (omega (arith, stream-valid (s .set) (m .stream) (inv .opened .set) (inv .opened .streams) g .task))
+    task : y .task ≡ taskOf (s .set) m
+    task = ap (λ (x : Stream). x .task) read
 
-    module _ (at r c : ℕ) (e₁ : at ≡ m .deadline - y .deadline) (e₂ : r ≡ cond (ltb 0 (m .used)) 1 0) (e₃ : c ≡ getD counts (y .task) 0 + r) where
+    module _ (at : ℕ) (e₁ : at ≡ m .deadline - y .deadline) where
       abbrev ok : Bool
       ok = ltb (m .used) (y .cost) && ((leb (y .deadline) (m .deadline) && leb at (s .clock)) && leb before at)
 
       same : ok ≡ messageOk (s .set) (s .clock) before m
-      same = message-by (s .set) (s .clock) before m y at g read e₁
+      same = message-by (s .set) (s .clock) before m y at named read e₁
 
-      task : y .task ≡ taskOf (s .set) m
-      task = ap (λ (x : Stream). x .task) read
+      pub pass-no : ok ≡ false → false ≡ restFormed s
+      pass-no e = not-it (sym same ∙ e)
 
-      pub pass-no : (ok && leb c 1) ≡ false → false ≡ wellFormed s
-      pass-no e =
-          by-test ok
-          (λ t. no-test s 4 (sym (tally-no (s .set) (s .messages) (s .count) k counts m (y .task) c r (inv .tally) refl task e₂ e₃ pass-task h inside (leb-false c 1 (rw t at e)))))
-          (λ t. not-it (sym same ∙ t))
+      -- it is good: the started ones of its task are counted with it in the end
+      module _ (e : ok ≡ true) where
+        next : (counts′ : List ℕ) → Tally (s .set) (s .messages) (s .count) (k + 1) counts′ → Pass s (k + 1) at counts′
+        next counts′ t = record {
+          opened = inv .opened;
+          here = omega arith;
+          left =
+              scan-go (messageOk (s .set) (s .clock)) (postedAt (s .set)) (s .messages) (s .count) k before at _ noMessage m (inv .left) refl
+              (e₁ ∙ ap (λ (x : Stream). m .deadline - x .deadline) read) (sym same ∙ e) h inside;
+          tally = t;
+        }
 
-      pub pass-go : (ok && leb c 1) ≡ true → Pass s (k + 1) at (set counts (y .task) c)
-      pass-go e = record {
-        opened = inv .opened;
-        here = omega arith;
-        left =
-            scan-go (messageOk (s .set) (s .clock)) (postedAt (s .set)) (s .messages) (s .count) k before at _ noMessage m (inv .left) refl
-            (e₁ ∙ ap (λ (x : Stream). m .deadline - x .deadline) read) (sym same ∙ both-first ok (leb c 1) e) h inside;
-        tally = tally-go (s .set) (s .messages) (s .count) k counts m (y .task) c r (inv .tally) refl task e₂ e₃ pass-task h inside (leb-true c 1 (both-second ok (leb c 1) e));
-      }
+        pub pass-past : (ltb 0 (m .used) && ltb (y .task) 16) ≡ false → Pass s (k + 1) at counts
+        pass-past q = next counts (tally-past (s .set) (s .messages) (s .count) k counts m (y .task) (inv .tally) refl task h inside q)
+
+        module _ (q : (ltb 0 (m .used) && ltb (y .task) 16) ≡ true) where
+          begun : 0 < m .used
+          begun = ltb-true _ _ (both-first (ltb 0 (m .used)) (ltb (y .task) 16) q)
+
+          pub pass-task : y .task < 16
+          pass-task = ltb-true _ _ (both-second (ltb 0 (m .used)) (ltb (y .task) 16) q)
+
+          pub pass-twice : 0 < getD counts (y .task) 0 → false ≡ restFormed s
+          pass-twice f = no-test s 3 (sym (tally-no (s .set) (s .messages) (s .count) k counts m (y .task) (inv .tally) refl task h inside begun pass-task f))
+
+          pub pass-go : getD counts (y .task) 0 ≤ 0 → Pass s (k + 1) at (set counts (y .task) 1)
+          pass-go f = next (set counts (y .task) 1) (tally-go (s .set) (s .messages) (s .count) k counts m (y .task) (inv .tally) refl task h inside begun pass-task f)
 
 -- all messages have passed: only the places behind them are left
 pub record Passed (s : State) : Type 0 where
@@ -112,7 +129,7 @@ pass-end s k before counts inv h = record {
   once = sym (tally-end (s .set) (s .messages) (s .count) k counts (inv .tally) h);
 }
 
-pub last-test : (s : State) (r : Bool) → Passed s → r ≡ all messageUnused (drop (s .count) (s .messages)) → r ≡ wellFormed s
-unfolding wellFormed
+pub last-test : (s : State) (r : Bool) → Passed s → r ≡ all messageUnused (drop (s .count) (s .messages)) → r ≡ restFormed s
+unfolding restFormed
 last-test s r p u =
-    rw (p .opened .set, le-leb (s .count) 64 (p .opened .few), le-leb (s .clock) 4000000000 (p .opened .clock), p .each, p .once) u
+    rw (le-leb (s .count) 64 (p .opened .few), le-leb (s .clock) 4000000000 (p .opened .clock), p .each, p .once) u

@@ -7,13 +7,14 @@ use mathlib.Core.Path.{_≡_, refl, ap, sym, _∙_}
 use native.Mathlib.Omega.{arith}
 use borrow.Author.Tests.{ltb-true, leb-true, lt-ltb, le-ltb, le-leb}
 use lib.Dec.{ltb, leb}
-use lib.ListN.{length, getD, take, drop}
+use lib.ListN.{length, getD, take, drop, List·getD-eq-default}
 use Rattle.laws.specs.Lists.{every, within}
+use Rattle.laws.proofs.Sums.{by-test}
 use Rattle.laws.proofs.Parts.{every-at, leb-less, both-first, both-second}
 use Rattle.rules.specs.declared.Set.{Set}
 use Rattle.rules.specs.declared.Stream.{Stream}
 use Rattle.rules.specs.declared.Message.{Message}
-use Rattle.rules.specs.Streams.{streamAt}
+use Rattle.rules.specs.Streams.{streamAt, noStream}
 use Rattle.rules.specs.States.{costOf, spanOf, postedAt, messageTests, messageOk}
 
 -- the message m stands behind one that was posted at `before`
@@ -46,6 +47,13 @@ standing-ok x clock before m h =
 pub message-out : (x : Set) (clock before : ℕ) (m : Message) → x .count ≤ m .stream → messageOk x clock before m ≡ false
 unfolding messageOk
 message-out x clock before m h = rw (le-ltb (m .stream) (x .count) h)
+
+-- a message of a stream without a place
+pub message-beyond : (x : Set) (clock before : ℕ) (m : Message) → length (x .streams) ≤ m .stream → messageOk x clock before m ≡ false
+message-beyond x clock before m h =
+    by-test (messageOk x clock before m)
+    (λ t. absurd (omega (arith, standing x clock before m t .used, ap (λ (y : Stream). y .cost) (List·getD-eq-default (x .streams) noStream h))))
+    (λ t. t)
 
 -- y is its stream, and `at` the clock at which it was posted
 pub message-by : (x : Set) (clock before : ℕ) (m : Message) (y : Stream) (at : ℕ) → m .stream < x .count → y ≡ streamAt x (m .stream) → at ≡ m .deadline - y .deadline

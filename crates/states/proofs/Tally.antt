@@ -6,7 +6,7 @@ use mathlib.Core.Logic.{_⊎_, inl}
 use mathlib.Core.List.{List, [], _∷_}
 use mathlib.Core.Path.{_≡_, refl, ap, sym, _∙_}
 use native.Mathlib.Omega.{arith}
-use borrow.Author.Tests.{eqb-true, eqb-false, eq-eqb, ne-eqb, le-leb, lt-leb}
+use borrow.Author.Tests.{eqb-true, eqb-false, eq-eqb, ne-eqb, le-leb, lt-leb, ltb-false, lt-ltb}
 use lib.Dec.{ltb, leb, eqb}
 use lib.ListN.{length, getD, take, drop, set, replicate, length-set, getD-replicate}
 use lib.Seq.{getD-set-same, getD-set-other}
@@ -31,8 +31,7 @@ module _ (x : Set) (l : List Message) (n : ℕ) where
     adds = λ t h. omega (arith, getD-replicate {A = ℕ} 16 t 0 0 h, ap (count (startedOf x t)) (part-all l n));
   }
 
-  module _ (k : ℕ) (counts : List ℕ) (m : Message) (t c r : ℕ) (inv : Tally k counts) (e : m ≡ getD l k noMessage) (e₁ : t ≡ taskOf x m) (e₂ : r ≡ cond (ltb 0 (m .used)) 1 0) (e₃ : c ≡ getD counts t 0 + r)
-      (t-in : t < 16) (h : k < n) (g : k < length l) where
+  module _ (k : ℕ) (counts : List ℕ) (m : Message) (t : ℕ) (inv : Tally k counts) (e : m ≡ getD l k noMessage) (e₁ : t ≡ taskOf x m) (h : k < n) (g : k < length l) where
     -- the message at k is one more of its own task, and of no other
     own : (b : Bool) → _≡_ {A = ℕ} (cond (b && eqb t t) 1 0) (cond b 1 0)
     own true = rw (eq-eqb t t refl)
@@ -45,26 +44,42 @@ module _ (x : Set) (l : List Message) (n : ℕ) where
     left : (u : ℕ) → count (startedOf x u) (part k n l) ≡ cond (startedOf x u m) 1 0 + count (startedOf x u) (part (k + 1) n l)
     left u = rw (part-cons l n k noMessage h g, ← e) (count-cons (startedOf x u) m (part (k + 1) n l))
 
-    mine : count (startedOf x t) (part k n l) ≡ r + count (startedOf x t) (part (k + 1) n l)
-    mine = left t ∙ rw (e₂, ← e₁, own (ltb 0 (m .used)))
-
     others : (u : ℕ) → (t ≡ u → ⊥) → count (startedOf x u) (part k n l) ≡ count (startedOf x u) (part (k + 1) n l)
     others u f = left u ∙ rw (← e₁, other (ltb 0 (m .used)) u f) (omega arith)
 
-    pub tally-go : c ≤ 1 → Tally (k + 1) (set counts t c)
-    tally-go q = record {
-      sixteen = simp length-set (inv .sixteen);
-      small = λ u p. by-test (eqb t u)
-          (λ y. rw (← eqb-true t u y, getD-set-same counts t c 0 (omega (arith, inv .sixteen))) q)
-          (λ y. rw (getD-set-other counts t u c 0 (λ z. eqb-false t u y (sym z))) (inv .small u p));
-      adds = λ u p. by-test (eqb t u)
-          (λ y. rw (← eqb-true t u y, getD-set-same counts t c 0 (omega (arith, inv .sixteen))) (omega (arith, inv .adds t t-in, mine)))
-          (λ y. rw (getD-set-other counts t u c 0 (λ z. eqb-false t u y (sym z))) (omega (arith, inv .adds u p, others u (eqb-false t u y))));
+    -- it is not started, or its task is not one of the sixteen
+    pub tally-past : (ltb 0 (m .used) && ltb t 16) ≡ false → Tally (k + 1) counts
+    tally-past q = record {
+      sixteen = inv .sixteen;
+      small = inv .small;
+      adds = λ u p. omega (arith, inv .adds u p, skipped u p);
     }
+      where
+        skipped : (u : ℕ) → u < 16 → count (startedOf x u) (part k n l) ≡ count (startedOf x u) (part (k + 1) n l)
+        skipped u p =
+            by-test (ltb 0 (m .used))
+            (λ y. others u (λ z. omega (arith, z, ltb-false t 16 (rw y at q))))
+            (λ y. left u ∙ rw y (omega arith))
 
-    pub tally-no : 1 < c → false ≡ all (startedOnce x (take n l)) (below 16)
-    unfolding startedOnce
-    tally-no q = below-no (startedOnce x (take n l)) 16 t t-in (lt-leb (count (startedOf x t) (take n l)) 1 (omega (arith, inv .adds t t-in, mine)))
+    -- it is started, of one of the sixteen
+    module _ (used : 0 < m .used) (t-in : t < 16) where
+      mine : count (startedOf x t) (part k n l) ≡ 1 + count (startedOf x t) (part (k + 1) n l)
+      mine = left t ∙ rw (← e₁, own (ltb 0 (m .used)), lt-ltb 0 (m .used) used)
+
+      pub tally-go : getD counts t 0 ≤ 0 → Tally (k + 1) (set counts t 1)
+      tally-go q = record {
+        sixteen = simp length-set (inv .sixteen);
+        small = λ u p. by-test (eqb t u)
+            (λ y. rw (← eqb-true t u y, getD-set-same counts t 1 0 (omega (arith, inv .sixteen))) (omega arith))
+            (λ y. rw (getD-set-other counts t u 1 0 (λ z. eqb-false t u y (sym z))) (inv .small u p));
+        adds = λ u p. by-test (eqb t u)
+            (λ y. rw (← eqb-true t u y, getD-set-same counts t 1 0 (omega (arith, inv .sixteen))) (omega (arith, inv .adds t t-in, mine)))
+            (λ y. rw (getD-set-other counts t u 1 0 (λ z. eqb-false t u y (sym z))) (omega (arith, inv .adds u p, others u (eqb-false t u y))));
+      }
+
+      pub tally-no : 0 < getD counts t 0 → false ≡ all (startedOnce x (take n l)) (below 16)
+      unfolding startedOnce
+      tally-no q = below-no (startedOnce x (take n l)) 16 t t-in (lt-leb (count (startedOf x t) (take n l)) 1 (omega (arith, inv .adds t t-in, mine)))
 
   pub tally-end : (k : ℕ) (counts : List ℕ) → Tally k counts → n ≤ k → true ≡ all (startedOnce x (take n l)) (below 16)
   unfolding startedOnce
@@ -72,10 +87,3 @@ module _ (x : Set) (l : List Message) (n : ℕ) where
       sym (below-all (startedOnce x (take n l)) 16 (λ t q.
       le-leb (count (startedOf x t) (take n l)) 1
       (omega (arith, inv .adds t q, inv .small t q, ap (count (startedOf x t)) (part-nil l n k (inl h)), count-none (startedOf x t)))))
-
-pub small-started : (used : ℕ) → cond (ltb 0 used) 1 0 ≤ 1
-small-started used = by-bool (ltb 0 used)
-  where
-    by-bool : (b : Bool) → cond b 1 0 ≤ 1
-    by-bool true = omega arith
-    by-bool false = omega arith

@@ -20,7 +20,7 @@ use Rattle.rules.specs.Streams.{streamAt, noStream, valid}
 use Rattle.rules.specs.States.{noMessage, pending, taskOf, postedAt, messageOk, messagesOk, startedOnce, messageUnused, lastClock, stateTests, wellFormed}
 use Rattle.rules.specs.Steps.{messageAt}
 use Rattle.rules.proofs.Valid.{ValidStream, ValidSet, valid-set}
-use Rattle.states.specs.Sound.{Sound}
+use Rattle.states.specs.Sound.{Sound, restFormed}
 use Rattle.states.proofs.Standing.{Standing, standing}
 
 -- the default of a place that the machine reads within an array
@@ -98,7 +98,16 @@ module _ (s : State) (h : Sound s) (ms : length (s .messages) ≡ 64) (k : ℕ) 
     pub task-read : getD (s .set .streams) (messageAt s k .stream) blank .task < 16
     task-read = rw stream-read task-in
 
--- a test that fails
-pub no-test : (s : State) (k : ℕ) → getD (stateTests s) k true ≡ false → false ≡ wellFormed s
+-- a test that fails, of those behind the set's
+pub no-test : (s : State) (k : ℕ) → getD (drop 1 (stateTests s)) k true ≡ false → false ≡ restFormed s
+unfolding restFormed
+no-test s k e = by-test (restFormed s) (λ t. absurd (false≢true (sym e ∙ every-at (drop 1 (stateTests s)) k t))) (λ t. sym t)
+
+-- the set's test, and the rest
+pub set-fails : (s : State) → valid (s .set) ≡ false → false ≡ wellFormed s
 unfolding wellFormed
-no-test s k e = by-test (wellFormed s) (λ t. absurd (false≢true (sym e ∙ every-at (stateTests s) k t))) (λ t. sym t)
+set-fails s e = rw e refl
+
+pub rest-tells : (s : State) (r : Bool) → valid (s .set) ≡ true → r ≡ restFormed s → r ≡ wellFormed s
+unfolding wellFormed restFormed
+rest-tells s r e f = rw e f

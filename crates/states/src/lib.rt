@@ -1,9 +1,7 @@
 // Is a state well formed? And the readers that the steps use.
 ghost use mathlib.Core.Path.{_≡_};
-ghost use mathlib.Core.Bool.{cond};
-ghost use lib.Dec.{ltb};
 ghost use Rattle.rules.specs.States.{noMessage, messageUnused, wellFormed};
-ghost use Rattle.states.specs.Sound.{stateOf};
+ghost use Rattle.states.specs.Sound.{stateOf, restFormed};
 use rules::Message;
 use rules::Set;
 use rules::State;
@@ -18,28 +16,18 @@ pub fn no_message() -> Message
     }
 }
 
-// 1 for a message with a used unit.
-fn started(used: u32) -> u32
-    ensures { λ r. ⌜ r ≡ cond (ltb 0 used) 1 0 ⌝ }
-{
-    if 0 < used { 1 } else { 0 }
-}
-
 fn message_unused(m: Message) -> bool
     ensures { λ r. ⌜ r ≡ messageUnused m ⌝ }
 {
     (m.stream == 0) & ((m.deadline == 0) & (m.used == 0))
 }
 
-// Is a state of these parts well formed? A first pass over the pending messages: each names a stream of the set, has used less than c, was posted by now and
-// not before the one in front of it, and is its task's only started one. A second over the places behind: they are zero. Both passes stand here,
-// since what is handed to another function is copied.
-fn formed(set: Set, messages: [Message; 64], clock: u32, count: usize) -> bool
-    ensures { λ r. ⌜ r ≡ wellFormed (stateOf set clock count messages) ⌝ }
+// The tests of a state of these parts but for the first, that its set is valid. A first pass over the pending messages: each names a stream of the set, has
+// used less than c, was posted by now and not before the one in front of it, and is its task's only started one. A second over the places behind: they
+// are zero. Both passes stand here, since what is handed to another function is copied.
+pub fn formed(set: Set, messages: [Message; 64], clock: u32, count: usize) -> bool
+    ensures { λ r. ⌜ r ≡ restFormed (stateOf set clock count messages) ⌝ }
 {
-    if !streams::is_valid(set) {
-        return false;
-    }
     if 64 < count {
         return false;
     }
@@ -52,7 +40,7 @@ fn formed(set: Set, messages: [Message; 64], clock: u32, count: usize) -> bool
     while k < count {
         let m = messages[k];
         let i = m.stream;
-        if set.count <= i {
+        if !((i < set.count) & (i < 16)) {
             return false;
         }
         let x = set.streams[i];
@@ -60,11 +48,15 @@ fn formed(set: Set, messages: [Message; 64], clock: u32, count: usize) -> bool
         let at = streams::less(m.deadline, x.deadline);
         let ok = (m.used < x.cost)
             & (((x.deadline <= m.deadline) & (at <= clock)) & (before <= at));
-        let c = counts[t] + started(m.used);
-        if !(ok & (c <= 1)) {
+        if !ok {
             return false;
         }
-        counts[t] = c;
+        if (0 < m.used) & (t < 16) {
+            if 0 < counts[t] {
+                return false;
+            }
+            counts[t] = 1;
+        }
         before = at;
         k = k + 1;
     }
@@ -78,10 +70,13 @@ fn formed(set: Set, messages: [Message; 64], clock: u32, count: usize) -> bool
     unused
 }
 
-// Is the state well formed? It is taken apart once.
+// Is the state well formed? A parameter that is not read by an index here is handed on without a copy.
 pub fn well_formed(s: State) -> bool
     ensures { λ r. ⌜ r ≡ wellFormed s ⌝ }
 {
+    if !streams::is_valid(s.set) {
+        return false;
+    }
     let messages = s.messages;
     formed(s.set, messages, s.clock, s.count)
 }

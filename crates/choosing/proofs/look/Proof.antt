@@ -8,6 +8,7 @@ use mathlib.Core.Logic.{⊎-elim}
 use mathlib.Core.Path.{_≡_, sym, _∙_}
 use Rattle.laws.proofs.Parts.{sized}
 use Rattle.rules.specs.States.{wellFormed}
+use Rattle.states.proofs.WellFormed.{set-fails, rest-tells}
 use Rattle.choosing.specs.Found.{foundOf}
 use Rattle.choosing.proofs.Filling.{Filled, filled-start, filled-go, message-in, stream-in, task-in, due-now, due-later, started-now, started-later}
 use Rattle.choosing.proofs.Places.{place-started, place-due}
@@ -16,27 +17,38 @@ use Rattle.choosing.proofs.look.Statement.{statement}
 use Rattle.choosing.proofs.look.Tie as tie
 
 abbrev Inv-loop : tie.InvT-loop
-Inv-loop s n streams deadlines₀ due₀ started₀ k₀ deadlines due started k = Filled s k deadlines due started
+Inv-loop s messages n streams deadlines₀ due₀ started₀ k₀ deadlines due started k = Filled s k deadlines due started
 
 abbrev μ-loop : tie.MeasureT-loop
-μ-loop s n streams deadlines₀ due₀ started₀ k₀ deadlines due started k = k
+μ-loop s messages n streams deadlines₀ due₀ started₀ k₀ deadlines due started k = k
 
-well-formed-requires : tie.Need-well-formed-requires Inv-loop μ-loop
-well-formed-requires c κs = search needs
+is-valid-requires : tie.Need-is-valid-requires Inv-loop μ-loop
+is-valid-requires c κs = search needs
 
 returns : tie.Need-returns Inv-loop μ-loop
 unfolding foundOf
-returns c = simp (sym (c .before .well-formed .ensures) ∙ not-true _ (c .if1 .taken))
+returns c = simp (sym (set-fails (c .before .before .args .s) (sym (c .before .is-valid .ensures) ∙ not-true _ (c .if1 .taken))))
+
+formed-requires : tie.Need-formed-requires Inv-loop μ-loop
+formed-requires c κs = search needs
+
+-- both tests together are that of a well formed state
+tested : (c : tie.After-formed Inv-loop μ-loop) → c .formed .result ≡ wellFormed (c .before .before .before .before .args .s)
+tested c = rest-tells _ _ (sym (c .before .before .before .is-valid .ensures) ∙ not-false _ (c .before .before .if1 .left)) (c .formed .ensures)
 
 returns-2 : tie.Need-returns-2 Inv-loop μ-loop
 unfolding foundOf
-returns-2 c = simp ((sym (c .before .before .well-formed .ensures) ∙ not-false _ (c .before .if1 .left)), eq-eqb _ _ (c .if2 .taken))
+returns-2 c = simp (sym (tested (c .before)) ∙ not-true _ (c .if2 .taken))
+
+returns-3 : tie.Need-returns-3 Inv-loop μ-loop
+unfolding foundOf
+returns-3 c = simp ((sym (tested (c .before .before)) ∙ not-false _ (c .before .if2 .left)), eq-eqb _ _ (c .if3 .taken))
 
 loop-holds : tie.Need-loop-holds Inv-loop μ-loop
 loop-holds c =
-    let start = c .before .before .before .before in
-    let w : wellFormed (start .args .t1) ≡ true = sym (c .before .before .before .well-formed .ensures) ∙ not-false _ (c .before .before .if1 .left) in
-    filled-start (start .args .t1) w (sized _ (start .args .t1 .messages) 64 (start .good .0 .1 .1 .1 .1 .1 .0 .1 .0 .1)) (sized _ (start .args .t1 .set .streams) 16 (start .good .0 .1 .1 .0 .1 .1 .1 .0 .1 .0 .1))
+    let start = c .before .before .before .before .before .before .before in
+    let w : wellFormed (start .args .s) ≡ true = sym (tested (c .before .before .before)) ∙ not-false _ (c .before .before .if2 .left) in
+    filled-start (start .args .s) w (sized _ (start .args .s .messages) 64 (start .good .0 .1 .1 .1 .1 .1 .0 .1 .0 .1)) (sized _ (start .args .s .set .streams) 16 (start .good .0 .1 .1 .0 .1 .1 .1 .0 .1 .0 .1))
 
 sub-k : tie.Need-sub-k Inv-loop μ-loop
 sub-k c = search needs
@@ -46,8 +58,8 @@ mul-m c =
     let loop = c .before .loop in
     omega (arith, message-in (loop .k - 1) (loop .inv) (omega (arith, c .loop-test .taken)))
 
-element-copy-out-m : tie.Need-element-copy-out-m Inv-loop μ-loop
-element-copy-out-m c =
+array-copy-out-m : tie.Need-array-copy-out-m Inv-loop μ-loop
+array-copy-out-m c =
     let loop = c .before .loop in
     message-in (loop .k - 1) (loop .inv) (omega (arith, c .loop-test .taken))
 
@@ -64,13 +76,13 @@ array-copy-out-x c =
 cast-d : tie.Need-cast-d Inv-loop μ-loop
 cast-d c = search needs
 
-mul-if3 : tie.Need-mul-if3 Inv-loop μ-loop
-mul-if3 c =
+mul-if4 : tie.Need-mul-if4 Inv-loop μ-loop
+mul-if4 c =
     let loop = c .before .before .before .before .loop in
     omega (arith, task-in (loop .k - 1) (loop .inv) (omega (arith, c .before .before .before .loop-test .taken)))
 
-array-read-if3 : tie.Need-array-read-if3 Inv-loop μ-loop
-array-read-if3 c =
+array-read-if4 : tie.Need-array-read-if4 Inv-loop μ-loop
+array-read-if4 c =
     let loop = c .before .before .before .before .loop in
     task-in (loop .k - 1) (loop .inv) (omega (arith, c .before .before .before .loop-test .taken))
 
@@ -111,14 +123,14 @@ loop-again : tie.Need-loop-again Inv-loop μ-loop
 loop-again c =
     let loop = c .before .before .before .before .before .before .before .loop in
     let test = c .before .before .before .before .before .before .loop-test in
-    let if3 = c .before .before .if3 in
+    let if4 = c .before .before .if4 in
     let back : loop .k ≡ loop .k - 1 + 1 = omega (arith, test .taken) in
     filled-go (loop .k - 1) (loop .inv) back
     (⊎-elim
     (λ w. due-now (loop .k - 1) (loop .inv) back (w .0 .taken) (w .1) (w .2))
     (λ w. due-later (loop .k - 1) (loop .inv) back (w .0 .left) (w .1) (w .2))
-    (if3 .came))
-    (started-now (loop .k - 1) (loop .inv) back (c .if4 .taken))
+    (if4 .came))
+    (started-now (loop .k - 1) (loop .inv) back (c .if5 .taken))
 
 loop-less-2 : tie.Need-loop-less-2 Inv-loop μ-loop
 loop-less-2 c = omega (arith, c .before .before .before .before .before .before .loop-test .taken)
@@ -127,14 +139,14 @@ loop-again-2 : tie.Need-loop-again-2 Inv-loop μ-loop
 loop-again-2 c =
     let loop = c .before .before .before .before .before .before .before .loop in
     let test = c .before .before .before .before .before .before .loop-test in
-    let if3 = c .before .before .if3 in
+    let if4 = c .before .before .if4 in
     let back : loop .k ≡ loop .k - 1 + 1 = omega (arith, test .taken) in
     filled-go (loop .k - 1) (loop .inv) back
     (⊎-elim
     (λ w. due-now (loop .k - 1) (loop .inv) back (w .0 .taken) (w .1) (w .2))
     (λ w. due-later (loop .k - 1) (loop .inv) back (w .0 .left) (w .1) (w .2))
-    (if3 .came))
-    (started-later (loop .k - 1) (loop .inv) back (c .if4 .left))
+    (if4 .came))
+    (started-later (loop .k - 1) (loop .inv) back (c .if5 .left))
 
 least-task-requires : tie.Need-least-task-requires Inv-loop μ-loop
 least-task-requires c κs = search needs
@@ -152,43 +164,43 @@ array-read-place-2 : tie.Need-array-read-place-2 Inv-loop μ-loop
 array-read-place-2 c = search needs
 
 -- the place is that of the choice
-chosen : (c : tie.Joined5 Inv-loop μ-loop) → Chosen (c .before .before .before .before .before .before .before .before .args .t1) (c .if5 .place)
+chosen : (c : tie.Joined6 Inv-loop μ-loop) → Chosen (c .before .before .before .before .before .before .before .before .before .before .before .before .args .s) (c .if6 .place)
 chosen c =
-    let least = c .before .least-task in
-    let loop = c .before .before .before .loop in
-    let end = c .before .before .loop-test .left in
+    let least = c .before .before .least-task in
+    let loop = c .before .before .before .before .loop in
+    let end = c .before .before .before .loop-test .left in
     record {
       formed = loop .inv .formed;
-      some = c .before .before .before .before .before .if2 .left;
+      some = c .before .before .before .before .before .before .if3 .left;
       place = ⊎-elim
           (λ w. w .1 ∙ place-due _ (loop .inv) end (least .ensures .1) (least .ensures .0) (w .0 .taken))
           (λ w. w .1 ∙ place-started _ (loop .inv) end (least .ensures .1) (least .ensures .0) (w .0 .left))
-          (c .if5 .came);
+          (c .if6 .came);
     }
 
 mul-m-2 : tie.Need-mul-m-2 Inv-loop μ-loop
 mul-m-2 c =
-    let inv = c .before .before .before .before .loop .inv in
+    let inv = c .before .before .before .before .before .loop .inv in
     omega (arith, place-lt _ _ (chosen (c .before)) (inv .places) (inv .streams))
 
-element-copy-out-m-2 : tie.Need-element-copy-out-m-2 Inv-loop μ-loop
-element-copy-out-m-2 c =
-    let inv = c .before .before .before .before .loop .inv in
+array-copy-out-m-2 : tie.Need-array-copy-out-m-2 Inv-loop μ-loop
+array-copy-out-m-2 c =
+    let inv = c .before .before .before .before .before .loop .inv in
     place-lt _ _ (chosen (c .before)) (inv .places) (inv .streams)
 
 mul-x-2 : tie.Need-mul-x-2 Inv-loop μ-loop
 mul-x-2 c =
-    let inv = c .before .before .before .before .before .loop .inv in
+    let inv = c .before .before .before .before .before .before .loop .inv in
     omega (arith, stream-lt _ _ (chosen (c .before .before)) (inv .places) (inv .streams))
 
 array-copy-out-x-2 : tie.Need-array-copy-out-x-2 Inv-loop μ-loop
 array-copy-out-x-2 c =
-    let inv = c .before .before .before .before .before .loop .inv in
+    let inv = c .before .before .before .before .before .before .loop .inv in
     stream-lt _ _ (chosen (c .before .before)) (inv .places) (inv .streams)
 
-returns-3 : tie.Need-returns-3 Inv-loop μ-loop
-returns-3 c =
-    let inv = c .before .before .before .before .before .before .loop .inv in
+returns-4 : tie.Need-returns-4 Inv-loop μ-loop
+returns-4 c =
+    let inv = c .before .before .before .before .before .before .before .loop .inv in
     found _ _ (chosen (c .before .before .before)) (inv .places) (inv .streams)
 
 pub look-spec : {M : Type 1} → statement M
@@ -197,18 +209,20 @@ look-spec =
     (tie.spec
     Inv-loop
     μ-loop
-    well-formed-requires
+    is-valid-requires
     returns
+    formed-requires
     returns-2
+    returns-3
     loop-holds
     sub-k
     mul-m
-    element-copy-out-m
+    array-copy-out-m
     mul-x
     array-copy-out-x
     cast-d
-    mul-if3
-    array-read-if3
+    mul-if4
+    array-read-if4
     mul-deadlines
     array-write-deadlines
     mul-due
@@ -225,7 +239,7 @@ look-spec =
     mul-place-2
     array-read-place-2
     mul-m-2
-    element-copy-out-m-2
+    array-copy-out-m-2
     mul-x-2
     array-copy-out-x-2
-    returns-3)
+    returns-4)

@@ -3,6 +3,7 @@ use native.Mathlib.Omega.{arith}
 use borrow.Author.Needs.{needs}
 use borrow.Author.Tests.{lt-leb, not-true, not-false}
 use mathlib.Core.Bool.{Bool, _&&_}
+use mathlib.Core.Logic.{⊎-elim}
 use mathlib.Core.Path.{_≡_, refl, sym, ap, _∙_}
 use Prim.Native.Nat.{ℕ, _-_, _≤_}
 use lib.ListN.{length, getD, drop}
@@ -11,9 +12,8 @@ use Rattle.laws.proofs.Parts.{sized}
 use Rattle.laws.proofs.Fits.{and-go, and-end}
 use Rattle.rules.specs.States.{noMessage, messageUnused}
 use Rattle.states.specs.Sound.{stateOf}
-use Rattle.states.proofs.Tally.{small-started}
 use Rattle.states.proofs.WellFormed.{no-test}
-use Rattle.states.proofs.Pass.{Opened, Pass, pass-start, pass-out, pass-stream, pass-task, pass-no, pass-go, Passed, pass-end, last-test}
+use Rattle.states.proofs.Pass.{Opened, Pass, pass-start, pass-out, pass-stream, pass-no, pass-past, pass-task, pass-twice, pass-go, Passed, pass-end, last-test}
 use Rattle.states.proofs.formed.Statement.{statement}
 use Rattle.states.proofs.formed.Tie as tie
 
@@ -30,25 +30,18 @@ Inv-loop2 clock count messages before k₀ unused₀ k unused =
 abbrev μ-loop2 : tie.MeasureT-loop2
 μ-loop2 clock count messages before k₀ unused₀ k unused = 64 - k
 
-is-valid-requires : tie.Need-is-valid-requires Inv-loop μ-loop Inv-loop2 μ-loop2
-is-valid-requires c κs = search needs
-
 returns : tie.Need-returns Inv-loop μ-loop Inv-loop2 μ-loop2
-returns c = no-test _ 0 (sym (c .before .is-valid .ensures) ∙ not-true _ (c .if1 .taken))
+returns c = no-test _ 0 (lt-leb _ 64 (c .if1 .taken))
 
 returns-2 : tie.Need-returns-2 Inv-loop μ-loop Inv-loop2 μ-loop2
-returns-2 c = no-test _ 1 (lt-leb _ 64 (c .if2 .taken))
-
-returns-3 : tie.Need-returns-3 Inv-loop μ-loop Inv-loop2 μ-loop2
-returns-3 c = no-test _ 2 (lt-leb _ 4000000000 (c .if3 .taken))
+returns-2 c = no-test _ 1 (lt-leb _ 4000000000 (c .if2 .taken))
 
 loop-holds : tie.Need-loop-holds Inv-loop μ-loop Inv-loop2 μ-loop2
 loop-holds c =
-    let start = c .before .before .before .before in
+    let start = c .before .before in
     pass-start (stateOf (start .args .t1) (start .args .clock) (start .args .count) (start .args .t2)) (record {
-      set = sym (c .before .before .before .is-valid .ensures) ∙ not-false _ (c .before .before .if1 .left);
-      few = c .before .if2 .left;
-      clock = c .if3 .left;
+      few = c .before .if1 .left;
+      clock = c .if2 .left;
       places = start .good .1 .0 .1 .0 .1;
       streams = sized _ (start .args .t1 .streams) 16 (start .good .0 .1 .1 .1 .0 .1 .0 .1);
     })
@@ -59,58 +52,59 @@ mul-m c = omega (arith, c .loop-test .taken, c .before .loop .inv .opened .few)
 array-copy-out-m : tie.Need-array-copy-out-m Inv-loop μ-loop Inv-loop2 μ-loop2
 array-copy-out-m c = omega (arith, c .loop-test .taken, c .before .loop .inv .opened .few)
 
-returns-4 : tie.Need-returns-4 Inv-loop μ-loop Inv-loop2 μ-loop2
-returns-4 c =
+returns-3 : tie.Need-returns-3 Inv-loop μ-loop Inv-loop2 μ-loop2
+returns-3 c =
     let loop = c .before .before .before .loop in
-    pass-out _ (loop .k) _ _ (loop .inv) (c .before .before .loop-test .taken) (c .if4 .taken)
+    pass-out _ (loop .k) _ _ (loop .inv) (c .before .before .loop-test .taken) (not-true _ (c .if3 .taken))
 
 mul-x : tie.Need-mul-x Inv-loop μ-loop Inv-loop2 μ-loop2
 mul-x c =
     let loop = c .before .before .before .loop in
-    omega (arith, pass-stream _ (loop .k) _ _ (loop .inv) (c .before .before .loop-test .taken) (c .if4 .left))
+    omega (arith, pass-stream _ (loop .k) _ _ (loop .inv) (c .before .before .loop-test .taken) (not-false _ (c .if3 .left)))
 
 element-copy-out-x : tie.Need-element-copy-out-x Inv-loop μ-loop Inv-loop2 μ-loop2
 element-copy-out-x c =
     let loop = c .before .before .before .loop in
-    pass-stream _ (loop .k) _ _ (loop .inv) (c .before .before .loop-test .taken) (c .if4 .left)
+    pass-stream _ (loop .k) _ _ (loop .inv) (c .before .before .loop-test .taken) (not-false _ (c .if3 .left))
 
 less-requires : tie.Need-less-requires Inv-loop μ-loop Inv-loop2 μ-loop2
 less-requires c κs = search needs
 
-mul-c : tie.Need-mul-c Inv-loop μ-loop Inv-loop2 μ-loop2
-mul-c c =
-    let loop = c .before .before .before .before .before .before .before .before .before .loop in
-    omega (arith, pass-task _ (loop .k) _ _ (loop .inv) (c .before .before .before .before .before .before .before .before .loop-test .taken) (c .before .before .before .before .before .before .if4 .left))
-
-array-read-c : tie.Need-array-read-c Inv-loop μ-loop Inv-loop2 μ-loop2
-array-read-c c =
-    let loop = c .before .before .before .before .before .before .before .before .before .loop in
-    pass-task _ (loop .k) _ _ (loop .inv) (c .before .before .before .before .before .before .before .before .loop-test .taken) (c .before .before .before .before .before .before .if4 .left)
-
-started-requires : tie.Need-started-requires Inv-loop μ-loop Inv-loop2 μ-loop2
-started-requires c κs = search needs
-
-add-c : tie.Need-add-c Inv-loop μ-loop Inv-loop2 μ-loop2
-add-c c =
-    let start = c .before .before .before .before .before .before .before .before .before .before .before .before .before .before .before in
+returns-4 : tie.Need-returns-4 Inv-loop μ-loop Inv-loop2 μ-loop2
+returns-4 c =
     let loop = c .before .before .before .before .before .before .before .before .before .before .loop in
-    omega (arith, c .started .ensures, loop .inv .tally .small _ (pass-task _ (loop .k) _ _ (loop .inv) (c .before .before .before .before .before .before .before .before .before .loop-test .taken) (c .before .before .before .before .before .before .before .if4 .left)), small-started (getD (start .args .t2) (loop .k) noMessage .used))
+    let less = c .before .before .before .before .before .less in
+    pass-no _ (loop .k) _ _ (loop .inv) (c .before .before .before .before .before .before .before .before .before .loop-test .taken) (not-false _ (c .before .before .before .before .before .before .before .if3 .left)) (less .result) (less .ensures) (not-true _ (c .if4 .taken))
+
+mul-if6 : tie.Need-mul-if6 Inv-loop μ-loop Inv-loop2 μ-loop2
+mul-if6 c =
+    let loop = c .before .before .before .before .before .before .before .before .before .before .before .before .loop in
+    let less = c .before .before .before .before .before .before .before .less in
+    omega (arith, pass-task _ (loop .k) _ _ (loop .inv) (c .before .before .before .before .before .before .before .before .before .before .before .loop-test .taken) (not-false _ (c .before .before .before .before .before .before .before .before .before .if3 .left)) (less .result) (less .ensures) (not-false _ (c .before .before .if4 .left)) (c .if5 .taken))
+
+array-read-if6 : tie.Need-array-read-if6 Inv-loop μ-loop Inv-loop2 μ-loop2
+array-read-if6 c =
+    let loop = c .before .before .before .before .before .before .before .before .before .before .before .before .loop in
+    let less = c .before .before .before .before .before .before .before .less in
+    (pass-task _ (loop .k) _ _ (loop .inv) (c .before .before .before .before .before .before .before .before .before .before .before .loop-test .taken) (not-false _ (c .before .before .before .before .before .before .before .before .before .if3 .left)) (less .result) (less .ensures) (not-false _ (c .before .before .if4 .left)) (c .if5 .taken))
 
 returns-5 : tie.Need-returns-5 Inv-loop μ-loop Inv-loop2 μ-loop2
 returns-5 c =
-    let loop = c .before .before .before .before .before .before .before .before .before .before .before .loop in
-    pass-no _ (loop .k) _ _ (loop .inv) (c .before .before .before .before .before .before .before .before .before .before .loop-test .taken) (c .before .before .before .before .before .before .before .before .if4 .left) (c .before .before .before .before .before .before .less .result) (c .before .started .result) _ (c .before .before .before .before .before .before .less .ensures) (c .before .started .ensures) refl
-    (not-true _ (c .if5 .taken))
+    let loop = c .before .before .before .before .before .before .before .before .before .before .before .before .before .loop in
+    let less = c .before .before .before .before .before .before .before .before .less in
+    pass-twice _ (loop .k) _ _ (loop .inv) (c .before .before .before .before .before .before .before .before .before .before .before .before .loop-test .taken) (not-false _ (c .before .before .before .before .before .before .before .before .before .before .if3 .left)) (less .result) (less .ensures) (not-false _ (c .before .before .before .if4 .left)) (c .before .if5 .taken) (c .if6 .taken)
 
 mul-counts : tie.Need-mul-counts Inv-loop μ-loop Inv-loop2 μ-loop2
 mul-counts c =
-    let loop = c .before .before .before .before .before .before .before .before .before .before .before .loop in
-    omega (arith, pass-task _ (loop .k) _ _ (loop .inv) (c .before .before .before .before .before .before .before .before .before .before .loop-test .taken) (c .before .before .before .before .before .before .before .before .if4 .left))
+    let loop = c .before .before .before .before .before .before .before .before .before .before .before .before .before .loop in
+    let less = c .before .before .before .before .before .before .before .before .less in
+    omega (arith, pass-task _ (loop .k) _ _ (loop .inv) (c .before .before .before .before .before .before .before .before .before .before .before .before .loop-test .taken) (not-false _ (c .before .before .before .before .before .before .before .before .before .before .if3 .left)) (less .result) (less .ensures) (not-false _ (c .before .before .before .if4 .left)) (c .before .if5 .taken))
 
 array-write-counts : tie.Need-array-write-counts Inv-loop μ-loop Inv-loop2 μ-loop2
 array-write-counts c =
-    let loop = c .before .before .before .before .before .before .before .before .before .before .before .loop in
-    pass-task _ (loop .k) _ _ (loop .inv) (c .before .before .before .before .before .before .before .before .before .before .loop-test .taken) (c .before .before .before .before .before .before .before .before .if4 .left)
+    let loop = c .before .before .before .before .before .before .before .before .before .before .before .before .before .loop in
+    let less = c .before .before .before .before .before .before .before .before .less in
+    (pass-task _ (loop .k) _ _ (loop .inv) (c .before .before .before .before .before .before .before .before .before .before .before .before .loop-test .taken) (not-false _ (c .before .before .before .before .before .before .before .before .before .before .if3 .left)) (less .result) (less .ensures) (not-false _ (c .before .before .before .if4 .left)) (c .before .if5 .taken))
 
 add-k : tie.Need-add-k Inv-loop μ-loop Inv-loop2 μ-loop2
 add-k c = search needs
@@ -120,13 +114,20 @@ loop-less c = search needs
 
 loop-again : tie.Need-loop-again Inv-loop μ-loop Inv-loop2 μ-loop2
 loop-again c =
-    let loop = c .before .before .before .before .before .before .before .before .before .before .before .loop in
-    pass-go _ (loop .k) _ _ (loop .inv) (c .before .before .before .before .before .before .before .before .before .before .loop-test .taken) (c .before .before .before .before .before .before .before .before .if4 .left) (c .before .before .before .before .before .before .less .result) (c .before .started .result) _ (c .before .before .before .before .before .before .less .ensures) (c .before .started .ensures) refl
-    (not-false _ (c .if5 .left))
+    let loop = c .before .before .before .before .before .before .before .before .before .before .before .before .loop in
+    let less = c .before .before .before .before .before .before .before .less in
+    ⊎-elim
+    (λ w.
+    rw (w .2)
+    (pass-go _ (loop .k) _ _ (loop .inv) (c .before .before .before .before .before .before .before .before .before .before .before .loop-test .taken) (not-false _ (c .before .before .before .before .before .before .before .before .before .if3 .left)) (less .result) (less .ensures) (not-false _ (c .before .before .if4 .left)) (w .0 .taken) (w .1 .left)))
+    (λ w.
+    rw (w .1)
+    (pass-past _ (loop .k) _ _ (loop .inv) (c .before .before .before .before .before .before .before .before .before .before .before .loop-test .taken) (not-false _ (c .before .before .before .before .before .before .before .before .before .if3 .left)) (less .result) (less .ensures) (not-false _ (c .before .before .if4 .left)) (w .0 .left)))
+    (c .if5 .came)
 
 loop2-holds : tie.Need-loop2-holds Inv-loop μ-loop Inv-loop2 μ-loop2
 loop2-holds c =
-    let start = c .before .before .before .before .before .before in
+    let start = c .before .before .before .before in
     let loop = c .before .loop in (
       loop .inv .opened .places,
       ap (λ (k : ℕ). all messageUnused (drop k (start .args .t2))) (let e : loop .k ≡ start .args .count = omega (arith, loop .inv .here, c .loop-test .left) in e),
@@ -149,13 +150,13 @@ loop2-less c = search needs
 
 loop2-again : tie.Need-loop2-again Inv-loop μ-loop Inv-loop2 μ-loop2
 loop2-again c =
-    let start = c .before .before .before .before .before .before .before .before .before .before in
+    let start = c .before .before .before .before .before .before .before .before in
     let loop = c .before .before .before .loop2 in
     (loop .inv .0, and-go messageUnused (start .args .t2) (loop .k) (loop .unused) _ _ noMessage _ (loop .inv .1) refl (c .message-unused .ensures) (omega (arith, c .before .before .loop2-test .taken, loop .inv .0)))
 
 returns-6 : tie.Need-returns-6 Inv-loop μ-loop Inv-loop2 μ-loop2
 returns-6 c =
-    let start = c .before .before .before .before .before .before .before .before in
+    let start = c .before .before .before .before .before .before in
     let loop = c .before .loop2 in
     last-test _ _ (pass-end _ _ _ _ (c .before .before .before .loop .inv) (c .before .before .loop-test .left))
     (and-end messageUnused (start .args .t2) (loop .k) _ _ (loop .inv .1) (omega (arith, c .loop2-test .left, loop .inv .0)))
@@ -168,21 +169,18 @@ formed-spec =
     μ-loop
     Inv-loop2
     μ-loop2
-    is-valid-requires
     returns
     returns-2
-    returns-3
     loop-holds
     mul-m
     array-copy-out-m
-    returns-4
+    returns-3
     mul-x
     element-copy-out-x
     less-requires
-    mul-c
-    array-read-c
-    started-requires
-    add-c
+    returns-4
+    mul-if6
+    array-read-if6
     returns-5
     mul-counts
     array-write-counts
