@@ -3,26 +3,42 @@
 use Prim.Native.Nat.{ℕ, zero, suc, _+_, _-_, _*_, _/_, _%_, _≤_, _<_}
 use native.Mathlib.Omega.{arith}
 use native.Mathlib.Numerals.{add-one}
-use mathlib.Core.Path.{_≡_, refl, sym, ap, _∙_}
-use mathlib.Core.List.{List, [], _∷_, _++_, append-assoc, append-nil}
-use lib.ListN.{length, getD, take, drop}
-use lib.Seq.{take-suc, take-length}
+use mathlib.Core.Path.{_≡_, refl, sym, ap, ap₂, _∙_}
+use mathlib.Core.List.{List, [], _∷_, _++_}
+use lib.ListN.{length, getD, take}
+use lib.Seq.{take-suc, take-all, length-take-le}
 use Rattle.text.specs.declared.Line.{Line}
 use Rattle.text.specs.Held.{holding, putOf, puts}
 use Rattle.text.specs.Hex.{hexDigit, hexed}
-use Rattle.text.proofs.Puts.{single, last, holds}
-use Rattle.page.specs.Pages.{appended, endOf}
-use Rattle.page.proofs.Rooms.{end-at, holds-then, same-size}
+use Rattle.text.proofs.Puts.{holds}
+use Rattle.page.specs.Pages.{appended, endOf, printed, printedEnd}
+use Rattle.page.proofs.Rooms.{room-for, no-room}
+use Rattle.page.proofs.Prints.{prints-none, ends-none, line-printed, line-end, printed-size, printed-nothing, end-nothing, printed-twice, end-twice}
 
--- the digits of the bytes so far stand behind the first `at` bytes of the page
+-- two digits a byte
+pub twice : (w : List ℕ) → length (hexed w) ≡ 2 * length w
+unfolding hexed
+twice [] = refl
+twice (b ∷ w) = omega (arith, twice w)
+
+-- the digits of the bytes so far are printed on the page, which has room for all
 pub record Printing (out₀ bytes out : List ℕ) (at i end : ℕ) : Type 0 where
-  pub size : length out ≡ length out₀
   pub low : i ≤ length bytes
-  pub stand : at + 2 * length bytes ≤ length out₀ → (end ≡ at + 2 * i) × (take end out ≡ take at out₀ ++ hexed (take i bytes))
+  pub ends : end ≡ printedEnd out₀ at (hexed (take i bytes))
+  pub stands : out ≡ printed out₀ at (hexed (take i bytes))
 
 pub print-start : (out bytes : List ℕ) (at : ℕ) → Printing out bytes out at 0 at
 unfolding hexed
-print-start out bytes at = record { size = refl; low = omega arith; stand = λ room. (omega arith, sym (append-nil (take at out))) }
+print-start out bytes at = record { low = omega arith; ends = sym (end-nothing out at); stands = sym (printed-nothing out at) }
+
+-- a page without the room
+pub print-none : (out bytes : List ℕ) (at : ℕ) → length out < at + 2 * length bytes
+    → (at ≡ printedEnd out at (hexed bytes)) × (out ≡ printed out at (hexed bytes))
+print-none out bytes at h =
+    let none = no-room out at (length (hexed bytes)) (omega (arith, twice bytes)) in (
+      sym (ends-none out (hexed bytes) at none),
+      sym (prints-none out (hexed bytes) at none),
+    )
 
 -- the line of one byte
 pub pair-line : (b m r : Line) (n x y : ℕ) → n < 256 → b ≡ holding [] → x ≡ hexDigit (n / 16 % 16) → m ≡ putOf b x
@@ -40,35 +56,44 @@ unfolding hexed
 hexed-last [] b = refl
 hexed-last (a ∷ w) b = ap (λ (v : List ℕ). hexDigit (a / 16) ∷ hexDigit (a % 16) ∷ v) (hexed-last w b)
 
+hexed-next : (bytes : List ℕ) (i : ℕ) → i < length bytes
+    → hexed (take i bytes) ++ (hexDigit (getD bytes i 0 / 16) ∷ hexDigit (getD bytes i 0 % 16) ∷ []) ≡ hexed (take (i + 1) bytes)
+hexed-next bytes i h =
+    sym (hexed-last (take i bytes) (getD bytes i 0)) ∙ ap hexed (sym (take-suc bytes i 0 h) ∙ ap (λ (k : ℕ). take k bytes) (sym (add-one i)))
+
 module _ (out₀ bytes out out′ : List ℕ) (at i end end′ : ℕ) (l : Line) where
   -- a turn
-  pub print-turn : i < length bytes → l ≡ holding (hexDigit (getD bytes i 0 / 16) ∷ hexDigit (getD bytes i 0 % 16) ∷ [])
-      → end′ ≡ endOf out end l → out′ ≡ appended out end l → length out′ ≡ length out₀ → Printing out₀ bytes out at i end
-      → Printing out₀ bytes out′ at (i + 1) end′
-  print-turn h e f g s p =
+  pub print-turn : at + 2 * length bytes ≤ length out₀ → i < length bytes
+      → l ≡ holding (hexDigit (getD bytes i 0 / 16) ∷ hexDigit (getD bytes i 0 % 16) ∷ [])
+      → end′ ≡ endOf out end l → out′ ≡ appended out end l → Printing out₀ bytes out at i end → Printing out₀ bytes out′ at (i + 1) end′
+  print-turn room h e f g p =
       let w : List ℕ = hexDigit (getD bytes i 0 / 16) ∷ hexDigit (getD bytes i 0 % 16) ∷ [] in
-      record {
-        size = s;
+      let v : List ℕ = hexed (take i bytes) in
+      let fits = room-for out₀ at (2 * length bytes) (omega arith) (omega arith) in
+      let both : length v + length w ≤ 2 * length bytes = omega (arith, twice (take i bytes), length-take-le i bytes (p .low)) in record {
         low = omega arith;
-        stand = λ room.
-            (let ends : end ≡ at + 2 * i = p .stand room .0 in
-            let fits : end + 2 ≤ length out = omega (arith, p .size) in
-            let next : end′ ≡ end + 2 = f ∙ ap (λ (k : Line). endOf out end k) e ∙ end-at out w end (omega arith) fits in (
-              omega (arith, next, ends),
-              ap (λ (k : ℕ). take k out′) next
-                  ∙ ap (λ (o : List ℕ). take (end + 2) o) (g ∙ ap (λ (k : Line). appended out end k) e)
-                  ∙ holds-then out w end (omega arith) fits
-                  ∙ ap (λ (v : List ℕ). v ++ w) (p .stand room .1)
-                  ∙ append-assoc (take at out₀) (hexed (take i bytes)) w
-                  ∙ ap (λ (v : List ℕ). take at out₀ ++ v) (sym (hexed-last (take i bytes) (getD bytes i 0)) ∙ ap hexed (sym (take-suc bytes i 0 h) ∙ ap (λ (k : ℕ). take k bytes) (sym (add-one i)))),
-            ));
+        ends = f
+            ∙ ap (λ (k : Line). endOf out end k) e
+            ∙ line-end out w end (omega arith)
+            ∙ ap₂ (λ (o : List ℕ) (k : ℕ). printedEnd o k w) (p .stands) (p .ends)
+            ∙ end-twice out₀ v w at (2 * length bytes) fits both
+            ∙ ap (λ (u : List ℕ). printedEnd out₀ at u) (hexed-next bytes i h);
+        stands = g
+            ∙ ap (λ (k : Line). appended out end k) e
+            ∙ line-printed out w end (omega arith)
+            ∙ ap₂ (λ (o : List ℕ) (k : ℕ). printed o k w) (p .stands) (p .ends)
+            ∙ printed-twice out₀ v w at (2 * length bytes) fits both
+            ∙ ap (λ (u : List ℕ). printed out₀ at u) (hexed-next bytes i h);
       }
 
--- the end
-pub print-end : (out₀ bytes out : List ℕ) (at i end : ℕ) → length bytes ≤ i → Printing out₀ bytes out at i end → at + 2 * length bytes ≤ length out₀
-    → (end ≡ at + 2 * length bytes) × (take end out ≡ take at out₀ ++ hexed bytes)
-print-end out₀ bytes out at i end h p room =
-    let all : i ≡ length bytes = omega (arith, p .low) in (
-      p .stand room .0 ∙ ap (λ (k : ℕ). at + 2 * k) all,
-      p .stand room .1 ∙ ap (λ (k : ℕ). take at out₀ ++ hexed (take k bytes)) all ∙ ap (λ (v : List ℕ). take at out₀ ++ hexed v) (take-length bytes),
-    )
+module _ (out₀ bytes out : List ℕ) (at i end : ℕ) (p : Printing out₀ bytes out at i end) where
+  pub print-size : length out ≡ length out₀
+  print-size = ap length (p .stands) ∙ printed-size out₀ (hexed (take i bytes)) at
+
+  -- the end
+  pub print-end : length bytes ≤ i → (end ≡ printedEnd out₀ at (hexed bytes)) × (out ≡ printed out₀ at (hexed bytes))
+  print-end h =
+      let all : take i bytes ≡ bytes = take-all i bytes h in (
+        p .ends ∙ ap (λ (w : List ℕ). printedEnd out₀ at (hexed w)) all,
+        p .stands ∙ ap (λ (w : List ℕ). printed out₀ at (hexed w)) all,
+      )

@@ -1,9 +1,10 @@
 // Bytes as two hex digits each, read and printed.
 ghost use mathlib.Core.Path.{_≡_};
-ghost use mathlib.Core.List.{_++_, _∷_, []};
-ghost use Prim.Native.Nat.{_+_, _*_, _/_, _%_, _≤_};
-ghost use lib.ListN.{length, take};
-ghost use Rattle.text.specs.Hex.{hexOf, hexDigit, unhexed, hexed};
+ghost use mathlib.Core.List.{_∷_, []};
+ghost use Prim.Native.Nat.{_+_, _*_, _/_, _%_};
+ghost use Rattle.text.specs.Hex.{hexOf, hexDigit, hexed};
+ghost use Rattle.page.specs.Pages.{printed, printedEnd};
+ghost use Rattle.hexes.specs.Unhexed.{fitting, unhexedIn};
 ghost use Rattle.text.specs.Held.{holding};
 use text::Line;
 
@@ -25,8 +26,7 @@ fn byte_of(a: u8, b: u8) -> u8
 // The bytes that hex digits stand for, in the first places of a buffer, and how many they are. A buffer too short for all of them
 // takes the first.
 pub fn unhex(digits: &[u8], bytes: &mut [u8]) -> usize
-    ensures { λ r. ⌜ r ≤ length (now (bytes .exit)) ⌝ }
-    ensures { λ r. ⌜ (length (now (digits .entry)) ≤ 2 * length (now (bytes .entry)) → take r (now (bytes .exit)) ≡ unhexed (now (digits .entry))) ⌝ }
+    ensures { λ r. ⌜ (r ≡ fitting (now (digits .entry)) (now (bytes .entry))) × (now (bytes .exit) ≡ unhexedIn (now (digits .entry)) (now (bytes .entry))) ⌝ }
 {
     let mut n = 0;
     while n < bytes.len() {
@@ -46,10 +46,17 @@ fn pair(b: u8) -> Line
     text::put(text::put(text::blank(), digit(b / 16)), digit(b % 16))
 }
 
-// The digits of the bytes, behind the first `at` bytes of a page, and where they end.
+// The digits of the bytes, behind the first `at` bytes of a page, and where they end; a page that has no room for all of them stays as
+// it is.
 pub fn print(bytes: &[u8], out: &mut [u8], at: usize) -> usize
-    ensures { λ r. ⌜ (at + 2 * length (now (bytes .entry)) ≤ length (now (out .entry)) → (r ≡ at + 2 * length (now (bytes .entry))) × (take r (now (out .exit)) ≡ take at (now (out .entry)) ++ hexed (now (bytes .entry)))) ⌝ }
+    ensures { λ r. ⌜ (r ≡ printedEnd (now (out .entry)) at (hexed (now (bytes .entry)))) × (now (out .exit) ≡ printed (now (out .entry)) at (hexed (now (bytes .entry)))) ⌝ }
 {
+    if out.len() < at {
+        return at;
+    }
+    if (out.len() - at) / 2 < bytes.len() {
+        return at;
+    }
     let mut end = at;
     let mut i = 0;
     while i < bytes.len() {

@@ -1,40 +1,56 @@
 -- Laws of pages: with and without room, and what a page holds behind a line that was put on it.
 -- Assumes nothing.
-use Prim.Native.Nat.{ℕ, zero, suc, _+_, _-_, _≤_, _<_}
+use Prim.Native.Nat.{ℕ, _+_, _-_, _≤_, _<_}
 use native.Mathlib.Omega.{arith}
 use mathlib.Core.Path.{_≡_, refl, sym, ap, _∙_}
-use mathlib.Core.Bool.{Bool, true, false, cond, _&&_}
-use mathlib.Core.List.{List, [], _∷_, _++_, map}
+use mathlib.Core.Bool.{true, false}
+use mathlib.Core.List.{List, _++_, map}
 use native.Mathlib.Numerals.{add-one}
 use lib.ListN.{length, getD, take, drop, set, length-map, length-append}
 use lib.Seq.{paste, paste-suc, take-paste, drop-paste, length-paste, take-append-seam}
 use lib.Dec.{leb}
-use borrow.Author.Tests.{le-leb, lt-leb}
+use borrow.Author.Tests.{le-leb, lt-leb, leb-true}
 use Rattle.laws.specs.Bits.{zeros}
+use Rattle.laws.proofs.Sums.{and-parts, and-no, by-test}
 use Rattle.text.specs.declared.Line.{Line}
 use Rattle.text.specs.Held.{holding}
-use Rattle.page.specs.Pages.{hasRoom, appended, endOf}
+use Rattle.page.specs.Pages.{roomFor, hasRoom, appended, endOf}
 
-and-false : (t : Bool) → (t && false) ≡ false
-and-false true = refl
-and-false false = refl
+module _ (out : List ℕ) (at n : ℕ) where
+  pub room-for : at ≤ length out → n ≤ length out - at → roomFor out at n ≡ true
+  unfolding roomFor
+  room-for b c = rw (le-leb at (length out) b, le-leb n (length out - at) c)
+
+  pub no-room : length out < at + n → roomFor out at n ≡ false
+  unfolding roomFor
+  no-room h = by-test
+      (leb at (length out))
+      (λ e. and-no (leb at (length out)) (leb n (length out - at)) (lt-leb n (length out - at) (omega (arith, leb-true at (length out) e))))
+      (λ e. rw e)
+
+  -- the whole test, once the page is long enough for `at`
+  pub rest : at ≤ length out → leb n (length out - at) ≡ roomFor out at n
+  unfolding roomFor
+  rest h = rw (le-leb at (length out) h)
+
+  pub room-is : roomFor out at n ≡ true → at + n ≤ length out
+  unfolding roomFor
+  room-is e =
+      let parts = and-parts (leb at (length out)) (leb n (length out - at)) e in
+      omega (arith, leb-true at (length out) (parts .0), leb-true n (length out - at) (parts .1))
 
 module _ (out : List ℕ) (at : ℕ) (l : Line) where
-  pub room : l .len ≤ 128 → at ≤ length out → l .len ≤ length out - at → hasRoom out at l ≡ true
+  pub room : l .len ≤ 128 → roomFor out at (l .len) ≡ true → hasRoom out at l ≡ true
   unfolding hasRoom
-  room a b c = rw (le-leb (l .len) 128 a, le-leb at (length out) b, le-leb (l .len) (length out - at) c)
+  room a b = rw (le-leb (l .len) 128 a, b)
 
   pub too-long : 128 < l .len → hasRoom out at l ≡ false
   unfolding hasRoom
   too-long h = rw (lt-leb (l .len) 128 h)
 
-  pub past-end : length out < at → hasRoom out at l ≡ false
+  pub too-full : roomFor out at (l .len) ≡ false → hasRoom out at l ≡ false
   unfolding hasRoom
-  past-end h = rw (lt-leb at (length out) h, and-false (leb (l .len) 128))
-
-  pub too-full : length out - at < l .len → hasRoom out at l ≡ false
-  unfolding hasRoom
-  too-full h = rw (lt-leb (l .len) (length out - at) h, and-false (leb at (length out)), and-false (leb (l .len) 128))
+  too-full h = and-no (leb (l .len) 128) (roomFor out at (l .len)) h
 
   pub stays : hasRoom out at l ≡ false → (at ≡ endOf out at l) × (out ≡ appended out at l)
   unfolding endOf appended
@@ -48,7 +64,7 @@ module _ (out : List ℕ) (at : ℕ) (l : Line) where
 module _ (out w : List ℕ) (at : ℕ) (h : length w ≤ 128) (g : at + length w ≤ length out) where
   there : hasRoom out at (holding w) ≡ true
   unfolding holding
-  there = room out at (holding w) h (omega arith) (omega arith)
+  there = room out at (holding w) h (room-for out at (length w) (omega arith) (omega arith))
 
   inside : length w ≤ length (w ++ zeros (128 - length w))
   inside = omega (arith, length-append w (zeros (128 - length w)))

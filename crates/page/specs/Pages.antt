@@ -2,11 +2,10 @@
 -- Assumes nothing.
 use Prim.Native.Nat.{ℕ, _+_, _-_}
 use mathlib.Core.Bool.{Bool, cond, _&&_}
-use mathlib.Core.List.{List, [], _∷_}
+use mathlib.Core.List.{List}
 use lib.ListN.{length}
 use lib.Seq.{paste}
 use lib.Dec.{leb}
-use Rattle.laws.specs.Lists.{every}
 use Rattle.text.specs.declared.Line.{Line}
 
 -- there is room for n bytes behind the first `at`
@@ -21,9 +20,9 @@ printed out at w = cond (roomFor out at (length w)) (paste out at w (length w)) 
 unfoldable pub printedEnd : List ℕ → ℕ → List ℕ → ℕ
 printedEnd out at w = cond (roomFor out at (length w)) (at + length w) at
 
--- there is room for the line
+-- there is room for the line, which has at most 128 bytes
 unfoldable pub hasRoom : List ℕ → ℕ → Line → Bool
-hasRoom out at l = every (leb (l .len) 128 ∷ leb at (length out) ∷ leb (l .len) (length out - at) ∷ [])
+hasRoom out at l = leb (l .len) 128 && roomFor out at (l .len)
 
 -- the page with the line there, and where the line ends
 unfoldable pub appended : List ℕ → ℕ → Line → List ℕ

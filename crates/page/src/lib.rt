@@ -5,7 +5,7 @@ ghost use lib.ListN.{length, take};
 ghost use lib.Dec.{leb};
 ghost use mathlib.Core.Bool.{cond};
 ghost use lib.Seq.{paste};
-ghost use Rattle.page.specs.Pages.{appended, endOf};
+ghost use Rattle.page.specs.Pages.{appended, endOf, roomFor};
 use text::Line;
 
 // The first n bytes of src, in dst from `to` on.
@@ -20,6 +20,16 @@ fn copy(src: &[u8], dst: &mut [u8], to: usize, n: usize)
     }
 }
 
+// Is there room for n bytes behind the first `at` bytes of a page?
+pub fn has_room(out: &[u8], at: usize, n: usize) -> bool
+    ensures { λ r. ⌜ r ≡ roomFor (now (out .entry)) at n ⌝ }
+{
+    if out.len() < at {
+        return false;
+    }
+    n <= out.len() - at
+}
+
 // A line behind the first `at` bytes of a page, and where it ends; a page that has no room for it stays as it is.
 pub fn append(out: &mut [u8], at: usize, l: Line) -> usize
     ensures { λ r. ⌜ (r ≡ endOf (now (out .entry)) at l) × (now (out .exit) ≡ appended (now (out .entry)) at l) ⌝ }
@@ -28,10 +38,7 @@ pub fn append(out: &mut [u8], at: usize, l: Line) -> usize
     if 128 < n {
         return at;
     }
-    if out.len() < at {
-        return at;
-    }
-    if out.len() - at < n {
+    if !has_room(out, at, n) {
         return at;
     }
     let bytes = l.bytes;

@@ -26,7 +26,8 @@ same-length c = search needs
 
 returns-2 : tie.Need-returns-2
 returns-2 c =
-    (search needs, some (c .before .before .before .before .before .before .before .before .args .line .now) _ _ (omega (arith, c .before .before .before .before .before .if1 .left)) (c .before .before .unhex .ensures .1))
+    let u = c .before .before .unhex in
+    some (c .before .before .before .before .before .before .before .before .args .line .now) _ _ _ (omega (arith, c .before .before .before .before .before .if1 .left)) (u .ensures .0) (u .ensures .1)
 
 pub hex-behind-spec : {M : Type 1} → statement M
 hex-behind-spec =

@@ -1,21 +1,30 @@
 -- `hexes::print` meets its contract.
 -- Assumes nothing.
-use Prim.Native.Nat.{_-_}
+use Prim.Native.Nat.{_+_, _-_, _*_, _≤_}
 use lib.ListN.{length}
-use Rattle.hexes.proofs.Prints.{Printing, print-start, print-turn, print-end}
+use Rattle.hexes.proofs.Prints.{Printing, print-start, print-none, print-turn, print-size, print-end}
 use native.Mathlib.Omega.{arith}
 use borrow.Author.Needs.{needs}
 use Rattle.hexes.proofs.print.Statement.{statement}
 use Rattle.hexes.proofs.print.Tie as tie
 
 abbrev Inv-loop : tie.InvT-loop
-Inv-loop bytes out₀ at end₀ i₀ out end i = Printing out₀ bytes out at i end
+Inv-loop bytes out₀ at end₀ i₀ out end i = (at + 2 * length bytes ≤ length out₀) × Printing out₀ bytes out at i end
 
 abbrev μ-loop : tie.MeasureT-loop
 μ-loop bytes out₀ at end₀ i₀ out end i = length bytes - i
 
+returns : tie.Need-returns Inv-loop μ-loop
+returns c = print-none _ _ _ (omega (arith, c .if1 .taken))
+
+sub-if2 : tie.Need-sub-if2 Inv-loop μ-loop
+sub-if2 c = search needs
+
+returns-2 : tie.Need-returns-2 Inv-loop μ-loop
+returns-2 c = print-none _ _ _ (omega (arith, c .if2 .taken))
+
 loop-holds : tie.Need-loop-holds Inv-loop μ-loop
-loop-holds c = print-start _ _ _
+loop-holds c = (omega arith, print-start _ _ _)
 
 shared-slice-read-pair : tie.Need-shared-slice-read-pair Inv-loop μ-loop
 shared-slice-read-pair c = search needs
@@ -33,13 +42,16 @@ loop-less : tie.Need-loop-less Inv-loop μ-loop
 loop-less c = search needs
 
 loop-again : tie.Need-loop-again Inv-loop μ-loop
-loop-again c = print-turn (c .before .before .before .before .before .before .before .before .before .before .args .out .now) (c .before .before .before .before .before .before .before .before .before .before .args .bytes .now) (c .before .before .before .before .before .before .before .loop .out) _ (c .before .before .before .before .before .before .before .before .before .before .args .at) (c .before .before .before .before .before .before .before .loop .i) (c .before .before .before .before .before .before .before .loop .end) _ _ (c .before .before .before .before .before .before .loop-test .taken) (c .before .before .before .pair .ensures) (c .before .before .append .ensures .0) (c .before .before .append .ensures .1) (search needs) (c .before .before .before .before .before .before .before .loop .inv)
+loop-again c =
+    let m = c .before .before .before .before .before .before in
+    let l = m .before .loop in
+    (l .inv .0, print-turn _ _ (l .out) _ _ (l .i) (l .end) _ _ (l .inv .0) (m .loop-test .taken) (c .before .before .before .pair .ensures) (c .before .before .append .ensures .0) (c .before .before .append .ensures .1) (l .inv .1))
 
 same-length : tie.Need-same-length Inv-loop μ-loop
-same-length c = c .before .loop .inv .size
+same-length c = print-size _ _ _ _ _ _ (c .before .loop .inv .1)
 
-returns : tie.Need-returns Inv-loop μ-loop
-returns c = print-end (c .before .before .before .before .args .out .now) (c .before .before .before .before .args .bytes .now) (c .before .loop .out) (c .before .before .before .before .args .at) (c .before .loop .i) (c .before .loop .end) (c .loop-test .left) (c .before .loop .inv)
+returns-3 : tie.Need-returns-3 Inv-loop μ-loop
+returns-3 c = print-end _ _ _ _ _ _ (c .before .loop .inv .1) (c .loop-test .left)
 
 pub print-spec : {M : Type 1} → statement M
 print-spec =
@@ -47,6 +59,9 @@ print-spec =
     (tie.spec
     Inv-loop
     μ-loop
+    returns
+    sub-if2
+    returns-2
     loop-holds
     shared-slice-read-pair
     pair-requires
@@ -55,4 +70,4 @@ print-spec =
     loop-less
     loop-again
     same-length
-    returns)
+    returns-3)

@@ -1,29 +1,27 @@
 -- `hexes::unhex` meets its contract.
 -- Assumes nothing.
-use Prim.Native.Nat.{_-_, _≤_}
-use mathlib.Core.Path.{_≡_, refl, _∙_}
+use Prim.Native.Nat.{_-_}
+use mathlib.Core.Path.{_∙_}
 use lib.ListN.{length, length-set}
-use Rattle.hexes.proofs.Pairs.{Reading, reading-turn, reading-end}
-use native.Mathlib.Omega.{arith}
+use Rattle.hexes.proofs.Pairs.{Reading, reading-start, reading-turn, reading-full, reading-done}
 use borrow.Author.Needs.{needs}
 use Rattle.hexes.proofs.unhex.Statement.{statement}
 use Rattle.hexes.proofs.unhex.Tie as tie
 
 abbrev Inv-loop : tie.InvT-loop
-Inv-loop digits bytes₀ n₀ bytes n = ((length bytes ≡ length bytes₀) × (n ≤ length bytes)) × Reading digits bytes n
+Inv-loop digits bytes₀ n₀ bytes n = Reading digits bytes₀ bytes n
 
 abbrev μ-loop : tie.MeasureT-loop
 μ-loop digits bytes₀ n₀ bytes n = length bytes₀ - n
 
 loop-holds : tie.Need-loop-holds Inv-loop μ-loop
-loop-holds c = ((refl, omega arith), (omega arith, refl))
+loop-holds c = reading-start _ _
 
 same-length : tie.Need-same-length Inv-loop μ-loop
 same-length c = search needs
 
 returns : tie.Need-returns Inv-loop μ-loop
-returns c =
-    (c .before .before .loop .inv .0 .1, λ h. reading-end (c .before .before .before .before .before .args .digits .now) (c .before .before .loop .bytes) (c .before .before .loop .n) (omega (arith, c .if1 .taken)) (c .before .before .loop .inv .1))
+returns c = reading-done _ _ _ _ (c .before .before .loop .inv) (c .if1 .taken)
 
 mul-byte-of : tie.Need-mul-byte-of Inv-loop μ-loop
 mul-byte-of c = search needs
@@ -53,17 +51,15 @@ loop-less : tie.Need-loop-less Inv-loop μ-loop
 loop-less c = search needs
 
 loop-again : tie.Need-loop-again Inv-loop μ-loop
-loop-again c = (
-  (length-set (c .before .before .before .before .before .loop .bytes) (c .before .before .before .before .before .loop .n) (c .byte-of .result) ∙ c .before .before .before .before .before .loop .inv .0 .0, omega (arith, length-set (c .before .before .before .before .before .loop .bytes) (c .before .before .before .before .before .loop .n) (c .byte-of .result), c .before .before .before .before .loop-test .taken)),
-  reading-turn (c .before .before .before .before .before .before .before .before .args .digits .now) (c .before .before .before .before .before .loop .bytes) (c .before .before .before .before .before .loop .n) _ (c .before .before .before .before .loop-test .taken) (c .before .before .before .if1 .left) (c .byte-of .ensures) (c .before .before .before .before .before .loop .inv .1),
-)
+loop-again c =
+    let l = c .before .before .before .before .before .loop in
+    reading-turn _ _ (l .bytes) (l .n) (l .inv) (c .byte-of .result) (c .before .before .before .before .loop-test .taken) (c .before .before .before .if1 .left) (c .byte-of .ensures) (length-set (l .bytes) (l .n) (c .byte-of .result) ∙ l .inv .size)
 
 same-length-2 : tie.Need-same-length-2 Inv-loop μ-loop
 same-length-2 c = search needs
 
 returns-2 : tie.Need-returns-2 Inv-loop μ-loop
-returns-2 c =
-    (c .before .loop .inv .0 .1, λ h. reading-end (c .before .before .before .before .args .digits .now) (c .before .loop .bytes) (c .before .loop .n) (omega (arith, h, c .loop-test .left, c .before .loop .inv .0 .0)) (c .before .loop .inv .1))
+returns-2 c = reading-full _ _ _ _ (c .before .loop .inv) (c .loop-test .left)
 
 pub unhex-spec : {M : Type 1} → statement M
 unhex-spec =
