@@ -23,7 +23,8 @@ fn flush(c: Carry, out: &[u8]) -> Carry {
     next
 }
 
-// The line that has come, obeyed. No command fills more than 16,384 bytes of the page.
+// The line that has come, obeyed. No command fills more than 8,448 bytes of the page, and more are left of its 65,536: it is written out
+// beyond 32,768.
 fn end_line(c: Carry, line: &[u8], out: &mut [u8]) -> Carry {
     let n = page::within(c.len, line);
     let before = c.desk;
