@@ -3,11 +3,10 @@
 use Prim.Native.Nat.{ℕ, _+_, _*_, _≤_, _<_}
 use native.Mathlib.Omega.{arith}
 use mathlib.Core.Path.{_≡_, refl, sym, ap, ap₂, _∙_}
-use mathlib.Core.Bool.{Bool, true, false, cond}
+use mathlib.Core.Bool.{Bool, true, false}
 use mathlib.Core.List.{List, []}
 use mathlib.Core.Logic.{⊎-elim}
 use lib.ListN.{length}
-use lib.Dec.{ltb, eqb}
 use Rattle.laws.proofs.Gates.{le-or-lt}
 use borrow.Author.Tests.{lt-ltb, ne-eqb}
 use Rattle.rows.specs.declared.Kind.the-variants.{Unknown}
@@ -15,13 +14,12 @@ use Rattle.orders.specs.declared.Order.{Order}
 use Rattle.orders.specs.Lines.{orderAt, orderOf}
 use Rattle.held.specs.declared.Desk.{Desk}
 use Rattle.held.specs.declared.Left.{Left}
-use Rattle.held.specs.declared.Answer.{Answer}
 use Rattle.held.specs.Leaves.{leaves, answers}
 use Rattle.page.specs.Pages.{roomFor}
 use Rattle.told.specs.Prints.{Told, Tells, answerRoom}
 use Rattle.told.proofs.Once.{told-once}
 use Rattle.desk.specs.declared.Step.{Step}
-use Rattle.desk.specs.Obeyed.{sheetIn, deskAfter, answerTo, Obeyed, ObeysIf, Obeys}
+use Rattle.desk.specs.Obeyed.{sheetIn, deskAfter, answerTo, ObeysIf, Obeys}
 
 -- a line that is too long is no command, and the bytes behind it do not matter
 too-long : (l : List ℕ) → 4096 < length l → orderOf l ≡ orderAt Unknown []

@@ -1,8 +1,8 @@
 -- Each answer on a page.
 -- Assumes nothing.
 use Prim.Native.Nat.{ℕ}
-use mathlib.Core.Path.{_≡_, refl, sym, _∙_}
-use mathlib.Core.Bool.{Bool, true, false}
+use mathlib.Core.Path.{_≡_, refl}
+use mathlib.Core.Bool.{true, false}
 use mathlib.Core.List.{List, []}
 use Rattle.rules.specs.declared.Verdict.{Verdict as Judgement}
 use Rattle.rules.specs.Load.{VerdictOf}

@@ -46,9 +46,12 @@ same-length-2 c = search needs
 
 returns-2 : tie.Need-returns-2
 returns-2 c =
-    let e = c .before .before .before .before .before .before .before .before .before .before .before in
+    let l = c .before .before .before .before .before in
+    let h = l .before .before .before .before in
+    let e = h .before .before in
     let a = e .before .before .before .before .before .args in
-    obeys (a .d) (a .line .now) (a .out .now) (a .at) _ _ _ _ _ (sym (e .before .has-room .ensures) ∙ not-false _ (e .if1 .left)) (c .before .before .before .before .before .before .before .before .before .hex-behind .ensures .1) (c .before .before .before .before .before .before .before .parse .ensures) (c .before .before .before .before .before .after .ensures) (c .before .before .tell .ensures)
+    obeys (a .d) (a .line .now) (a .out .now) (a .at) _ _ _ _ _ (sym (e .before .has-room .ensures) ∙ not-false _ (e .if1 .left))
+    (h .hex-behind .ensures .1) (l .before .before .parse .ensures) (l .after .ensures) (c .before .before .tell .ensures)
 
 pub obey-spec : {M : Type 1} → statement M
 obey-spec =

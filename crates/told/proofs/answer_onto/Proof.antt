@@ -51,8 +51,9 @@ same-length c = search needs
 
 returns-2 : tie.Need-returns-2
 returns-2 c =
-    let a = c .before .before .before .before .before .before .before .before .before .before .before .args in
-    line-told (a .d) (a .a) (a .out .now) (a .at) _ _ _ _ (c .before .before .before .before .before .before .a .given .1) (c .before .before .before .line-of .ensures) (c .before .before .append .ensures)
+    let e = c .before .before .before .before .before .before in
+    let a = e .before .before .before .before .before .args in
+    line-told (a .d) (a .a) (a .out .now) (a .at) _ _ _ _ (e .a .given .1) (c .before .before .before .line-of .ensures) (c .before .before .append .ensures)
 
 same-length-2 : tie.Need-same-length-2
 same-length-2 c = search needs
@@ -67,8 +68,10 @@ same-length-3 c = search needs
 
 returns-4 : tie.Need-returns-4
 returns-4 c =
-    let a = c .before .before .before .before .before .before .before .before .before .before .before .args in
-    verdict-told (a .d) (a .a) (a .out .now) (a .at) _ _ _ _ (c .before .before .before .before .before .before .enum-told2 .given .1) (c .before .before .before .before .verdict .ensures) (c .before .before .before .verdict-line .ensures) (c .before .before .append2 .ensures)
+    let v = c .before .before .before .before in
+    let a = v .before .before .before .before .before .before .before .args in
+    verdict-told (a .d) (a .a) (a .out .now) (a .at) _ _ _ _ (v .before .before .enum-told2 .given .1) (v .verdict .ensures)
+    (c .before .before .before .verdict-line .ensures) (c .before .before .append2 .ensures)
 
 same-length-4 : tie.Need-same-length-4
 same-length-4 c = search needs

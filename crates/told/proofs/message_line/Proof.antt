@@ -31,7 +31,9 @@ put-requires c κs = search needs
 
 returns : tie.Need-returns
 returns c =
-    message-is _ _ _ _ _ _ _ (c .before .before .before .before .before .before .before .blank .ensures) (c .before .before .before .before .before .two .ensures) (c .before .before .before .number .ensures) (c .before .number2 .ensures) (c .put .ensures)
+    let n = c .before .before .before in
+    let t = n .before .before in
+    message-is _ _ _ _ _ _ _ (t .before .before .blank .ensures) (t .two .ensures) (n .number .ensures) (c .before .number2 .ensures) (c .put .ensures)
 
 pub message-line-spec : {M : Type 1} → statement M
 message-line-spec =

@@ -24,8 +24,9 @@ same-length c = search needs
 returns-2 : tie.Need-returns-2
 unfolding messageUnused
 returns-2 c =
-    let a = c .before .before .before .before .before .before .before .before .before .before .args in
-    used-onto (a .i) (a .m) (a .out .now) (a .at) _ _ _ (c .before .before .before .before .before .if1 .left) (c .before .before .before .message-line .ensures) (c .before .before .append .ensures)
+    let e = c .before .before .before .before .before in
+    let a = e .before .before .before .before .before .args in
+    used-onto (a .i) (a .m) (a .out .now) (a .at) _ _ _ (e .if1 .left) (c .before .before .before .message-line .ensures) (c .before .before .append .ensures)
 
 pub message-onto-spec : {M : Type 1} → statement M
 message-onto-spec =

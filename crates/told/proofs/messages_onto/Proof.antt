@@ -1,10 +1,9 @@
 -- `told::messages_onto` meets its contract.
 -- Assumes nothing.
 use Prim.Native.Nat.{_-_}
-use mathlib.Core.Path.{_≡_, refl}
+use mathlib.Core.Path.{_≡_}
 use lib.ListN.{length}
 use borrow.Author.Needs.{needs}
-use native.Mathlib.Omega.{arith}
 use Rattle.laws.proofs.Parts.{sized}
 use Rattle.told.proofs.States.{Printing, print-start, print-size, print-turn, print-end}
 use Rattle.told.proofs.messages_onto.Statement.{statement}
@@ -36,9 +35,14 @@ loop-less c = search needs
 
 loop-again : tie.Need-loop-again Inv-loop μ-loop
 loop-again c =
-    let l = c .before .before .before .before .before .before in
-    let s = l .before .before .before in
-    (l .loop .inv .0, print-turn (s .args .s .messages) (s .args .out .now) (s .args .at) (l .loop .out) (l .loop .end) (l .loop .i) (l .loop .inv .1) _ _ _ (s .pre) (l .loop .inv .0) (c .before .before .before .before .before .loop-test .taken) (c .before .before .message-onto .ensures))
+    let t = c .before .before .before .before .before in
+    let l = t .before .loop in
+    let s = t .before .before .before .before in
+    let a = s .args in (
+      l .inv .0,
+      print-turn (a .s .messages) (a .out .now) (a .at) (l .out) (l .end) (l .i) (l .inv .1) _ _ _ (s .pre) (l .inv .0) (t .loop-test .taken)
+          (c .before .before .message-onto .ensures),
+    )
 
 same-length : tie.Need-same-length Inv-loop μ-loop
 same-length c =

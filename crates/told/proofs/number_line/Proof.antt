@@ -15,7 +15,9 @@ put-requires : tie.Need-put-requires
 put-requires c κs = search needs
 
 returns : tie.Need-returns
-returns c = number-is _ _ _ (c .before .before .before .before .args .w .now) (c .before .before .before .before .args .n) (c .before .before .before .before .pre) (c .before .before .blank .ensures) (c .before .one .ensures) (c .put .ensures)
+returns c =
+    let s = c .before .before .before .before in
+    number-is _ _ _ (s .args .w .now) (s .args .n) (s .pre) (c .before .before .blank .ensures) (c .before .one .ensures) (c .put .ensures)
 
 pub number-line-spec : {M : Type 1} → statement M
 number-line-spec = tie.close (tie.spec blank-requires one-requires put-requires returns)

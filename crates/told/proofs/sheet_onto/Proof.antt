@@ -34,9 +34,14 @@ same-length-2 c = search needs
 
 returns : tie.Need-returns
 returns c =
-    let s = c .before .before .before .before .before .before .before .before .before .before .before .before .before .before .before .before .before .before in
-    let a = s .before .before .before .before .args in
-    sheet-onto (a .x) (a .bytes .now) (a .out .now) (a .at) (s .before .before .before .before .pre .0) (s .before .before .before .before .pre .1) _ _ _ _ _ _ _ _ _ _ (s .write .ensures) (search needs) (c .before .before .before .before .before .before .before .before .before .before .before .before .before .before .write-line .ensures) (c .before .before .before .before .before .before .before .before .before .before .before .before .before .append .ensures) (c .before .before .before .before .before .before .before .before .print .ensures) (c .before .before .before .said .ensures) (c .before .before .append2 .ensures)
+    let q = c .before .before in
+    let p = q .before .before .before .before .before .before in
+    let l = p .before .before .before .before .before in
+    let w = l .before .before .before .before .before in
+    let s = w .before .before .before .before in
+    let a = s .args in
+    sheet-onto (a .x) (a .bytes .now) (a .out .now) (a .at) (s .pre .0) (s .pre .1) _ _ _ _ _ _ _ _ _ _ (w .write .ensures) (search needs)
+    (l .before .write-line .ensures) (l .append .ensures) (p .print .ensures) (q .before .said .ensures) (q .append2 .ensures)
 
 pub sheet-onto-spec : {M : Type 1} → statement M
 sheet-onto-spec =

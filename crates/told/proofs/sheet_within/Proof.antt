@@ -22,9 +22,11 @@ same-length c = search needs
 
 returns : tie.Need-returns
 returns c =
-    let s = c .before .before .before .before .before .before .before .before .before in
+    let t = c .before .before .before .before .before .before in
+    let s = t .before .before .before in
     let a = s .args in
-    too-long (a .x) (a .n) (a .out .now) (a .at) _ _ _ (omega (arith, buffer-size (a .bytes .now) (s .pre .0), c .before .before .before .before .before .before .if1 .taken)) (c .before .before .before .said .ensures) (c .before .before .append .ensures)
+    too-long (a .x) (a .n) (a .out .now) (a .at) _ _ _ (omega (arith, buffer-size (a .bytes .now) (s .pre .0), t .if1 .taken))
+    (c .before .before .before .said .ensures) (c .before .before .append .ensures)
 
 slice-relend-prefix-sheet-onto : tie.Need-slice-relend-prefix-sheet-onto
 slice-relend-prefix-sheet-onto c = search needs
@@ -45,9 +47,11 @@ same-length-3 c = search needs
 
 returns-2 : tie.Need-returns-2
 returns-2 c =
-    let s = c .before .before .before .before .before .before .before .before .before .before in
+    let e = c .before .before .before .before .before .before .before in
+    let s = e .before .before .before in
     let a = s .args in
-    write-onto (a .x) (a .n) (a .out .now) (a .at) _ _ (a .bytes .now) _ (s .pre .0) refl (omega (arith, buffer-size (a .bytes .now) (s .pre .0), c .before .before .before .before .before .before .before .if1 .left)) (c .before .before .before .before .sheet-onto .ensures)
+    write-onto (a .x) (a .n) (a .out .now) (a .at) _ _ (a .bytes .now) _ (s .pre .0) refl
+    (omega (arith, buffer-size (a .bytes .now) (s .pre .0), e .if1 .left)) (c .before .before .before .before .sheet-onto .ensures)
 
 pub sheet-within-spec : {M : Type 1} → statement M
 sheet-within-spec =

@@ -1,5 +1,7 @@
 -- `told::state_onto` meets its contract.
 -- Assumes nothing.
+use mathlib.Core.Path.{_≡_}
+use lib.ListN.{length}
 use Rattle.laws.proofs.Parts.{sized}
 use Rattle.told.proofs.States.{messages-room, state-onto}
 use borrow.Author.Needs.{needs}
@@ -29,8 +31,12 @@ append-requires-2 c κs = search needs
 
 messages-onto-requires : tie.Need-messages-onto-requires
 messages-onto-requires c κs =
-    let s = c .before .before .before .before .before .before .before .before .before .before .before .before .before .before in
-    messages-room (s .args .s) (s .args .out .now) (s .args .at) (s .pre) _ _ _ _ _ _ (c .before .before .before .before .before .before .before .before .before .before .number-line .ensures) (c .before .before .before .before .before .before .before .before .before .append .ensures) (c .before .before .before .before .number-line2 .ensures) (c .before .before .before .append2 .ensures)
+    let k = c .before .before .before in
+    let l = k .before .before .before .before .before .before in
+    let s = l .before .before .before .before .before in
+    let a = s .args in
+    messages-room (a .s) (a .out .now) (a .at) (s .pre) _ _ _ _ _ _ (l .before .number-line .ensures) (l .append .ensures)
+    (k .before .number-line2 .ensures) (k .append2 .ensures)
 
 same-length : tie.Need-same-length
 same-length c = search needs
@@ -38,7 +44,13 @@ same-length c = search needs
 returns : tie.Need-returns
 returns c =
     let s = c .before .before .before .before .before .before .before .before .before .before .before .before .before .before .before .before .before in
-    state-onto (s .args .s) (s .args .out .now) (s .args .at) (s .pre) _ _ _ _ _ _ (c .before .before .before .before .before .before .before .before .before .before .before .before .before .number-line .ensures) (c .before .before .before .before .before .before .before .before .before .before .before .before .append .ensures) (c .before .before .before .before .before .before .before .number-line2 .ensures) (c .before .before .before .before .before .before .append2 .ensures) _ _ (search (needs, sized)) (c .before .before .messages-onto .ensures)
+    let all : length (s .args .s .messages) ≡ 64 = search (needs, sized) in
+    let m = c .before .before in
+    let k = m .before .before .before .before in
+    let l = k .before .before .before .before .before .before in
+    let a = s .args in
+    state-onto (a .s) (a .out .now) (a .at) (s .pre) _ _ _ _ _ _ (l .before .number-line .ensures) (l .append .ensures)
+    (k .before .number-line2 .ensures) (k .append2 .ensures) _ _ all (m .messages-onto .ensures)
 
 pub state-onto-spec : {M : Type 1} → statement M
 state-onto-spec =

@@ -17,8 +17,9 @@ same-length c = search needs
 
 returns : tie.Need-returns
 returns c =
-    let a = c .before .before .before .before .before .before .before .before .args in
-    tells (a .d) (a .a) (a .out .now) (a .at) _ _ (sym (c .before .before .before .before .before .has-room .ensures) ∙ c .before .before .before .before .if1 .taken) (c .before .before .answer-onto .ensures)
+    let t = c .before .before .before .before in
+    let a = t .before .before .before .before .args in
+    tells (a .d) (a .a) (a .out .now) (a .at) _ _ (sym (t .before .has-room .ensures) ∙ t .if1 .taken) (c .before .before .answer-onto .ensures)
 
 same-length-2 : tie.Need-same-length-2
 same-length-2 c = search needs
