@@ -3,5 +3,4 @@ pub mod Bounds
 pub mod RowLaws
 pub mod Steady
 pub mod Ranges
-pub mod Cycling
 pub mod Settle

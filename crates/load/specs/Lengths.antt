@@ -1,37 +1,16 @@
--- What an opening says, and what testing a range of lengths shows.
+-- What testing a range of lengths shows.
 -- Assumes nothing.
 use Prim.Native.Nat.{ℕ, _+_, _≤_, _<_}
-use mathlib.Core.Bool.{true}
 use mathlib.Core.List.{List}
 use mathlib.Core.Path.{_≡_}
 use Rattle.rules.specs.declared.Stream.{Stream}
-use Rattle.rules.specs.declared.Set.{Set}
-use Rattle.rules.specs.Streams.{streamsOf, valid}
-use Rattle.rules.specs.Load.{demand, VerdictOf}
-use Rattle.rules.proofs.Finite.{lastLength}
-use Rattle.rules.proofs.Judge.{Opens}
+use Rattle.rules.specs.Load.{demand}
 use Rattle.load.specs.declared.Rows.{Rows}
 use Rattle.load.specs.declared.Tested.{Tested}
 use Rattle.load.specs.declared.Tested.the-variants.{Clear, Late}
-use Rattle.load.specs.declared.Opening.{Opening}
-use Rattle.load.specs.declared.Opening.the-variants.{Stops, Until}
 use Rattle.load.specs.Dues.{rowsDue}
 
--- ---- the opening
-
--- the check goes on: the lengths to test are those from 1 up to e, e not among them
-pub record GoesOn (x : Set) (e : ℕ) : Type 0 where
-  pub ok : valid x ≡ true
-  pub h : ℕ
-  pub opens : Opens (streamsOf x) h
-  pub end : e ≡ lastLength (streamsOf x) h + 1
-
-abbrev pub OpeningOf : Set → Opening → Type 0
-OpeningOf x (Stops v) = VerdictOf x v
-OpeningOf x (Until e) = GoesOn x e
-
--- ---- a range of lengths, with the demand f at each
-
+-- a range of lengths, with the demand f at each:
 -- no length from a up to e is late
 abbrev pub NoneLate : (ℕ → ℕ) → ℕ → ℕ → Type 0
 NoneLate f a e = (j : ℕ) → a ≤ j → j < e → f j ≤ j

@@ -1,4 +1,3 @@
-pub mod Cycles
 pub mod Dues
 pub mod Held
 pub mod Lengths

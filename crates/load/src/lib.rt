@@ -1,24 +1,16 @@
-// The load check: H, demand and the verdict of a set, which speaks of every length.
-mod cycles; // cycles.rt: the least common multiple of the cycles, and the long-run load
+// The load check: demand and the verdict of a set, which speaks of every length.
 mod dues; // dues.rt: a set's tuples laid out in rows, and what is due by a length
 mod held; // held.rt: the blocking of each task
-mod lengths; // lengths.rt: which lengths there are to test, and the testing of a range of them
+mod lengths; // lengths.rt: the testing of a range of lengths
 
 ghost use mathlib.Core.Path.{_≡_};
 ghost use Prim.Native.Nat.{max};
-ghost use Rattle.laws.specs.Multiples.{IsGcd};
 ghost use Rattle.rules.specs.Load.{demandOf, VerdictOf};
-ghost use Rattle.load.specs.Cycles.{HOf};
+use cycles::Opening;
 use rules::CountAnswer;
 use rules::Refusal;
 use rules::Set;
 use rules::Verdict;
-
-// H so far, or that it is above 1,000,000.
-pub(crate) enum Joined {
-    Is(u32),
-    Above,
-}
 
 // The tuples of a set as rows: row k is due first at the length firsts[k], and again each cycles[k], with costs[k] each time.
 pub(crate) struct Rows {
@@ -34,12 +26,6 @@ pub(crate) enum Tested {
     Late(u64, u64),
 }
 
-// How a check begins: it is stopped before any length, or it goes on up to an end, which is not tested.
-pub(crate) enum Opening {
-    Stops(Verdict),
-    Until(u32),
-}
-
 fn wide(n: u32) -> u64
     ensures { λ r. ⌜ r ≡ n ⌝ }
 {
@@ -50,28 +36,6 @@ fn larger(a: u32, b: u32) -> u32
     ensures { λ r. ⌜ r ≡ max a b ⌝ }
 {
     if a < b { b } else { a }
-}
-
-// The greatest common divisor: the remainder falls at each call.
-pub fn gcd(a: u32, b: u32) -> u32
-    ensures { λ r. ⌜ IsGcd a b r ⌝ }
-{
-    if b == 0 { a } else { gcd(b, a % b) }
-}
-
-// H of a set: 7 for an invalid one, 8 where H is above 1,000,000.
-pub fn h_of(x: Set) -> CountAnswer
-    ensures { λ r. ⌜ HOf x r ⌝ }
-{
-    if streams::is_valid(x) {
-        let joined = cycles::join_all(x);
-        match joined {
-            Joined::Above => CountAnswer::Refused(Refusal::LongCycles),
-            Joined::Is(h) => CountAnswer::Number(wide(h)),
-        }
-    } else {
-        CountAnswer::Refused(Refusal::OutOfRule)
-    }
 }
 
 // The demand of a set at a length, 7 for an invalid set.
@@ -90,7 +54,7 @@ pub fn demand(x: Set, i: u32) -> CountAnswer
 pub fn verdict(x: Set) -> Verdict
     ensures { λ r. ⌜ VerdictOf x r ⌝ }
 {
-    let begun = lengths::opening(x);
+    let begun = cycles::begin(x);
     match begun {
         Opening::Stops(v) => v,
         Opening::Until(end) => {

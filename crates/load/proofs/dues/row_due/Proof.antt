@@ -6,7 +6,7 @@ use mathlib.Core.Path.{ap₂}
 use native.Mathlib.Nat.{div-le-self}
 use borrow.Author.Tests.{le-leb, lt-leb}
 use Rattle.load.specs.Dues.{rowDue}
-use Rattle.load.proofs.Bounds.{product-fits}
+use Rattle.cycles.proofs.Bounds.{product-fits}
 use Rattle.load.proofs.dues.row_due.Statement.{statement}
 use Rattle.load.proofs.dues.row_due.Tie as tie
 

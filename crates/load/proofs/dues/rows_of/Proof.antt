@@ -8,7 +8,7 @@ use Rattle.laws.proofs.Parts.{sized}
 use Rattle.laws.proofs.Sums.{all-take-at}
 use Rattle.rules.proofs.Valid.{ValidStream}
 use Rattle.load.specs.Dues.{RowsOf}
-use Rattle.load.proofs.Bounds.{blank}
+use Rattle.cycles.proofs.Bounds.{blank}
 use Rattle.load.proofs.RowLaws.{rows-start, rows-more}
 use Rattle.load.proofs.dues.rows_of.Statement.{statement}
 use Rattle.load.proofs.dues.rows_of.Tie as tie

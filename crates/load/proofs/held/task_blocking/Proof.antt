@@ -9,7 +9,7 @@ use Rattle.laws.proofs.Parts.{sized}
 use Rattle.laws.specs.Lists.{any as some, top}
 use Rattle.laws.proofs.Sums.{top-none, top-take, any-take}
 use Rattle.rules.specs.Load.{urgent, held}
-use Rattle.load.proofs.Bounds.{blank}
+use Rattle.cycles.proofs.Bounds.{blank}
 use Rattle.load.proofs.Steady.{blocking-by}
 use Rattle.load.proofs.held.task_blocking.Statement.{statement}
 use Rattle.load.proofs.held.task_blocking.Tie as tie
