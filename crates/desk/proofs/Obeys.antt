@@ -19,7 +19,7 @@ use Rattle.page.specs.Pages.{roomFor}
 use Rattle.told.specs.Prints.{Told, Tells, answerRoom}
 use Rattle.told.proofs.Once.{told-once}
 use Rattle.desk.specs.declared.Step.{Step}
-use Rattle.desk.specs.Obeyed.{sheetIn, deskAfter, answerTo, ObeysIf, Obeys}
+use Rattle.desk.specs.Obeyed.{sheetIn, deskAfter, answerTo, Obeyed, ObeysIf, Obeys}
 
 -- a line that is too long is no command, and the bytes behind it do not matter
 too-long : (l : List ℕ) → 4096 < length l → orderOf l ≡ orderAt Unknown []
@@ -58,6 +58,10 @@ module _ (d : Desk) (line out : List ℕ) (at : ℕ) where
         left = ap (λ (x : Left). x .desk) all;
         told = rw (ap (λ (x : Left). x .answer) all) at told;
       })
+
+  -- what is allowed with room
+  pub with-room : (r : Step) (page : List ℕ) → roomFor out at answerRoom ≡ true → Obeys d line out at r page → Obeyed d line out at r page
+  with-room r page e o = rw e at o
 
   -- without room
   pub stays : roomFor out at answerRoom ≡ false → Obeys d line out at (record { desk = d; at = at }) out
