@@ -1,5 +1,10 @@
 // The console's reading and writing: lines are put together from the bytes that come, each is obeyed, and what is printed is written
 // out.
+ghost use mathlib.Core.Path.{_≡_};
+ghost use Prim.Native.Nat.{_≤_};
+ghost use lib.ListN.{length};
+ghost use Rattle.desk.specs.Obeyed.{Obeyed};
+use desk::Step;
 use held::Desk;
 use libc::STDIN_FILENO;
 use libc::STDOUT_FILENO;
@@ -14,7 +19,9 @@ pub struct Carry {
 }
 
 // Writes the page out.
-fn flush(c: Carry, out: &[u8]) -> Carry {
+fn flush(c: Carry, out: &[u8]) -> Carry
+    ensures { λ r. ⌜ r .at ≡ 0 ⌝ }
+{
     let n = page::within(c.at, out);
     let written = io::write_all(STDOUT_FILENO, &out[..n]);
     let mut next = c;
@@ -23,12 +30,23 @@ fn flush(c: Carry, out: &[u8]) -> Carry {
     next
 }
 
-// The line that has come, obeyed. No command fills more than 16,384 bytes of the page.
-fn end_line(c: Carry, line: &[u8], out: &mut [u8]) -> Carry {
+// A line is always obeyed: no answer fills more than 8,448 bytes of the page, which has 65,536 and is written out beyond 32,768.
+fn obey(d: Desk, line: &[u8], out: &mut [u8], at: usize) -> Step
+    requires { ⌜ (at ≤ 32768) × (length (now out) ≡ 65536) ⌝ }
+    ensures { λ r. ⌜ Obeyed d (now (line .entry)) (now (out .entry)) at r (now (out .exit)) ⌝ }
+{
+    desk::obey(d, line, out, at)
+}
+
+// The line that has come, obeyed.
+fn end_line(c: Carry, line: &[u8], out: &mut [u8]) -> Carry
+    requires { ⌜ (c .at ≤ 32768) × (length (now out) ≡ 65536) ⌝ }
+    ensures { λ r. ⌜ r .at ≤ 32768 ⌝ }
+{
     let n = page::within(c.len, line);
     let before = c.desk;
     let live = c.live;
-    let s = desk::obey(before, &line[..n], out, c.at);
+    let s = obey(before, &line[..n], out, c.at);
     let after = s.desk;
     let next = Carry {
         desk: after,
@@ -44,7 +62,10 @@ fn end_line(c: Carry, line: &[u8], out: &mut [u8]) -> Carry {
 }
 
 // One byte: a newline ends the line, any other joins it. Of a line longer than 4,096 bytes the first 4,097 are kept.
-fn take_byte(c: Carry, b: u8, line: &mut [u8], out: &mut [u8]) -> Carry {
+fn take_byte(c: Carry, b: u8, line: &mut [u8], out: &mut [u8]) -> Carry
+    requires { ⌜ (c .at ≤ 32768) × (length (now out) ≡ 65536) ⌝ }
+    ensures { λ r. ⌜ r .at ≤ 32768 ⌝ }
+{
     let len = c.len;
     if b == b'\n' {
         return end_line(c, line, out);
@@ -57,7 +78,10 @@ fn take_byte(c: Carry, b: u8, line: &mut [u8], out: &mut [u8]) -> Carry {
     next
 }
 
-fn take_piece(c: Carry, piece: &[u8], line: &mut [u8], out: &mut [u8]) -> Carry {
+fn take_piece(c: Carry, piece: &[u8], line: &mut [u8], out: &mut [u8]) -> Carry
+    requires { ⌜ (c .at ≤ 32768) × (length (now out) ≡ 65536) ⌝ }
+    ensures { λ r. ⌜ r .at ≤ 32768 ⌝ }
+{
     let mut next = c;
     let mut i = 0;
     while i < piece.len() {
@@ -68,7 +92,10 @@ fn take_piece(c: Carry, piece: &[u8], line: &mut [u8], out: &mut [u8]) -> Carry 
 }
 
 // Reads once, obeys the lines that came, and writes what they print. The last line may lack its newline.
-fn go_on(c: Carry, line: &mut [u8], out: &mut [u8]) -> Carry {
+fn go_on(c: Carry, line: &mut [u8], out: &mut [u8]) -> Carry
+    requires { ⌜ (c .at ≤ 32768) × (length (now out) ≡ 65536) ⌝ }
+    ensures { λ r. ⌜ r .at ≤ 32768 ⌝ }
+{
     let mut bytes = io::buffer();
     let got = libc::read(STDIN_FILENO, &mut bytes);
     let n = io::count(got, &bytes);
@@ -81,7 +108,9 @@ fn go_on(c: Carry, line: &mut [u8], out: &mut [u8]) -> Carry {
 }
 
 // A proved loop has to end, and nothing says that the input does: the turns are counted down from a number that no run uses up.
-fn serve(first: Carry, line: &mut [u8], out: &mut [u8]) {
+fn serve(first: Carry, line: &mut [u8], out: &mut [u8])
+    requires { ⌜ (first .at ≤ 32768) × (length (now out) ≡ 65536) ⌝ }
+{
     let mut c = first;
     let mut turns = u64::MAX;
     while turns > 0 {

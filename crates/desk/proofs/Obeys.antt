@@ -1,13 +1,12 @@
--- A line's command, from the order that it is and the bytes behind it.
+-- A line's command, from the order that it is and the bytes behind it; and that it is obeyed in one way.
 -- Assumes nothing.
 use Prim.Native.Nat.{ℕ, _+_, _*_, _≤_, _<_}
 use native.Mathlib.Omega.{arith}
-use mathlib.Core.Path.{_≡_, refl, sym, ap, _∙_}
-use mathlib.Core.Bool.{true, false, cond}
+use mathlib.Core.Path.{_≡_, refl, sym, ap, ap₂, _∙_}
+use mathlib.Core.Bool.{Bool, true, false}
 use mathlib.Core.List.{List, []}
 use mathlib.Core.Logic.{⊎-elim}
 use lib.ListN.{length}
-use lib.Dec.{ltb, eqb}
 use Rattle.laws.proofs.Gates.{le-or-lt}
 use borrow.Author.Tests.{lt-ltb, ne-eqb}
 use Rattle.rows.specs.declared.Kind.the-variants.{Unknown}
@@ -16,7 +15,11 @@ use Rattle.orders.specs.Lines.{orderAt, orderOf}
 use Rattle.held.specs.declared.Desk.{Desk}
 use Rattle.held.specs.declared.Left.{Left}
 use Rattle.held.specs.Leaves.{leaves, answers}
-use Rattle.desk.specs.Obeyed.{sheetIn, deskAfter}
+use Rattle.page.specs.Pages.{roomFor}
+use Rattle.told.specs.Prints.{Told, Tells, answerRoom}
+use Rattle.told.proofs.Once.{told-once}
+use Rattle.desk.specs.declared.Step.{Step}
+use Rattle.desk.specs.Obeyed.{sheetIn, deskAfter, answerTo, Obeyed, ObeysIf, Obeys}
 
 -- a line that is too long is no command, and the bytes behind it do not matter
 too-long : (l : List ℕ) → 4096 < length l → orderOf l ≡ orderAt Unknown []
@@ -37,11 +40,39 @@ same-sheet d l bytes f =
     ap (λ (o : Order). left d o bytes) none ∙ sym (ap (λ (o : Order). left d o (sheetIn l)) none))
     (le-or-lt (length l) (5 + 2 * 2048))
 
-pub obeyed : (d : Desk) (l bytes : List ℕ) (o : Order) (r : Left) → (length l ≤ 5 + 2 * 2048 → bytes ≡ sheetIn l) → o ≡ orderOf l
+obeyed : (d : Desk) (l bytes : List ℕ) (o : Order) (r : Left) → (length l ≤ 5 + 2 * 2048 → bytes ≡ sheetIn l) → o ≡ orderOf l
     → r ≡ left d o bytes → r ≡ left d (orderOf l) (sheetIn l)
 obeyed d l bytes o r f e g = g ∙ ap (λ (x : Order). left d x bytes) e ∙ same-sheet d l bytes f
 
-pub desk-after : (d : Desk) (l bytes : List ℕ) (o : Order) (r : Left) → (length l ≤ 5 + 2 * 2048 → bytes ≡ sheetIn l) → o ≡ orderOf l
-    → r ≡ left d o bytes → r .desk ≡ deskAfter d l
-unfolding deskAfter
-desk-after d l bytes o r f e g = ap (λ (x : Left). x .desk) (obeyed d l bytes o r f e g)
+-- with room
+module _ (d : Desk) (line out : List ℕ) (at : ℕ) where
+  pub obeys : (bytes : List ℕ) (o : Order) (l : Left) (end : ℕ) (page : List ℕ) → roomFor out at answerRoom ≡ true
+      → (length line ≤ 5 + 2 * 2048 → bytes ≡ sheetIn line) → o ≡ orderOf line → l ≡ left d o bytes
+      → Tells d (l .answer) out at end page → Obeys d line out at (record { desk = l .desk; at = end }) page
+  unfolding deskAfter answerTo
+  obeys bytes o l end page room f e g t =
+      let all : l ≡ left d (orderOf line) (sheetIn line) = obeyed d line bytes o l f e g in
+      let told : Told d (l .answer) out at end page = rw room at t in
+      rw room
+      (record {
+        left = ap (λ (x : Left). x .desk) all;
+        told = rw (ap (λ (x : Left). x .answer) all) at told;
+      })
+
+  -- what is allowed with room
+  pub with-room : (r : Step) (page : List ℕ) → roomFor out at answerRoom ≡ true → Obeys d line out at r page → Obeyed d line out at r page
+  with-room r page e o = rw e at o
+
+  -- without room
+  pub stays : roomFor out at answerRoom ≡ false → Obeys d line out at (record { desk = d; at = at }) out
+  stays e = rw e (refl, refl)
+
+  -- two results that are allowed for one input are the same
+  pub obeys-once : (r s : Step) (p q : List ℕ) → Obeys d line out at r p → Obeys d line out at s q → (r ≡ s) × (p ≡ q)
+  obeys-once r s p q = go (roomFor out at answerRoom)
+    where
+      go : (room : Bool) → ObeysIf room d line out at r p → ObeysIf room d line out at s q → (r ≡ s) × (p ≡ q)
+      go true t u =
+          let same = told-once d (answerTo d line) out at (r .at) (s .at) p q (t .told) (u .told) in
+          (ap₂ (λ (x : Desk) (n : ℕ). record { desk = x; at = n }) (t .left ∙ sym (u .left)) (same .0), same .1)
+      go false t u = (t .0 ∙ sym (u .0), t .1 ∙ sym (u .1))

@@ -9,7 +9,7 @@ use Rattle.console_run.proofs.serve.Statement.{statement}
 use Rattle.console_run.proofs.serve.Tie as tie
 
 abbrev Inv-loop : tie.InvT-loop
-Inv-loop line₀ out₀ c₀ turns₀ line out c turns = (length line ≡ length line₀) × (length out ≡ length out₀)
+Inv-loop line₀ out₀ c₀ turns₀ line out c turns = (length line ≡ length line₀) × ((length out ≡ length out₀) × (c .at ≤ 32768))
 
 abbrev μ-loop : tie.MeasureT-loop
 μ-loop line₀ out₀ c₀ turns₀ line out c turns = turns
@@ -27,7 +27,7 @@ returns : tie.Need-returns Inv-loop μ-loop
 returns c = search needs
 
 go-on-requires : tie.Need-go-on-requires Inv-loop μ-loop
-go-on-requires c κs = tt
+go-on-requires c κs = search needs
 
 sub-turns : tie.Need-sub-turns Inv-loop μ-loop
 sub-turns c = omega arith

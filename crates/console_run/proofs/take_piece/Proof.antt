@@ -9,7 +9,7 @@ use Rattle.console_run.proofs.take_piece.Statement.{statement}
 use Rattle.console_run.proofs.take_piece.Tie as tie
 
 abbrev Inv-loop : tie.InvT-loop
-Inv-loop piece line₀ out₀ next₀ i₀ line out next i = (length line ≡ length line₀) × ((length out ≡ length out₀) × (i ≤ length piece))
+Inv-loop piece line₀ out₀ next₀ i₀ line out next i = (length line ≡ length line₀) × ((length out ≡ length out₀) × ((i ≤ length piece) × (next .at ≤ 32768)))
 
 abbrev μ-loop : tie.MeasureT-loop
 μ-loop piece line₀ out₀ next₀ i₀ line out next i = length piece - i
@@ -21,7 +21,7 @@ shared-slice-read-take-byte : tie.Need-shared-slice-read-take-byte Inv-loop μ-l
 shared-slice-read-take-byte c = search needs
 
 take-byte-requires : tie.Need-take-byte-requires Inv-loop μ-loop
-take-byte-requires c κs = tt
+take-byte-requires c κs = search needs
 
 add-i : tie.Need-add-i Inv-loop μ-loop
 add-i c = search needs

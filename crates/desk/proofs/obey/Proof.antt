@@ -1,11 +1,24 @@
 -- `desk::obey` meets its contract.
 -- Assumes nothing.
+use mathlib.Core.Path.{sym, _∙_}
 use lib.ListN.{length-take}
-use Rattle.desk.proofs.Obeys.{desk-after}
+use borrow.Author.Tests.{not-true, not-false}
 use native.Mathlib.Omega.{arith}
+use Rattle.desk.proofs.Obeys.{obeys, stays}
 use borrow.Author.Needs.{needs}
 use Rattle.desk.proofs.obey.Statement.{statement}
 use Rattle.desk.proofs.obey.Tie as tie
+
+has-room-requires : tie.Need-has-room-requires
+has-room-requires c κs = search needs
+
+same-length : tie.Need-same-length
+same-length c = search needs
+
+returns : tie.Need-returns
+returns c =
+    let a = c .before .before .before .before .before .args in
+    stays (a .d) (a .line .now) (a .out .now) (a .at) (sym (c .before .has-room .ensures) ∙ not-true _ (c .if1 .taken))
 
 slice-aggregate-hex-behind : tie.Need-slice-aggregate-hex-behind
 slice-aggregate-hex-behind c = search needs
@@ -28,18 +41,25 @@ after-requires c κs = search needs
 tell-requires : tie.Need-tell-requires
 tell-requires c κs = search needs
 
-same-length : tie.Need-same-length
-same-length c = search needs
+same-length-2 : tie.Need-same-length-2
+same-length-2 c = search needs
 
-returns : tie.Need-returns
-returns c =
-    let after = c .before .before .before .before .before in
-    desk-after _ _ _ _ _ (after .before .before .before .before .hex-behind .ensures .1) (after .before .before .parse .ensures) (after .after .ensures)
+returns-2 : tie.Need-returns-2
+returns-2 c =
+    let l = c .before .before .before .before .before in
+    let h = l .before .before .before .before in
+    let e = h .before .before in
+    let a = e .before .before .before .before .before .args in
+    obeys (a .d) (a .line .now) (a .out .now) (a .at) _ _ _ _ _ (sym (e .before .has-room .ensures) ∙ not-false _ (e .if1 .left))
+    (h .hex-behind .ensures .1) (l .before .before .parse .ensures) (l .after .ensures) (c .before .before .tell .ensures)
 
 pub obey-spec : {M : Type 1} → statement M
 obey-spec =
     tie.close
     (tie.spec
+    has-room-requires
+    same-length
+    returns
     slice-aggregate-hex-behind
     hex-behind-requires
     parse-requires
@@ -47,5 +67,5 @@ obey-spec =
     slice-aggregate-after
     after-requires
     tell-requires
-    same-length
-    returns)
+    same-length-2
+    returns-2)

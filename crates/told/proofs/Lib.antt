@@ -1,0 +1,6 @@
+pub mod Lines
+pub mod Pieces
+pub mod States
+pub mod Sheets
+pub mod Once
+pub mod Answers
