@@ -31,24 +31,16 @@ gather-one s at w v got p e h q = gather-is s at w v got e (h ∙ ap (λ (x : �
 pub gather-near : (s : List ℕ) (byte bit w v : ℕ) → Near (length s) byte bit w → v ≡ fieldAt s (8 * byte + bit) w → record { value = v; got = w } ≡ gatherOf s (8 * byte + bit) w
 gather-near s byte bit w v n h = gather-is s (8 * byte + bit) w v w (omega (arith, n .few, n .first, n .there)) h
 
+-- a word fits 32 bits, wherever it stands
+pub word-lt : (s : List ℕ) (p w v : ℕ) → v ≡ fieldAt s p w → p + w ≤ 8 * length s → w ≤ 32 → v < 4294967296
+word-lt s p w v e r h = omega (arith, e, field-lt s p w r, pow-mono {i = w} {j = 32} h)
+
 module _ (s : List ℕ) (at w got high low p q : ℕ) (e : got ≡ gotOf (length s) at w) (long : 32 < got) (hh : high ≡ fieldAt s p (got - 32)) (hp : p ≡ at) (hl : low ≡ fieldAt s q 32) (hq : q ≡ at + (got - 32)) where
   high-is : high ≡ fieldAt s at (got - 32)
   high-is = hh ∙ ap (λ (x : ℕ). fieldAt s x (got - 32)) hp
 
   low-is : low ≡ fieldAt s (at + (got - 32)) 32
   low-is = hl ∙ ap (λ (x : ℕ). fieldAt s x 32) hq
-
-  high-lt : high < 4294967296
-  high-lt = omega (arith, high-is, field-lt s at (got - 32) (omega arith), pow-mono {i = got - 32} {j = 32} (omega arith))
-
-  low-lt : low < 4294967296
-  low-lt = omega (arith, low-is, field-lt s (at + (got - 32)) 32 (omega arith))
-
-  pub high-fits : high * 4294967296 < 18446744073709551616
-  high-fits = omega (arith, high-lt)
-
-  pub both-fit : high * 4294967296 + low < 18446744073709551616
-  both-fit = omega (arith, high-lt, low-lt)
 
   pub gather-two : record { value = high * 4294967296 + low; got = got } ≡ gatherOf s at w
   gather-two =

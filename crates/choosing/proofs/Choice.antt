@@ -12,8 +12,8 @@ use lib.Dec.{ltb, eqb}
 use lib.ListN.{length, getD, take}
 use lib.Seq.{length-take-le, getD-take}
 use Rattle.laws.specs.Lists.{find, firstLeast}
-use Rattle.laws.proofs.Sums.{by-test}
-use Rattle.laws.proofs.Parts.{both-first, both-second, find-le, find-passes, find-before, find-within, first-least-lt, first-least-least, first-least-first}
+use Rattle.laws.proofs.Sums.{and-parts, by-test}
+use Rattle.laws.proofs.Parts.{find-le, find-passes, find-before, find-within, first-least-lt, first-least-least, first-least-first}
 use Rattle.rules.specs.declared.Set.{Set}
 use Rattle.rules.specs.declared.Message.{Message}
 use Rattle.rules.specs.declared.State.{State}
@@ -35,7 +35,7 @@ module _ (x : Set) where
   deadline-le (m ∷ l) t (suc j) h e =
       let i : taskDeadline x l t ≤ at l j .deadline = deadline-le l t j (omega arith) e in
       by-test (eqb (taskOf x m) t && ltb (m .deadline) (taskDeadline x l t))
-      (λ q. rw q (omega (arith, ltb-true (m .deadline) (taskDeadline x l t) (both-second (eqb (taskOf x m) t) (ltb (m .deadline) (taskDeadline x l t)) q))))
+      (λ q. rw q (omega (arith, ltb-true (m .deadline) (taskDeadline x l t) (and-parts (eqb (taskOf x m) t) (ltb (m .deadline) (taskDeadline x l t)) q .1))))
       (λ q. rw q i)
 
   -- and it is that of one of them, if it has any
@@ -44,7 +44,7 @@ module _ (x : Set) where
   deadline-met [] t h = absurd (let z : 4294967296 < 4294967296 = h in omega arith)
   deadline-met (m ∷ l) t h =
       by-test (eqb (taskOf x m) t && ltb (m .deadline) (taskDeadline x l t))
-      (λ q. (0, omega arith, eqb-true (taskOf x m) t (both-first (eqb (taskOf x m) t) (ltb (m .deadline) (taskDeadline x l t)) q), rw q refl))
+      (λ q. (0, omega arith, eqb-true (taskOf x m) t (and-parts (eqb (taskOf x m) t) (ltb (m .deadline) (taskDeadline x l t)) q .0), rw q refl))
       (λ q. let r = deadline-met l t (rw q at h) in (suc (r .0), omega (arith, r .1), r .2, rw q (r .3)))
 
 -- ---- the choice
@@ -94,7 +94,7 @@ module _ (x : Set) (l : List Message) (some : 0 < length l) (tasks : (j : ℕ) �
   }
 
   begun : (m : Message) (t : ℕ) → startedOf x t m ≡ true → (0 < m .used) × (taskOf x m ≡ t)
-  begun m t e = (ltb-true 0 (m .used) (both-first (ltb 0 (m .used)) (eqb (taskOf x m) t) e), eqb-true (taskOf x m) t (both-second (ltb 0 (m .used)) (eqb (taskOf x m) t) e))
+  begun m t e = (ltb-true 0 (m .used) (and-parts (ltb 0 (m .used)) (eqb (taskOf x m) t) e .0), eqb-true (taskOf x m) t (and-parts (ltb 0 (m .used)) (eqb (taskOf x m) t) e .1))
 
   not-begun : (m : Message) (t : ℕ) → startedOf x t m ≡ false → taskOf x m ≡ t → 0 < m .used → ⊥
   not-begun m t e q u = false≢true (sym e ∙ rw (lt-ltb 0 (m .used) u, eq-eqb (taskOf x m) t q))
@@ -107,7 +107,7 @@ module _ (x : Set) (l : List Message) (some : 0 < length l) (tasks : (j : ℕ) �
       by-run k h (b .1) (λ j q r u. b .0) (λ u. absurd (omega (arith, b .0))) (λ u j q r. absurd (omega (arith, b .0)))
 
   is-due : (m : Message) (t v : ℕ) → dueOf x t v m ≡ true → (m .deadline ≡ v) × (taskOf x m ≡ t)
-  is-due m t v e = (eqb-true (m .deadline) v (both-first (eqb (m .deadline) v) (eqb (taskOf x m) t) e), eqb-true (taskOf x m) t (both-second (eqb (m .deadline) v) (eqb (taskOf x m) t) e))
+  is-due m t v e = (eqb-true (m .deadline) v (and-parts (eqb (m .deadline) v) (eqb (taskOf x m) t) e .0), eqb-true (taskOf x m) t (and-parts (eqb (m .deadline) v) (eqb (taskOf x m) t) e .1))
 
   due-is : (m : Message) (t v : ℕ) → m .deadline ≡ v → taskOf x m ≡ t → dueOf x t v m ≡ true
   due-is m t v e q = rw (eq-eqb (m .deadline) v e, eq-eqb (taskOf x m) t q)

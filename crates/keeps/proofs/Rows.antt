@@ -5,7 +5,7 @@ use mathlib.Core.List.{List, [], _∷_, _++_}
 use mathlib.Core.Path.{_≡_, refl}
 use native.Mathlib.Omega.{arith}
 use Rattle.laws.specs.Lists.{scan}
-use Rattle.laws.proofs.Parts.{both-first, both-second}
+use Rattle.laws.proofs.Sums.{and-parts}
 use Rattle.rules.specs.declared.Set.{Set}
 use Rattle.rules.specs.declared.Message.{Message}
 use Rattle.rules.specs.States.{costOf, postedAt, messageOk, messagesOk}
@@ -22,8 +22,8 @@ module _ (x : Set) where
   unfolding scan
   rows-of clock b [] e = tt
   rows-of clock b (m ∷ l) e = (
-    standing x clock b m (both-first (messageOk x clock b m) (scan (messageOk x clock) (postedAt x) (postedAt x m) l) e),
-    rows-of clock (postedAt x m) l (both-second (messageOk x clock b m) (scan (messageOk x clock) (postedAt x) (postedAt x m) l) e),
+    standing x clock b m (and-parts (messageOk x clock b m) (scan (messageOk x clock) (postedAt x) (postedAt x m) l) e .0),
+    rows-of clock (postedAt x m) l (and-parts (messageOk x clock b m) (scan (messageOk x clock) (postedAt x) (postedAt x m) l) e .1),
   )
 
   rows-back : (clock b : ℕ) (l : List Message) → Rows clock b l → scan (messageOk x clock) (postedAt x) b l ≡ true

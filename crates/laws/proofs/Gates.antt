@@ -12,8 +12,7 @@ use lib.ListN.{length, getD, drop}
 use lib.Seq.{drop-append-le}
 use lib.Dec.{T, leb, eqb, le→leb, leb→le, eqb→eq, eqb-refl}
 use Rattle.laws.specs.Lists.{below, all, any, sum, top, remove}
-use Rattle.laws.proofs.Sums.{sum-append}
-use Rattle.laws.proofs.Parts.{both-first, both-second}
+use Rattle.laws.proofs.Sums.{and-parts, sum-append}
 
 -- ---- cases
 
@@ -217,13 +216,13 @@ module _ {A : Type 0} where
       nothing : (n : ℕ) → all p (drop n []) ≡ true → all p (drop (suc n) []) ≡ true
       nothing zero e = e
       nothing (suc n) e = e
-  all-drop p zero (x ∷ l) e = both-second (p x) (all p l) e
+  all-drop p zero (x ∷ l) e = and-parts (p x) (all p l) e .1
   all-drop p (suc n) (x ∷ l) e = all-drop p n l e
 
   pub all-last : (p : A → Bool) (l : List A) (x : A) → all p l ≡ true → p x ≡ true → all p (l ++ (x ∷ [])) ≡ true
   unfolding all
   all-last p [] x e h = rw h
-  all-last p (y ∷ l) x e h = rw (both-first (p y) (all p l) e, all-last p l x (both-second (p y) (all p l) e) h)
+  all-last p (y ∷ l) x e h = rw (and-parts (p y) (all p l) e .0, all-last p l x (and-parts (p y) (all p l) e .1) h)
 
   -- what stands behind the first n, when a place before them is taken out
   pub drop-remove : (d : A) (i n : ℕ) (l : List A) → i ≤ n → n < length l → drop n (remove d i l) ≡ drop (suc n) l ++ (d ∷ [])

@@ -2,7 +2,7 @@
 -- a place taken out of a list.
 -- Assumes nothing.
 use Prim.Native.Nat.{ℕ, zero, suc, _+_, _-_, _≤_, _<_, min}
-use mathlib.Core.Bool.{Bool, true, false, cond, _&&_, false≢true}
+use mathlib.Core.Bool.{Bool, true, false, cond, false≢true}
 use mathlib.Core.Logic.{_⊎_, inl, inr, ⊎-elim}
 use mathlib.Core.Path.{_≡_, refl, ap, sym, _∙_}
 use mathlib.Core.List.{List, [], _∷_, _++_, map}
@@ -14,7 +14,7 @@ use lib.Dec.{ltb, leb, eqb}
 use lib.ListN.{length, getD, take, drop, set, length-take, length-append, drop-of-length-le, length-map, List·getD-eq-default}
 use lib.Seq.{drop-cons, getD-take, take-all, take-append-le}
 use Rattle.laws.specs.Lists.{every, below, all, sum, count, find, scan, remove, firstLeast}
-use Rattle.laws.proofs.Sums.{by-test}
+use Rattle.laws.proofs.Sums.{and-parts, by-test}
 
 -- ---- the places k to n of a list, shut, so that its arguments are found
 
@@ -116,35 +116,27 @@ module _ {A : Type 0} (p : A → Bool) where
 
 -- ---- what passed tests say
 
-pub both-first : (a b : Bool) → (a && b) ≡ true → a ≡ true
-both-first true b e = refl
-both-first false b e = absurd (false≢true e)
-
-pub both-second : (a b : Bool) → (a && b) ≡ true → b ≡ true
-both-second true b e = e
-both-second false b e = absurd (false≢true e)
-
 -- the test at k, or true past the end
 pub every-at : (ts : List Bool) (k : ℕ) → every ts ≡ true → getD ts k true ≡ true
 every-at [] k e = List·getD-eq-default [] true {n = k} (omega arith)
 every-at (t ∷ []) zero e = e
 every-at (t ∷ []) (suc k) e = List·getD-eq-default [] true {n = k} (omega arith)
-every-at (t ∷ (u ∷ ts)) zero e = both-first t (every (u ∷ ts)) e
-every-at (t ∷ (u ∷ ts)) (suc k) e = every-at (u ∷ ts) k (both-second t (every (u ∷ ts)) e)
+every-at (t ∷ (u ∷ ts)) zero e = and-parts t (every (u ∷ ts)) e .0
+every-at (t ∷ (u ∷ ts)) (suc k) e = every-at (u ∷ ts) k (and-parts t (every (u ∷ ts)) e .1)
 
 module _ {A : Type 0} (p : A → Bool) where
   pub all-at : (l : List A) (k : ℕ) (d : A) → all p l ≡ true → k < length l → p (getD l k d) ≡ true
   unfolding all
   all-at [] k d e h = absurd (let z : k < 0 = h in omega arith)
-  all-at (x ∷ l) zero d e h = both-first (p x) (all p l) e
-  all-at (x ∷ l) (suc k) d e h = all-at l k d (both-second (p x) (all p l) e) (omega arith)
+  all-at (x ∷ l) zero d e h = and-parts (p x) (all p l) e .0
+  all-at (x ∷ l) (suc k) d e h = all-at l k d (and-parts (p x) (all p l) e .1) (omega arith)
 
   -- at any place, where the default passes
   pub all-any : (l : List A) (k : ℕ) (d : A) → p d ≡ true → all p l ≡ true → p (getD l k d) ≡ true
   unfolding all
   all-any [] k d t e = rw (List·getD-eq-default [] d {n = k} (omega arith)) t
-  all-any (x ∷ l) zero d t e = both-first (p x) (all p l) e
-  all-any (x ∷ l) (suc k) d t e = all-any l k d t (both-second (p x) (all p l) e)
+  all-any (x ∷ l) zero d t e = and-parts (p x) (all p l) e .0
+  all-any (x ∷ l) (suc k) d t e = all-any l k d t (and-parts (p x) (all p l) e .1)
 
   pub all-within : (l : List A) (n k : ℕ) (d : A) → all p (take n l) ≡ true → k < n → k < length l → p (getD l k d) ≡ true
   all-within l n k d e h g = rw (getD-take n l k d h) at (all-at (take n l) k d e (simp length-take (omega arith)))
@@ -153,8 +145,8 @@ module _ {A : Type 0} (p : A → Bool) where
 pub scan-at : {A B : Type 0} (p : B → A → Bool) (f : A → B) (b : B) (l : List A) (k : ℕ) (d : A) → scan p f b l ≡ true → k < length l → (b′ : B) × (p b′ (getD l k d) ≡ true)
 unfolding scan
 scan-at p f b [] k d e h = absurd (let z : k < 0 = h in omega arith)
-scan-at p f b (x ∷ l) zero d e h = (b, both-first (p b x) (scan p f (f x) l) e)
-scan-at p f b (x ∷ l) (suc k) d e h = scan-at p f (f x) l k d (both-second (p b x) (scan p f (f x) l) e) (omega arith)
+scan-at p f b (x ∷ l) zero d e h = (b, and-parts (p b x) (scan p f (f x) l) e .0)
+scan-at p f b (x ∷ l) (suc k) d e h = scan-at p f (f x) l k d (and-parts (p b x) (scan p f (f x) l) e .1) (omega arith)
 
 -- ---- a place is taken out of a list, and d comes in at the end
 
@@ -225,8 +217,8 @@ module _ (p : ℕ → Bool) where
   unfolding all
   below-at zero k e h = absurd (let z : k < 0 = h in omega arith)
   below-at (suc n) k e h =
-      by-test (eqb k n) (λ q. rw (eqb-true k n q) (both-first (p n) (all p (below n)) e))
-      (λ q. below-at n k (both-second (p n) (all p (below n)) e) (below-less k n h (eqb-false k n q)))
+      by-test (eqb k n) (λ q. rw (eqb-true k n q) (and-parts (p n) (all p (below n)) e .0))
+      (λ q. below-at n k (and-parts (p n) (all p (below n)) e .1) (below-less k n h (eqb-false k n q)))
     where
       below-less : (a b : ℕ) → a < suc b → (a ≡ b → ⊥) → a < b
       below-less a b l f = ⊎-elim (λ (x : a ≡ b). absurd (f x)) (λ (x : a < b). x) (eq-or-lt-of-le (omega arith))

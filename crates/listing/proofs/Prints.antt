@@ -11,7 +11,8 @@ use lib.Seq.{drop-drop, length-take-le}
 use lib.Dec.{leb}
 use borrow.Author.Tests.{le-leb, lt-leb}
 use Rattle.laws.specs.Lists.{all, flat, every}
-use Rattle.laws.proofs.Parts.{part, part-cons, part-nil, getD-any, all-within, both-first, both-second}
+use Rattle.laws.proofs.Parts.{part, part-cons, part-nil, getD-any, all-within}
+use Rattle.laws.proofs.Sums.{and-parts}
 use Rattle.rules.specs.declared.Stream.{Stream}
 use Rattle.rules.specs.declared.Set.{Set}
 use Rattle.rules.specs.declared.Refusal.the-variants.{OutOfRule, ShortBuffer}
@@ -38,7 +39,7 @@ stream-ok : (x : Set) (k : ℕ) → valid x ≡ true → k < x .count → k < le
 unfolding valid
 stream-ok x k ok h g =
     all-within streamOk (x .streams) (x .count) k noStream
-    (both-first (all streamOk (streamsOf x)) (all streamUnused (drop (x .count) (x .streams))) (both-second (leb (x .count) 16) _ ok)) h g
+    (and-parts (all streamOk (streamsOf x)) (all streamUnused (drop (x .count) (x .streams))) (and-parts (leb (x .count) 16) _ ok .1) .0) h g
 
 -- the lines of the streams so far stand at the front of the page
 pub record Printing (x : Set) (out₀ out : List ℕ) (k at : ℕ) : Type 0 where

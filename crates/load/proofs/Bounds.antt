@@ -3,6 +3,7 @@
 use Prim.Native.Nat.{ℕ, _+_, _-_, _*_, _/_, _≤_}
 use native.Mathlib.Nat.{div-le-self, le-trans, mul-le-mul}
 use native.Mathlib.Omega.{arith}
+use mathlib.Core.Path.{_≡_}
 use mathlib.Core.List.{List}
 use mathlib.Core.Bool.{Bool, true, false, cond}
 use lib.Dec.{leb, eqb, lit≤}
@@ -30,10 +31,11 @@ unfolding blocking
 blocking-fits ss i t v =
     cond-le (any (urgent t i) ss) (top (held t i) ss) 65535 (top-le (held t i) 65535 ss (all-map ValidStream (λ s. held t i s ≤ 65535) ss (held-fits t i) v))
 
-pub blockings-fit : (ss : List Stream) (i : ℕ) → All ValidStream ss → blockingsOf ss i ≤ 1048560
+pub blockings-fit : (ss : List Stream) (i n : ℕ) → n ≡ blockingsOf ss i → All ValidStream ss → n ≤ 1048560
 unfolding blockingsOf
-blockings-fit ss i v =
-    le-trans (sum-le (blocking ss i) 65535 (below 16) (all-each (λ t. blocking ss i t ≤ 65535) (below 16) (λ t. blocking-fits ss i t v))) (lit≤ tt)
+blockings-fit ss i n e v =
+    rw e
+    (le-trans (sum-le (blocking ss i) 65535 (below 16) (all-each (λ t. blocking ss i t ≤ 65535) (below 16) (λ t. blocking-fits ss i t v))) (lit≤ tt))
 
 -- ---- rows
 

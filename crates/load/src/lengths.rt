@@ -20,7 +20,7 @@ fn late_at(i: u32, w: u64) -> Tested
 
 // The lengths from `from` up to `stop`, at all of which the blocking is `blocked`.
 fn test_span(t: Rows, blocked: u64, from: u32, stop: u32) -> Tested
-    requires { ⌜ (Sound (t .costs) (t .cycles) (t .count)) × (blocked ≤ 1048560) × (from ≤ stop) ⌝ }
+    requires { ⌜ (Sound (t .costs) (t .cycles) (t .count)) × (blocked ≤ 1048560) ⌝ }
     ensures { λ r. ⌜ Spanned t blocked from stop r ⌝ }
 {
     let n = t.count;
@@ -40,7 +40,7 @@ fn test_span(t: Rows, blocked: u64, from: u32, stop: u32) -> Tested
 
 // The lengths from `from` up to `end`, in order, from deadline to deadline.
 pub(crate) fn test_range(x: Set, from: u32, end: u32) -> Tested
-    requires { ⌜ (ValidSet x) × (from ≤ end) ⌝ }
+    requires { ⌜ ValidSet x ⌝ }
     ensures { λ r. ⌜ Ranged (streamsOf x) from end r ⌝ }
 {
     let t = dues::rows_of(x);

@@ -10,8 +10,8 @@ use borrow.Author.Tests.{ltb-true, ltb-false, le-leb}
 use lib.Dec.{ltb, leb}
 use lib.ListN.{length, getD, take, drop, set, replicate}
 use Rattle.laws.specs.Lists.{below, all, scan}
-use Rattle.laws.proofs.Sums.{by-test}
-use Rattle.laws.proofs.Parts.{part, part-all, scan-go, scan-no, scan-end, both-first, both-second, getD-any}
+use Rattle.laws.proofs.Sums.{and-parts, by-test}
+use Rattle.laws.proofs.Parts.{part, part-all, scan-go, scan-no, scan-end, getD-any}
 use Rattle.rules.specs.declared.Message.{Message}
 use Rattle.rules.specs.declared.Stream.{Stream}
 use Rattle.rules.specs.declared.State.{State}
@@ -63,10 +63,10 @@ module _ (s : State) (k before : ℕ) (counts : List ℕ) (inv : Pass s k before
 
   module _ (g : (ltb (m .stream) (s .set .count) && ltb (m .stream) 16) ≡ true) where
     named : m .stream < s .set .count
-    named = ltb-true _ _ (both-first (ltb (m .stream) (s .set .count)) (ltb (m .stream) 16) g)
+    named = ltb-true _ _ (and-parts (ltb (m .stream) (s .set .count)) (ltb (m .stream) 16) g .0)
 
     pub pass-stream : m .stream < 16
-    pass-stream = ltb-true _ _ (both-second (ltb (m .stream) (s .set .count)) (ltb (m .stream) 16) g)
+    pass-stream = ltb-true _ _ (and-parts (ltb (m .stream) (s .set .count)) (ltb (m .stream) 16) g .1)
 
     -- its stream, as the code reads it within the array
     abbrev y : Stream
@@ -105,10 +105,10 @@ module _ (s : State) (k before : ℕ) (counts : List ℕ) (inv : Pass s k before
 
         module _ (q : (ltb 0 (m .used) && ltb (y .task) 16) ≡ true) where
           begun : 0 < m .used
-          begun = ltb-true _ _ (both-first (ltb 0 (m .used)) (ltb (y .task) 16) q)
+          begun = ltb-true _ _ (and-parts (ltb 0 (m .used)) (ltb (y .task) 16) q .0)
 
           pub pass-task : y .task < 16
-          pass-task = ltb-true _ _ (both-second (ltb 0 (m .used)) (ltb (y .task) 16) q)
+          pass-task = ltb-true _ _ (and-parts (ltb 0 (m .used)) (ltb (y .task) 16) q .1)
 
           pub pass-twice : 0 < getD counts (y .task) 0 → false ≡ restFormed s
           pass-twice f = no-test s 3 (sym (tally-no (s .set) (s .messages) (s .count) k counts m (y .task) (inv .tally) refl task h inside begun pass-task f))

@@ -9,8 +9,8 @@ use borrow.Author.Tests.{ltb-true, leb-true, lt-ltb, le-ltb, le-leb}
 use lib.Dec.{ltb, leb}
 use lib.ListN.{length, getD, take, drop, List·getD-eq-default}
 use Rattle.laws.specs.Lists.{every, within}
-use Rattle.laws.proofs.Sums.{by-test}
-use Rattle.laws.proofs.Parts.{every-at, leb-less, both-first, both-second}
+use Rattle.laws.proofs.Sums.{and-parts, by-test}
+use Rattle.laws.proofs.Parts.{every-at, leb-less}
 use Rattle.rules.specs.declared.Set.{Set}
 use Rattle.rules.specs.declared.Stream.{Stream}
 use Rattle.rules.specs.declared.Message.{Message}
@@ -33,8 +33,8 @@ standing x clock before m e =
     record {
       stream = ltb-true _ _ (t 0 e);
       used = ltb-true _ _ (t 1 e);
-      early = leb-true _ _ (both-first (leb (spanOf x m) (m .deadline)) (leb (m .deadline) (clock + spanOf x m)) w);
-      late = leb-true _ _ (both-second (leb (spanOf x m) (m .deadline)) (leb (m .deadline) (clock + spanOf x m)) w);
+      early = leb-true _ _ (and-parts (leb (spanOf x m) (m .deadline)) (leb (m .deadline) (clock + spanOf x m)) w .0);
+      late = leb-true _ _ (and-parts (leb (spanOf x m) (m .deadline)) (leb (m .deadline) (clock + spanOf x m)) w .1);
       order = leb-true _ _ (t 3 e);
     }
 

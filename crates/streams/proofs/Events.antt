@@ -1,17 +1,13 @@
 -- How large an event limit can be.
 -- Assumes nothing.
 use Prim.Native.Nat.{ℕ, _+_, _-_, _/_, _≤_}
-use mathlib.Core.Bool.{Bool, true, false, cond}
 use native.Mathlib.Omega.{arith}
 use native.Mathlib.Nat.{div-le-self}
 use lib.Dec.{leb}
+use Rattle.laws.proofs.Sums.{cond-le}
 use Rattle.rules.specs.declared.Tuple.{Tuple}
 use Rattle.rules.specs.declared.Tuple.the-variants.{Once, Every}
 use Rattle.rules.specs.Streams.{eventsOf}
-
-cond-le : (b : Bool) (x y : ℕ) → x ≤ y → cond b x 0 ≤ y
-cond-le true x y h = h
-cond-le false x y h = omega arith
 
 pub events-le : (t : Tuple) (i : ℕ) → eventsOf t i ≤ i + 1
 events-le (Once a) i = cond-le (leb a i) 1 (i + 1) (omega arith)

@@ -1,7 +1,7 @@
 use native.Mathlib.Omega.{arith}
 use borrow.Author.Needs.{needs}
 use Prim.Native.Nat.{_+_, _*_}
-use Rattle.bits.proofs.Answers.{both-fit, gather-none, gather-one, gather-two, high-fits}
+use Rattle.bits.proofs.Answers.{gather-none, gather-one, gather-two, word-lt}
 use Rattle.bits.proofs.far.Statement.{statement}
 use Rattle.bits.proofs.far.Tie as tie
 use Rattle.bits.proofs.far.Reads as reads
@@ -63,11 +63,11 @@ word-requires-3 c κs = search needs
 
 -- src/lib.rt:92:16
 mul-t17 : tie.Need-mul-t17
-mul-t17 c = record { fits = high-fits _ (8 * c .before .before .before .before .before .before .args .byte + c .before .before .before .before .before .before .args .bit) _ _ _ _ _ _ (c .before .before .before .before .there .ensures) (c .before .before .if2 .left) (c .before .word2 .ensures) (omega arith) (c .word3 .ensures) (omega arith) }
+mul-t17 c = omega (arith, word-lt _ _ _ _ (c .before .word2 .ensures) (omega arith) (omega arith), word-lt _ _ _ _ (c .word3 .ensures) (omega arith) (omega arith))
 
 -- src/lib.rt:92:16
 add-t18 : tie.Need-add-t18
-add-t18 c = record { fits = both-fit _ (8 * c .before .before .before .before .before .before .args .byte + c .before .before .before .before .before .before .args .bit) _ _ _ _ _ _ (c .before .before .before .before .there .ensures) (c .before .before .if2 .left) (c .before .word2 .ensures) (omega arith) (c .word3 .ensures) (omega arith) }
+add-t18 c = omega (arith, word-lt _ _ _ _ (c .before .word2 .ensures) (omega arith) (omega arith), word-lt _ _ _ _ (c .word3 .ensures) (omega arith) (omega arith))
 
 -- src/lib.rt:73:1
 returns-3 : tie.Need-returns-3

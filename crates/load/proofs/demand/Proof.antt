@@ -3,7 +3,6 @@ use native.Mathlib.Omega.{arith}
 use borrow.Author.Needs.{needs}
 use Prim.Native.Nat.{_-_}
 use mathlib.Core.Path.{sym, _∙_}
-use Rattle.rules.specs.Streams.{streamsOf}
 use Rattle.rules.proofs.Valid.{valid-set}
 use Rattle.load.proofs.Bounds.{dues-fit, blockings-fit}
 use Rattle.load.proofs.Steady.{demand-is, demand-refused}
@@ -26,10 +25,9 @@ add-t8 : tie.Need-add-t8
 add-t8 c =
     omega (
       arith,
-      c .blockings .ensures,
       c .before .rows-due .ensures,
       dues-fit (c .before .before .rows-of .result .costs) (c .before .before .rows-of .result .firsts) (c .before .before .rows-of .result .cycles) (c .before .before .rows-of .result .count) (c .before .before .before .before .before .args .i) (c .before .before .rows-of .ensures .sound) (omega arith),
-      blockings-fit (streamsOf (c .before .before .before .before .before .args .x)) (c .before .before .before .before .before .args .i) (valid-set (c .before .before .before .before .before .args .x) (sym (c .before .before .before .before .is-valid .ensures) ∙ c .before .before .before .if1 .taken) .streams),
+      blockings-fit _ _ _ (c .blockings .ensures) (valid-set (c .before .before .before .before .before .args .x) (sym (c .before .before .before .before .is-valid .ensures) ∙ c .before .before .before .if1 .taken) .streams),
     )
 
 returns : tie.Need-returns

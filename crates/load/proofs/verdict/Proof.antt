@@ -21,7 +21,7 @@ enum-known-begun-2 c = search needs
 test-range-requires : tie.Need-test-range-requires
 test-range-requires c κs =
     let g : GoesOn (c .before .before .before .before .args .x) (c .before .begun2 .given .0 .0) = subst (OpeningOf (c .before .before .before .before .args .x)) (c .before .begun2 .given .1) (c .before .before .before .begin .ensures) in
-    (valid-set (c .before .before .before .before .args .x) (g .ok), omega (arith, g .end))
+    valid-set (c .before .before .before .before .args .x) (g .ok)
 
 enum-told : tie.Need-enum-told
 enum-told c = search needs

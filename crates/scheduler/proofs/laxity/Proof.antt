@@ -12,7 +12,7 @@ cast-c : tie.Need-cast-c
 cast-c c = search needs
 
 sub-result : tie.Need-sub-result
-sub-result c = difference-fits (c .args .deadline) (c .args .clock) (omega arith) (omega arith)
+sub-result c = search (difference-fits, arith)
 
 returns : tie.Need-returns
 returns c = difference (c .args .deadline) (c .args .clock) (omega arith) (omega arith)

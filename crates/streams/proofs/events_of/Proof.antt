@@ -1,4 +1,5 @@
 -- `streams::events_of` meets its contract. Assumes nothing.
+use native.Mathlib.Omega.{arith}
 use borrow.Author.Needs.{needs}
 use borrow.Author.Tests.{le-leb, lt-leb, not-true, not-false}
 use Rattle.streams.proofs.events_of.Statement.{statement}
@@ -23,7 +24,7 @@ add-result : tie.Need-add-result
 add-result c = search needs
 
 returns : tie.Need-returns
-returns c = simp (c .before .before .t .given .1, le-leb _ _ (c .if1 .taken))
+returns c = simp (c .before .before .t .given .1, le-leb (c .before .before .t .given .0 .0) (c .before .before .before .before .args .i) (omega arith))
 
 returns-2 : tie.Need-returns-2
 returns-2 c = simp (c .before .before .t .given .1, lt-leb _ _ (c .if1 .left))

@@ -14,19 +14,19 @@ use Rattle.streams.proofs.limit_of.Statement.{statement}
 use Rattle.streams.proofs.limit_of.Tie as tie
 
 abbrev Inv-loop : tie.InvT-loop
-Inv-loop i s n sum₀ k₀ sum k = (length (s .tuples) ≡ 4) × (sum ≤ k * 4294967296) × (sum + total (events i) (part k n (s .tuples)) ≡ limit s i)
+Inv-loop i s n sum₀ k₀ sum k = (length (s .tuples) ≡ 4) × (sum + total (events i) (part k n (s .tuples)) ≡ limit s i) × (sum ≤ k * 4294967296)
 
 abbrev μ-loop : tie.MeasureT-loop
 μ-loop i s n sum₀ k₀ sum k = 4 - k
 
 loop-holds : tie.Need-loop-holds Inv-loop μ-loop
 unfolding limit part
-loop-holds c = ((sized _ (c .args .t1 .tuples) 4 (c .good .0 .1 .1 .1 .1 .1 .1 .0 .1 .0 .1)), omega arith, zero-add _)
+loop-holds c = ((sized _ (c .args .t1 .tuples) 4 (c .good .0 .1 .1 .1 .1 .1 .1 .0 .1 .0 .1)), zero-add _, omega arith)
 
 returns : tie.Need-returns Inv-loop μ-loop
 returns c =
     let loop = c .before .before .loop in
-    sum-end _ _ _ _ _ _ (loop .inv .2) (inl (search needs))
+    sum-end _ _ _ _ _ _ (loop .inv .1) (inl (search needs))
 
 mul-p : tie.Need-mul-p Inv-loop μ-loop
 mul-p c = search needs
@@ -54,12 +54,12 @@ unfolding events
 loop-again c =
     let start = c .before .before .before .before .before in
     let loop = c .before .before .before .before .loop in
-    (loop .inv .0, omega (arith, c .events-of .ensures, events-le (getD (start .args .t1 .tuples) (loop .k) noTuple .tuple) (start .args .i)), rw (c .events-of .ensures) (sum-go _ _ _ _ _ _ noTuple _ (loop .inv .2) refl (search needs) (omega arith)))
+    (loop .inv .0, rw (c .events-of .ensures) (sum-go _ _ _ _ _ _ noTuple _ (loop .inv .1) refl (search needs) (omega arith)), omega (arith, c .events-of .ensures, events-le (getD (start .args .t1 .tuples) (loop .k) noTuple .tuple) (start .args .i)))
 
 returns-2 : tie.Need-returns-2 Inv-loop μ-loop
 returns-2 c =
     let loop = c .before .loop in
-    sum-end _ _ _ _ _ _ (loop .inv .2) (inr (omega arith))
+    sum-end _ _ _ _ _ _ (loop .inv .1) (inr (omega arith))
 
 pub limit-of-spec : {M : Type 1} → statement M
 limit-of-spec =

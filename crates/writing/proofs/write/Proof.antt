@@ -66,7 +66,7 @@ returns c =
     let x = a .x in
     let end : ℕ = c .before .before .before .before .before .before .before .before .before .before .before .before .before .before .before .before .before .fields-end .result in
     let ss : List ℕ = flat streamBits (streamsOf x) in
-    wrote x (a .buf .now) (c .before .before .put-streams .last .0) end ((end + 7) / 8) (sym (c .before .before .before .before .before .before .before .before .before .before .before .before .before .before .before .before .before .before .before .is-valid .ensures) ∙ c .before .before .before .before .before .before .before .before .before .before .before .before .before .before .before .before .before .before .if1 .taken) (c .before .before .before .before .before .before .before .before .before .before .before .before .before .before .before .before .before .fields-end .ensures) refl (c .before .before .before .before .before .before .before .before .before .before .before .before .before .before .before .before .if2 .taken)
+    wrote x (a .buf .now) (c .before .before .put-streams .last .0) end ((end + 7) / 8) (sym (c .before .before .before .before .before .before .before .before .before .before .before .before .before .before .before .before .before .before .before .is-valid .ensures) ∙ c .before .before .before .before .before .before .before .before .before .before .before .before .before .before .before .before .before .before .if1 .taken) (c .before .before .before .before .before .before .before .before .before .before .before .before .before .before .before .before .before .fields-end .ensures) refl (omega (arith, c .before .before .before .before .before .before .before .before .before .before .before .before .before .before .before .before .if2 .taken))
     (areBytes-of (a .buf .now) (λ i. c .before .before .before .before .before .before .before .before .before .before .before .before .before .before .before .before .before .before .before .before .slice-known .given i .fits))
     (areBytes-of (c .before .before .put-streams .last .0) (λ i. c .slice-known5 .given i .fits))
     (c .before .before .put-streams .ensures

@@ -14,7 +14,7 @@ gcd-requires : tie.Need-gcd-requires
 gcd-requires c κs = search needs
 
 div-wide : tie.Need-div-wide
-div-wide c = gcd-positive (c .before .args .h) (c .before .args .z) (c .gcd .result) (c .before .pre .1 .low) (c .gcd .ensures)
+div-wide c = gcd-positive _ _ (c .gcd .result) (c .before .pre .1 .low) (c .gcd .ensures)
 
 wide-requires : tie.Need-wide-requires
 wide-requires c κs = search needs

@@ -27,7 +27,7 @@ mul-result c = omega (arith, product-fits (c .before .wide .result) (c .wide2 .r
 
 returns : tie.Need-returns
 unfolding rowDue
-returns c = simp (le-leb _ _ (c .before .before .if1 .taken)) (ap₂ (λ (a b : ℕ). a * (b + 1)) (c .before .wide .ensures) (c .wide2 .ensures))
+returns c = simp (le-leb (c .before .before .before .args .first) (c .before .before .before .args .i) (omega arith)) (ap₂ (λ (a b : ℕ). a * (b + 1)) (c .before .wide .ensures) (c .wide2 .ensures))
 
 returns-2 : tie.Need-returns-2
 unfolding rowDue

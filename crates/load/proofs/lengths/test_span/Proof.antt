@@ -11,13 +11,13 @@ use Rattle.load.proofs.lengths.test_span.Statement.{statement}
 use Rattle.load.proofs.lengths.test_span.Tie as tie
 
 abbrev Inv-loop : tie.InvT-loop
-Inv-loop blocked from stop n costs firsts cycles i₀ i = (from ≤ i) × (i ≤ stop) × NoneLate (λ j. duesBelow costs firsts cycles n j + blocked) from i
+Inv-loop blocked from stop n costs firsts cycles i₀ i = (from ≤ i) × NoneLate (λ j. duesBelow costs firsts cycles n j + blocked) from i
 
 abbrev μ-loop : tie.MeasureT-loop
 μ-loop blocked from stop n costs firsts cycles i₀ i = stop - i
 
 loop-holds : tie.Need-loop-holds Inv-loop μ-loop
-loop-holds c = (omega arith, c .before .before .before .pre .2, none-yet (rowsWith (c .before .before .before .args .t) (c .before .before .before .args .blocked)) (c .before .before .before .args .from))
+loop-holds c = (omega arith, none-yet (rowsWith (c .before .before .before .args .t) (c .before .before .before .args .blocked)) (c .before .before .before .args .from))
 
 dues-at-requires : tie.Need-dues-at-requires Inv-loop μ-loop
 dues-at-requires c κs = c .before .before .before .before .before .before .before .before .pre .0
@@ -42,7 +42,7 @@ returns c =
     rw (c .late-at .ensures)
     (late-at (rowsWith (c .before .before .before .before .before .before .before .before .before .before .before .before .args .t) (c .before .before .before .before .before .before .before .before .before .before .before .before .args .blocked)) (c .before .before .before .before .before .before .before .before .before .before .before .before .args .from) (c .before .before .before .before .before .before .before .before .before .before .before .before .args .stop) (c .before .before .before .before .before .before .before .before .loop .i)
     (c .before .before .before .dues-at .result + c .before .before .before .before .before .before .before .before .before .before .before .before .args .blocked) (ap (λ (n : ℕ). n + c .before .before .before .before .before .before .before .before .before .before .before .before .args .blocked) (c .before .before .before .dues-at .ensures))
-    (omega arith) (omega arith) (omega (arith, c .before .before .wide .ensures)) (c .before .before .before .before .before .before .before .before .loop .inv .2))
+    (omega arith) (omega arith) (omega (arith, c .before .before .wide .ensures)) (c .before .before .before .before .before .before .before .before .loop .inv .1))
 
 add-i : tie.Need-add-i Inv-loop μ-loop
 add-i c = omega arith
@@ -53,10 +53,10 @@ loop-less c = omega arith
 loop-again : tie.Need-loop-again Inv-loop μ-loop
 loop-again c =
     let le : rowsDue (c .before .before .before .before .before .before .before .before .before .before .before .args .t) (c .before .before .before .before .before .before .before .loop .i) + c .before .before .before .before .before .before .before .before .before .before .before .args .blocked ≤ c .before .before .before .before .before .before .before .loop .i = omega (arith, c .before .before .dues-at .ensures, c .before .wide .ensures) in
-    (omega arith, omega arith, none-more (rowsWith (c .before .before .before .before .before .before .before .before .before .before .before .args .t) (c .before .before .before .before .before .before .before .before .before .before .before .args .blocked)) (c .before .before .before .before .before .before .before .before .before .before .before .args .from) (c .before .before .before .before .before .before .before .loop .i) (c .before .before .before .before .before .before .before .loop .inv .2) le)
+    (omega arith, none-more (rowsWith (c .before .before .before .before .before .before .before .before .before .before .before .args .t) (c .before .before .before .before .before .before .before .before .before .before .before .args .blocked)) (c .before .before .before .before .before .before .before .before .before .before .before .args .from) (c .before .before .before .before .before .before .before .loop .i) (c .before .before .before .before .before .before .before .loop .inv .1) le)
 
 returns-2 : tie.Need-returns-2 Inv-loop μ-loop
-returns-2 c = λ j p q. c .before .loop .inv .2 j p (omega arith)
+returns-2 c = λ j p q. c .before .loop .inv .1 j p (omega arith)
 
 pub test-span-spec : {M : Type 1} → statement M
 test-span-spec =

@@ -16,7 +16,7 @@ stopped-requires c κs = search needs
 
 -- src/stages.rt:234:9
 returns : tie.Need-returns
-returns c = c .stopped .ensures ∙ pads-over _ _ (c .before .if1 .taken)
+returns c = c .stopped .ensures ∙ pads-over (c .before .before .before .args .h) (c .before .before .before .args .v) (omega arith)
 
 -- src/stages.rt:238:21
 add-next : tie.Need-add-next
