@@ -4,3 +4,4 @@ pub mod States
 pub mod Sheets
 pub mod Once
 pub mod Answers
+pub mod Fits

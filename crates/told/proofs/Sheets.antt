@@ -5,12 +5,15 @@ use native.Mathlib.Omega.{arith}
 use mathlib.Core.Path.{_≡_, refl, ap, _∙_}
 use mathlib.Core.Bool.{true}
 use mathlib.Core.List.{List, [], _∷_}
-use lib.ListN.{length, take, replicate, length-append, length-replicate}
-use borrow.Author.Tests.{le-leb, lt-leb}
+use lib.ListN.{length, take, drop, replicate, length-append, length-drop, length-replicate}
+use lib.Dec.{leb}
+use borrow.Author.Tests.{le-leb, lt-leb, leb-true}
+use Rattle.laws.proofs.Sums.{by-test}
 use Rattle.rules.specs.declared.Set.{Set}
 use Rattle.rules.specs.declared.WriteAnswer.{WriteAnswer}
 use Rattle.rules.specs.Numbers.{writeSays}
-use Rattle.rules.specs.Sheet.{writeOf, bufferOf}
+use Rattle.rules.specs.Streams.{valid}
+use Rattle.rules.specs.Sheet.{sheetOf, writeOf, bufferOf}
 use Rattle.text.specs.declared.Line.{Line}
 use Rattle.text.specs.Hex.{hexed}
 use Rattle.text.specs.Held.{holding}
@@ -51,6 +54,42 @@ module _ (x : Set) (buf out : List ℕ) (at : ℕ) (small : length buf ≤ 1024)
       onto-then out wroteLine at 8448 a o room first (lineOf (hexed (bufferOf x buf))) end page
       (omega (arith, wrote-short, digits, length-append (hexed (bufferOf x buf)) (10 ∷ [])))
       (onto-then o (hexed (bufferOf x buf)) a 8320 b p left hex (lineOf []) end page (omega (arith, digits)) last)
+
+-- the buffer keeps its length
+buffer-kept : (x : Set) (buf : List ℕ) → length (bufferOf x buf) ≡ length buf
+unfolding bufferOf writeOf
+buffer-kept x buf =
+    by-test (valid x)
+    (λ v.
+    by-test (leb (length (sheetOf x)) (length buf))
+    (λ f.
+    rw (v, f)
+    (let fits : length (sheetOf x) ≤ length buf = leb-true (length (sheetOf x)) (length buf) f in
+    omega (arith, length-append (sheetOf x) (drop (length (sheetOf x)) buf), length-drop (length (sheetOf x)) buf)))
+    (λ f. rw (v, f)))
+    (λ v. rw v)
+
+sheet-short : (x : Set) (buf : List ℕ) → length buf ≤ 1024 → length (sheetLines x buf) ≤ 2304
+unfolding sheetLines
+sheet-short x buf h =
+    omega (
+      arith,
+      length-append (lineOf (says (writeSays (writeOf x (length buf))))) (lineOf (hexed (bufferOf x buf))),
+      length-append (hexed (bufferOf x buf)) (10 ∷ []),
+      line-short (says (writeSays (writeOf x (length buf)))) (says-short (writeSays (writeOf x (length buf)))),
+      hexed-size (bufferOf x buf),
+      buffer-kept x buf,
+    )
+
+pub write-short : (x : Set) (n : ℕ) → length (writeLines x n) ≤ 8448
+unfolding writeLines
+write-short x n =
+    by-test (leb n 1024)
+    (λ e.
+    rw e
+    (let few : length (replicate {A = ℕ} n 170) ≤ 1024 = omega (arith, leb-true n 1024 e, length-replicate {A = ℕ} n 170) in
+    omega (arith, sheet-short x (replicate n 170) few)))
+    (λ e. rw e (omega (arith, said-short Unknown)))
 
 -- ---- the first n of 1,024 bytes
 

@@ -94,7 +94,7 @@ pub number-is : (b m r : Line) (w : List ℕ) (n : ℕ) → length w ≤ 64 → 
     → r ≡ holding (lineOf (w ++ spaced (decimalOf n)))
 number-is b m r w n h e f g = ended b m r (w ++ spaced (decimalOf n)) (omega (arith, numbered w n)) e f g
 
-module _ (s : State) (out : List ℕ) (at : ℕ) (room : roomFor out at 8448 ≡ true) where
+module _ (s : State) where
   abbrev clockLine : List ℕ
   clockLine = lineOf (letters "clock" ++ spaced (decimalOf (s .clock)))
 
@@ -107,25 +107,38 @@ module _ (s : State) (out : List ℕ) (at : ℕ) (room : roomFor out at 8448 ≡
   count-short : length countLine ≤ 128
   count-short = line-short (letters "pending" ++ spaced (decimalOf (s .count))) (omega (arith, numbered (letters "pending") (s .count)))
 
-  module _ (k l : Line) (a b : ℕ) (o p : List ℕ) (e : k ≡ holding clockLine) (f : (a ≡ endOf out at k) × (o ≡ appended out at k))
-      (g : l ≡ holding countLine) (h : (b ≡ endOf o a l) × (p ≡ appended o a l)) where
-    first : Onto out at clockLine a o
-    first = onto-line out clockLine at k a o clock-short e f
+module _ (s : State) (out : List ℕ) (at : ℕ) (room : roomFor out at 8448 ≡ true) where
+  module _ (k l : Line) (a b : ℕ) (o p : List ℕ) (e : k ≡ holding (clockLine s)) (f : (a ≡ endOf out at k) × (o ≡ appended out at k))
+      (g : l ≡ holding (countLine s)) (h : (b ≡ endOf o a l) × (p ≡ appended o a l)) where
+    first : Onto out at (clockLine s) a o
+    first = onto-line out (clockLine s) at k a o (clock-short s) e f
 
-    second : Onto o a countLine b p
-    second = onto-line o countLine a l b p count-short g h
+    second : Onto o a (countLine s) b p
+    second = onto-line o (countLine s) a l b p (count-short s) g h
 
     pub messages-room : roomFor p b 8192 ≡ true
     messages-room =
-        onto-room o countLine a 8320 b p (onto-room out clockLine at 8448 a o room first 8320 (omega (arith, clock-short))) second 8192
-        (omega (arith, count-short))
+        onto-room o (countLine s) a 8320 b p (onto-room out (clockLine s) at 8448 a o room first 8320 (omega (arith, clock-short s))) second 8192
+        (omega (arith, count-short s))
 
     pub state-onto : (end : ℕ) (page : List ℕ) → length (s .messages) ≡ 64 → Onto p b (messageLines 0 (s .messages)) end page
         → Onto out at (stateLines s) end page
     unfolding stateLines
     state-onto end page all q =
-        let left : roomFor o a 8320 ≡ true = onto-room out clockLine at 8448 a o room first 8320 (omega (arith, clock-short)) in
+        let left : roomFor o a 8320 ≡ true = onto-room out (clockLine s) at 8448 a o room first 8320 (omega (arith, clock-short s)) in
         let short : length (messageLines 0 (s .messages)) ≤ 8192 = omega (arith, messages-short 0 (s .messages)) in
-        onto-then out clockLine at 8448 a o room first (countLine ++ messageLines 0 (s .messages)) end page
-        (omega (arith, clock-short, count-short, length-append countLine (messageLines 0 (s .messages))))
-        (onto-then o countLine a 8320 b p left second (messageLines 0 (s .messages)) end page (omega (arith, count-short)) q)
+        onto-then out (clockLine s) at 8448 a o room first (countLine s ++ messageLines 0 (s .messages)) end page
+        (omega (arith, clock-short s, count-short s, length-append (countLine s) (messageLines 0 (s .messages))))
+        (onto-then o (countLine s) a 8320 b p left second (messageLines 0 (s .messages)) end page (omega (arith, count-short s)) q)
+
+pub state-short : (s : State) → length (s .messages) ≡ 64 → length (stateLines s) ≤ 8448
+unfolding stateLines
+state-short s all =
+    omega (
+      arith,
+      clock-short s,
+      count-short s,
+      messages-short 0 (s .messages),
+      length-append (clockLine s) (countLine s ++ messageLines 0 (s .messages)),
+      length-append (countLine s) (messageLines 0 (s .messages)),
+    )
