@@ -264,7 +264,7 @@ fn limit(d: Desk, k: u32, i: u32) -> Left
     ensures { λ r. ⌜ r ≡ record { desk = d; answer = answers Kind.Limit (k ∷ i ∷ []) [] d } ⌝ }
 {
     let x = d.set;
-    saying(d, Said::Count(streams::event_limit(x, k as usize, i)))
+    saying(d, Said::Count(limits::event_limit(x, k as usize, i)))
 }
 
 fn demand(d: Desk, i: u32) -> Left
@@ -298,7 +298,7 @@ pub fn after(d: Desk, o: Order, bytes: &[u8]) -> Left
         Kind::Valid => is_valid(d),
         Kind::Limit => limit(d, n[0], n[1]),
         Kind::Demand => demand(d, n[0]),
-        Kind::Jitter => saying(d, Said::Jitter(streams::jittered(n[0], n[1]))),
+        Kind::Jitter => saying(d, Said::Jitter(limits::jittered(n[0], n[1]))),
         Kind::Verdict => leaving(d, Answer::Verdict),
         Kind::Start => start(d),
         Kind::Clock => put_into_state(d, put_clock(s, n[0])),

@@ -1,13 +1,10 @@
-// Streams and sets: is a set valid, the event limit of a stream, and a jittered cycle as tuples.
+// Streams and sets: is a set valid, and what is read of it.
 ghost use mathlib.Core.Path.{_≡_};
 ghost use mathlib.Core.Bool.{cond, _&&_};
 ghost use lib.ListN.{drop};
-ghost use Prim.Native.Nat.{_-_, _/_, _≤_};
+ghost use Prim.Native.Nat.{_-_};
 ghost use Rattle.laws.specs.Lists.{all};
-ghost use Rattle.rules.specs.Streams.{offset, cycleOk, tupleOk, tuplesOk, tupleUnused, tuplesOf, streamOk, streamUnused, streamsOf, valid, noTuple, noStream, emptySet, streamAt, eventsOf, limit, limitOf, jitterOk, jitterOf};
-use rules::CountAnswer;
-use rules::JitterAnswer;
-use rules::Refusal;
+ghost use Rattle.rules.specs.Streams.{offset, cycleOk, tupleOk, tuplesOk, tupleUnused, tuplesOf, streamOk, streamUnused, streamsOf, valid, noTuple, noStream, emptySet, streamAt};
 use rules::Set;
 use rules::Stream;
 use rules::Tuple;
@@ -179,85 +176,11 @@ pub fn stream_at(x: Set, k: usize) -> Stream
     if k < 16 { x.streams[k] } else { no_stream() }
 }
 
-// ---- event limits
-
-// The quotient, 0 where the divisor is 0.
-fn quotient(x: u64, z: u64) -> u64
-    ensures { λ r. ⌜ r ≡ x / z ⌝ }
-    ensures { λ r. ⌜ r ≤ x ⌝ }
-{
-    if z == 0 { 0 } else { x / z }
-}
-
-// What one tuple adds to the event limit of a length.
-fn events_of(t: Tuple, i: u32) -> u64
-    ensures { λ r. ⌜ r ≡ eventsOf t i ⌝ }
-{
-    match t {
-        Tuple::Once(a) => { if a <= i { 1 } else { 0 } }
-        Tuple::Every(z, a) => {
-            if a <= i {
-                quotient((i - a) as u64, z as u64) + 1
-            } else {
-                0
-            }
-        }
-    }
-}
-
-// E(I) of a stream.
-pub fn limit_of(s: Stream, i: u32) -> u64
-    ensures { λ r. ⌜ r ≡ limit s i ⌝ }
-{
-    let n = s.count;
-    let mut sum: u64 = 0;
-    let mut k: usize = 0;
-    while k < 4 {
-        if n <= k {
-            return sum;
-        }
-        let p = s.tuples[k];
-        let t = p.tuple;
-        sum = sum + events_of(t, i);
-        k = k + 1;
-    }
-    sum
-}
-
-// The event limit of the set's stream k for the length i, 7 for an invalid set or a stream that it has not.
-pub fn event_limit(x: Set, k: usize, i: u32) -> CountAnswer
-    ensures { λ r. ⌜ r ≡ limitOf x k i ⌝ }
-{
-    if is_valid(x) & (k < x.count) {
-        return CountAnswer::Number(limit_of(stream_at(x, k), i));
-    }
-    CountAnswer::Refused(Refusal::OutOfRule)
-}
-
-// ---- a jittered cycle
+// ---- numbers
 
 // The difference, 0 where it would be below.
 pub fn less(a: u32, b: u32) -> u32
     ensures { λ r. ⌜ r ≡ a - b ⌝ }
 {
     if a < b { 0 } else { a - b }
-}
-
-fn jitter_ok(z: u32, j: u32) -> bool
-    ensures { λ r. ⌜ r ≡ jitterOk z j ⌝ }
-{
-    let from = less(z, j);
-    ((1 <= z) & (z <= 1000000)) & ((j <= z) & (from <= 100000))
-}
-
-// The jittered cycle (z, j) as once at 0 and every z from z - j, or 7.
-pub fn jittered(z: u32, j: u32) -> JitterAnswer
-    ensures { λ r. ⌜ r ≡ jitterOf z j ⌝ }
-{
-    if jitter_ok(z, j) {
-        let first = Tuple::Once(0);
-        let second = Tuple::Every(z, less(z, j));
-        return JitterAnswer::Tuples(first, second);
-    }
-    JitterAnswer::Refused(Refusal::OutOfRule)
 }

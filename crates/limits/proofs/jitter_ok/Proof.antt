@@ -1,8 +1,8 @@
--- `streams::jitter_ok` meets its contract. Assumes nothing.
+-- `limits::jitter_ok` meets its contract. Assumes nothing.
 use borrow.Author.Needs.{needs}
 use Rattle.rules.specs.Streams.{jitterOk}
-use Rattle.streams.proofs.jitter_ok.Statement.{statement}
-use Rattle.streams.proofs.jitter_ok.Tie as tie
+use Rattle.limits.proofs.jitter_ok.Statement.{statement}
+use Rattle.limits.proofs.jitter_ok.Tie as tie
 
 less-requires : tie.Need-less-requires
 less-requires c κs = search needs

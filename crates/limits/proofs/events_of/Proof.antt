@@ -1,9 +1,9 @@
--- `streams::events_of` meets its contract. Assumes nothing.
+-- `limits::events_of` meets its contract. Assumes nothing.
 use native.Mathlib.Omega.{arith}
 use borrow.Author.Needs.{needs}
 use borrow.Author.Tests.{le-leb, lt-leb, not-true, not-false}
-use Rattle.streams.proofs.events_of.Statement.{statement}
-use Rattle.streams.proofs.events_of.Tie as tie
+use Rattle.limits.proofs.events_of.Statement.{statement}
+use Rattle.limits.proofs.events_of.Tie as tie
 
 enum-known-t : tie.Need-enum-known-t
 enum-known-t c = search needs

@@ -1,8 +1,8 @@
--- `streams::quotient` meets its contract. Assumes nothing.
+-- `limits::quotient` meets its contract. Assumes nothing.
 use borrow.Author.Needs.{needs}
 use native.Mathlib.Nat.{div-zero, div-le-self}
-use Rattle.streams.proofs.quotient.Statement.{statement}
-use Rattle.streams.proofs.quotient.Tie as tie
+use Rattle.limits.proofs.quotient.Statement.{statement}
+use Rattle.limits.proofs.quotient.Tie as tie
 
 div-result : tie.Need-div-result
 div-result c = search needs

@@ -1,11 +1,11 @@
--- `streams::event_limit` meets its contract. Assumes nothing.
+-- `limits::event_limit` meets its contract. Assumes nothing.
 use borrow.Author.Needs.{needs}
 use mathlib.Core.Path.{_≡_, refl, sym, ap, _∙_}
 use mathlib.Core.Bool.{_&&_, true, false}
 use lib.Dec.{ltb}
 use Rattle.rules.specs.Streams.{valid, limitOf}
-use Rattle.streams.proofs.event_limit.Statement.{statement}
-use Rattle.streams.proofs.event_limit.Tie as tie
+use Rattle.limits.proofs.event_limit.Statement.{statement}
+use Rattle.limits.proofs.event_limit.Tie as tie
 
 is-valid-requires : tie.Need-is-valid-requires
 is-valid-requires c κs = search needs

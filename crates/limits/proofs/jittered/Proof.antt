@@ -1,9 +1,9 @@
--- `streams::jittered` meets its contract. Assumes nothing.
+-- `limits::jittered` meets its contract. Assumes nothing.
 use borrow.Author.Needs.{needs}
 use mathlib.Core.Path.{_≡_, refl, sym, ap, _∙_}
 use Rattle.rules.specs.Streams.{jitterOf}
-use Rattle.streams.proofs.jittered.Statement.{statement}
-use Rattle.streams.proofs.jittered.Tie as tie
+use Rattle.limits.proofs.jittered.Statement.{statement}
+use Rattle.limits.proofs.jittered.Tie as tie
 
 jitter-ok-requires : tie.Need-jitter-ok-requires
 jitter-ok-requires c κs = search needs

@@ -1,4 +1,4 @@
--- `streams::limit_of` meets its contract. The sum so far and the events of the tuples that are left make the limit. Assumes nothing.
+-- `limits::limit_of` meets its contract. The sum so far and the events of the tuples that are left make the limit. Assumes nothing.
 use native.Mathlib.Omega.{arith}
 use borrow.Author.Needs.{needs}
 use mathlib.Core.Path.{_≡_, refl, sym, ap, _∙_}
@@ -9,9 +9,9 @@ use native.Mathlib.Nat.{zero-add}
 use Rattle.laws.proofs.Parts.{part, sum-go, sum-end, sized}
 use Rattle.laws.specs.Lists.{sum as total}
 use Rattle.rules.specs.Streams.{events, limit, noTuple}
-use Rattle.streams.proofs.Events.{events-le}
-use Rattle.streams.proofs.limit_of.Statement.{statement}
-use Rattle.streams.proofs.limit_of.Tie as tie
+use Rattle.limits.proofs.Events.{events-le}
+use Rattle.limits.proofs.limit_of.Statement.{statement}
+use Rattle.limits.proofs.limit_of.Tie as tie
 
 abbrev Inv-loop : tie.InvT-loop
 Inv-loop i s n sum₀ k₀ sum k = (length (s .tuples) ≡ 4) × (sum + total (events i) (part k n (s .tuples)) ≡ limit s i) × (sum ≤ k * 4294967296)
