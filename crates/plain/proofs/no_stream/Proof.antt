@@ -1,4 +1,4 @@
--- `streams::no_stream` meets its contract. Assumes nothing.
+-- `plain::no_stream` meets its contract. Assumes nothing.
 use borrow.Author.Needs.{needs}
 use Rattle.plain.proofs.no_stream.Statement.{statement}
 use Rattle.plain.proofs.no_stream.Tie as tie
