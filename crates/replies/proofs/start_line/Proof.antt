@@ -1,10 +1,10 @@
--- `words::start_line` meets its contract.
+-- `replies::start_line` meets its contract.
 -- Assumes nothing.
 use Rattle.words.proofs.Lengths.{says-short}
 use Rattle.words.proofs.Ends.{ended}
 use borrow.Author.Needs.{needs}
-use Rattle.words.proofs.start_line.Statement.{statement}
-use Rattle.words.proofs.start_line.Tie as tie
+use Rattle.replies.proofs.start_line.Statement.{statement}
+use Rattle.replies.proofs.start_line.Tie as tie
 
 blank-requires : tie.Need-blank-requires
 blank-requires c κs = search needs

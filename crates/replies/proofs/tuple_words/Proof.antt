@@ -1,9 +1,9 @@
--- `words::tuple_words` meets its contract.
+-- `replies::tuple_words` meets its contract.
 -- Assumes nothing.
 use Rattle.words.specs.Words.{says}
 use borrow.Author.Needs.{needs}
-use Rattle.words.proofs.tuple_words.Statement.{statement}
-use Rattle.words.proofs.tuple_words.Tie as tie
+use Rattle.replies.proofs.tuple_words.Statement.{statement}
+use Rattle.replies.proofs.tuple_words.Tie as tie
 
 enum-known-t : tie.Need-enum-known-t
 enum-known-t c = search needs

@@ -1,9 +1,9 @@
--- `words::write_words` meets its contract.
+-- `replies::write_words` meets its contract.
 -- Assumes nothing.
 use Rattle.words.specs.Words.{says}
 use borrow.Author.Needs.{needs}
-use Rattle.words.proofs.write_words.Statement.{statement}
-use Rattle.words.proofs.write_words.Tie as tie
+use Rattle.replies.proofs.write_words.Statement.{statement}
+use Rattle.replies.proofs.write_words.Tie as tie
 
 enum-known-a : tie.Need-enum-known-a
 enum-known-a c = search needs

@@ -1,10 +1,10 @@
--- `words::choose_words` meets its contract.
+-- `replies::choose_words` meets its contract.
 -- Assumes nothing.
 use Rattle.words.specs.Words.{says}
 use Rattle.text.proofs.Puts.{then}
 use borrow.Author.Needs.{needs}
-use Rattle.words.proofs.choose_words.Statement.{statement}
-use Rattle.words.proofs.choose_words.Tie as tie
+use Rattle.replies.proofs.choose_words.Statement.{statement}
+use Rattle.replies.proofs.choose_words.Tie as tie
 
 enum-told : tie.Need-enum-told
 enum-told c = search needs
