@@ -35,15 +35,15 @@ fn line_of(s: Said) -> Line
     match s {
         Said::Unknown => said(b"?"),
         Said::Put => said(b"put"),
-        Said::Read(a, n) => words::read_line(a, n),
+        Said::Read(a, n) => replies::read_line(a, n),
         Said::Valid => said(b"valid"),
         Said::Invalid => said(b"invalid"),
-        Said::Count(a) => words::count_line(a),
-        Said::Jitter(a) => words::jitter_line(a),
-        Said::Start(a) => words::start_line(a),
+        Said::Count(a) => replies::count_line(a),
+        Said::Jitter(a) => replies::jitter_line(a),
+        Said::Start(a) => replies::start_line(a),
         Said::Post(clock, a) => words::post_line(clock, a),
         Said::Unit(clock, a) => words::unit_line(clock, a),
-        Said::Choose(a) => words::choose_line(a),
+        Said::Choose(a) => replies::choose_line(a),
         Said::Formed => said(b"well formed"),
         Said::IllFormed => said(b"refused 12"),
     }
@@ -113,7 +113,7 @@ fn sheet_onto(x: Set, bytes: &mut [u8], out: &mut [u8], at: usize) -> usize
     ensures { λ r. ⌜ Onto (now (out .entry)) at (sheetLines x (now (bytes .entry))) r (now (out .exit)) ⌝ }
 {
     let answer = writing::write(x, bytes);
-    let end = page::append(out, at, words::write_line(answer));
+    let end = page::append(out, at, replies::write_line(answer));
     let last = hexes::print(bytes, out, end);
     page::append(out, last, said(b""))
 }

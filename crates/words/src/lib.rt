@@ -1,19 +1,12 @@
-// What the programs print for each answer: the words of specs/Words.antt, as lines.
+// What the programs print: a refusal, and the lines of a trace; the words of specs/Words.antt.
 ghost use mathlib.Core.Path.{_≡_};
-ghost use Rattle.rules.specs.Numbers.{number, refused as Refused-with, startSays, postSays, chooseSays, unitSays, countSays, jitterSays, verdictSays, writeSays};
+ghost use Rattle.rules.specs.Numbers.{number, refused as Refused-with, postSays, unitSays, verdictSays};
 ghost use Rattle.text.specs.Held.{holding, puts};
-ghost use Rattle.words.specs.Words.{tupleWords, says, readWords, lineOf, stepLine};
-use rules::ChooseAnswer;
-use rules::CountAnswer;
-use rules::JitterAnswer;
+ghost use Rattle.words.specs.Words.{says, lineOf, stepLine};
 use rules::PostAnswer;
-use rules::ReadAnswer;
 use rules::Refusal;
-use rules::StartAnswer;
-use rules::Tuple;
 use rules::UnitAnswer;
 use rules::Verdict;
-use rules::WriteAnswer;
 use text::Line;
 
 // The number that the cab prints for a refusal.
@@ -36,19 +29,10 @@ pub fn refusal_number(why: Refusal) -> u32
     }
 }
 
-fn refused(l: Line, why: Refusal) -> Line
+pub fn refused(l: Line, why: Refusal) -> Line
     ensures { λ r. ⌜ r ≡ puts l (says (Refused-with (number why))) ⌝ }
 {
     text::one(l, b"refused", refusal_number(why) as u64)
-}
-
-fn start_words(l: Line, a: StartAnswer) -> Line
-    ensures { λ r. ⌜ r ≡ puts l (says (startSays a)) ⌝ }
-{
-    match a {
-        StartAnswer::Started => text::word(l, b"started"),
-        StartAnswer::Refused(why) => refused(l, why),
-    }
 }
 
 fn post_words(l: Line, a: PostAnswer) -> Line
@@ -57,20 +41,6 @@ fn post_words(l: Line, a: PostAnswer) -> Line
     match a {
         PostAnswer::Posted(k, d) => text::two(l, b"posted", k as u64, d as u64),
         PostAnswer::Refused(why) => refused(l, why),
-    }
-}
-
-fn choose_words(l: Line, a: ChooseAnswer) -> Line
-    ensures { λ r. ⌜ r ≡ puts l (says (chooseSays a)) ⌝ }
-{
-    match a {
-        ChooseAnswer::Nothing => text::word(l, b"none"),
-        ChooseAnswer::Runs(t, k) => text::one(
-            text::one(l, b"task", t as u64),
-            b" stream",
-            k as u64,
-        ),
-        ChooseAnswer::Refused(why) => refused(l, why),
     }
 }
 
@@ -86,33 +56,6 @@ fn unit_words(l: Line, a: UnitAnswer) -> Line
     }
 }
 
-fn count_words(l: Line, a: CountAnswer) -> Line
-    ensures { λ r. ⌜ r ≡ puts l (says (countSays a)) ⌝ }
-{
-    match a {
-        CountAnswer::Number(n) => text::decimal(l, n),
-        CountAnswer::Refused(why) => text::number(refused(l, why), 0),
-    }
-}
-
-fn tuple_words(l: Line, t: Tuple) -> Line
-    ensures { λ r. ⌜ r ≡ puts l (tupleWords t) ⌝ }
-{
-    match t {
-        Tuple::Once(a) => text::one(l, b"once", a as u64),
-        Tuple::Every(z, a) => text::two(l, b"every", z as u64, a as u64),
-    }
-}
-
-fn jitter_words(l: Line, a: JitterAnswer) -> Line
-    ensures { λ r. ⌜ r ≡ puts l (says (jitterSays a)) ⌝ }
-{
-    match a {
-        JitterAnswer::Tuples(t, u) => tuple_words(text::put(tuple_words(l, t), b' '), u),
-        JitterAnswer::Refused(why) => refused(l, why),
-    }
-}
-
 fn verdict_words(l: Line, a: Verdict) -> Line
     ensures { λ r. ⌜ r ≡ puts l (says (verdictSays a)) ⌝ }
 {
@@ -122,30 +65,6 @@ fn verdict_words(l: Line, a: Verdict) -> Line
         Verdict::Overload => text::word(l, b"overload"),
         Verdict::Refused(why) => refused(l, why),
     }
-}
-
-fn write_words(l: Line, a: WriteAnswer) -> Line
-    ensures { λ r. ⌜ r ≡ puts l (says (writeSays a)) ⌝ }
-{
-    match a {
-        WriteAnswer::Wrote(n) => text::one(l, b"wrote", n as u64),
-        WriteAnswer::Refused(why) => refused(l, why),
-    }
-}
-
-fn read_words(l: Line, a: ReadAnswer, n: usize) -> Line
-    ensures { λ r. ⌜ r ≡ puts l (readWords a n) ⌝ }
-{
-    match a {
-        ReadAnswer::Read => text::one(l, b"set", n as u64),
-        ReadAnswer::Refused(why) => refused(l, why),
-    }
-}
-
-pub fn start_line(a: StartAnswer) -> Line
-    ensures { λ r. ⌜ r ≡ holding (lineOf (says (startSays a))) ⌝ }
-{
-    text::put(start_words(text::blank(), a), b'\n')
 }
 
 // A step's line has the clock before the step in front.
@@ -163,39 +82,8 @@ pub fn unit_line(clock: u32, a: UnitAnswer) -> Line
     text::put(unit_words(front, a), b'\n')
 }
 
-pub fn choose_line(a: ChooseAnswer) -> Line
-    ensures { λ r. ⌜ r ≡ holding (lineOf (says (chooseSays a))) ⌝ }
-{
-    text::put(choose_words(text::blank(), a), b'\n')
-}
-
-pub fn count_line(a: CountAnswer) -> Line
-    ensures { λ r. ⌜ r ≡ holding (lineOf (says (countSays a))) ⌝ }
-{
-    text::put(count_words(text::blank(), a), b'\n')
-}
-
-pub fn jitter_line(a: JitterAnswer) -> Line
-    ensures { λ r. ⌜ r ≡ holding (lineOf (says (jitterSays a))) ⌝ }
-{
-    text::put(jitter_words(text::blank(), a), b'\n')
-}
-
 pub fn verdict_line(a: Verdict) -> Line
     ensures { λ r. ⌜ r ≡ holding (lineOf (says (verdictSays a))) ⌝ }
 {
     text::put(verdict_words(text::blank(), a), b'\n')
-}
-
-pub fn write_line(a: WriteAnswer) -> Line
-    ensures { λ r. ⌜ r ≡ holding (lineOf (says (writeSays a))) ⌝ }
-{
-    text::put(write_words(text::blank(), a), b'\n')
-}
-
-// A sheet that was read is told by the number of streams of its set.
-pub fn read_line(a: ReadAnswer, n: usize) -> Line
-    ensures { λ r. ⌜ r ≡ holding (lineOf (readWords a n)) ⌝ }
-{
-    text::put(read_words(text::blank(), a, n), b'\n')
 }

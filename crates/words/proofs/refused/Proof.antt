@@ -19,7 +19,7 @@ one-requires c κs = search needs
 
 returns : tie.Need-returns
 unfolding says
-returns c = rw (← c .before .refusal-number .ensures) (c .one .ensures)
+returns c = rw (c .before .refusal-number .ensures) at (c .one .ensures)
 
 pub refused-spec : {M : Type 1} → statement M
 refused-spec =
