@@ -1,4 +1,4 @@
 // The console: every public function from the keyboard.
 fn main() {
-    console_run::run();
+    console_io::run();
 }

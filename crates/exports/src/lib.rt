@@ -51,10 +51,10 @@ fn answer_number(a: ReadAnswer) -> u64
 pub extern "C" fn sheet_read(bytes: &[u8], k: usize) -> u64
     ensures { λ r. ⌜ r ≡ readTold (readOf (now (bytes .entry))) k ⌝ }
 {
-    let r = sheet::read(bytes);
+    let r = sheet_read::read(bytes);
     let a = r.answer;
     let set = r.set;
-    let s = streams::stream_at(set, k);
+    let s = stream_valid::stream_at(set, k);
     in_halves(answer_number(a), s.deadline as u64)
 }
 
@@ -86,7 +86,7 @@ fn verdict_by(a: ReadAnswer, x: Set) -> Verdict
     ensures { λ r. ⌜ SheetVerdict a x r ⌝ }
 {
     match a {
-        ReadAnswer::Read => load::verdict(x),
+        ReadAnswer::Read => load_check::verdict(x),
         ReadAnswer::Refused(why) => Verdict::Refused(why),
     }
 }
@@ -96,7 +96,7 @@ fn verdict_by(a: ReadAnswer, x: Set) -> Verdict
 pub extern "C" fn sheet_verdict(bytes: &[u8]) -> u64
     ensures { λ r. ⌜ VerdictOfSheet (readOf (now (bytes .entry))) r ⌝ }
 {
-    let r = sheet::read(bytes);
+    let r = sheet_read::read(bytes);
     let a = r.answer;
     let set = r.set;
     let v = verdict_by(a, set);
@@ -140,7 +140,7 @@ fn after(s: State, calls: &[u8]) -> State
 pub extern "C" fn sheet_run(bytes: &[u8], calls: &[u8]) -> u64
     ensures { λ r. ⌜ r ≡ runTold (now (bytes .entry)) (now (calls .entry)) ⌝ }
 {
-    let r = sheet::read(bytes);
+    let r = sheet_read::read(bytes);
     let set = r.set;
     let begun = scheduler::start(set);
     let first = begun.state;

@@ -12,8 +12,8 @@ use lib.Dec.{leb}
 use borrow.Author.Tests.{le-leb, lt-leb, leb-true}
 use Rattle.laws.specs.Bits.{zeros}
 use Rattle.laws.proofs.Sums.{and-parts, and-no, by-test}
-use Rattle.text.specs.declared.Line.{Line}
-use Rattle.text.specs.Held.{holding}
+use Rattle.line.specs.declared.Line.{Line}
+use Rattle.line.specs.Held.{holding}
 use Rattle.page.specs.Pages.{roomFor, hasRoom, appended, endOf}
 
 module _ (out : List ℕ) (at n : ℕ) where

@@ -6,7 +6,7 @@ use mathlib.Core.List.{List}
 use lib.ListN.{length}
 use lib.Seq.{paste}
 use lib.Dec.{leb}
-use Rattle.text.specs.declared.Line.{Line}
+use Rattle.line.specs.declared.Line.{Line}
 
 -- there is room for n bytes behind the first `at`
 unfoldable pub roomFor : List ℕ → ℕ → ℕ → Bool

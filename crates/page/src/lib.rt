@@ -6,7 +6,7 @@ ghost use lib.Dec.{leb};
 ghost use mathlib.Core.Bool.{cond};
 ghost use lib.Seq.{paste};
 ghost use Rattle.page.specs.Pages.{appended, endOf, roomFor};
-use text::Line;
+use line::Line;
 
 // The first n bytes of src, in dst from `to` on.
 fn copy(src: &[u8], dst: &mut [u8], to: usize, n: usize)

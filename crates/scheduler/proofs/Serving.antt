@@ -19,11 +19,11 @@ use Rattle.rules.specs.declared.UnitAnswer.{UnitAnswer}
 use Rattle.rules.specs.declared.UnitAnswer.the-variants.{Ran, Finished, Cut, Idle, Refused as UnitRefused}
 use Rattle.rules.specs.States.{noMessage, taskOf, costOf, lastClock, wellFormed}
 use Rattle.rules.specs.Steps.{messageAt, placeOf, ticked, stayed, departed, laxityOf, answered, servedOf, emptyUnit, unitOf}
-use Rattle.states.proofs.WellFormed.{well-formed, sound, unused-zero, stands, message-stream}
-use Rattle.choosing.specs.declared.Found.{Found}
-use Rattle.choosing.specs.declared.Found.the-variants.{IllFormed as NotFormed, Nothing as Nowhere, At}
-use Rattle.choosing.specs.Found.{foundOf}
-use Rattle.choosing.proofs.Looking.{serves, place-count, place-lt}
+use Rattle.state_formed.proofs.WellFormed.{well-formed, sound, unused-zero, stands, message-stream}
+use Rattle.state_choosing.specs.declared.Found.{Found}
+use Rattle.state_choosing.specs.declared.Found.the-variants.{IllFormed as NotFormed, Nothing as Nowhere, At}
+use Rattle.state_choosing.specs.Found.{foundOf}
+use Rattle.state_choosing.proofs.Looking.{serves, place-count, place-lt}
 use Rattle.scheduler.specs.declared.Work.{Work}
 use Rattle.scheduler.specs.declared.Work.the-variants.{Refused as Refuse, Idle as Rest, Serve}
 use Rattle.scheduler.specs.Serving.{workOf, servedAnswer}

@@ -16,8 +16,8 @@ use Rattle.rules.specs.Streams.{streamAt, noStream}
 use Rattle.rules.specs.States.{wellFormed}
 use Rattle.rules.specs.Steps.{added, postRefused, postOf, messageAt, chooseOf}
 use Rattle.rules.proofs.Valid.{valid-set}
-use Rattle.states.proofs.WellFormed.{blank, well-formed, stream-valid}
-use Rattle.choosing.proofs.Looking.{Serves, Rests}
+use Rattle.state_formed.proofs.WellFormed.{blank, well-formed, stream-valid}
+use Rattle.state_choosing.proofs.Looking.{Serves, Rests}
 
 -- ---- post
 

@@ -3,8 +3,8 @@
 use Prim.Native.Nat.{ℕ}
 use mathlib.Core.Bool.{Bool, cond}
 use lib.Dec.{ltb}
-use Rattle.choosing.specs.declared.Found.{Found}
-use Rattle.choosing.specs.declared.Found.the-variants.{IllFormed as NotFormed, Nothing, At}
+use Rattle.state_choosing.specs.declared.Found.{Found}
+use Rattle.state_choosing.specs.declared.Found.the-variants.{IllFormed as NotFormed, Nothing, At}
 use Rattle.rules.specs.declared.Message.{Message}
 use Rattle.rules.specs.declared.Refusal.the-variants.{LastClock, NothingPending, IllFormed}
 use Rattle.rules.specs.declared.UnitAnswer.{UnitAnswer}

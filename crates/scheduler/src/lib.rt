@@ -2,7 +2,6 @@
 ghost use mathlib.Core.Path.{_≡_};
 ghost use Rattle.rules.specs.Steps.{fresh, startOf, postOf, chooseOf, laxityOf, unitOf};
 ghost use Rattle.scheduler.specs.Serving.{workOf, servedAnswer};
-use choosing::Found;
 use rules::ChooseAnswer;
 use rules::Message;
 use rules::PostAnswer;
@@ -14,13 +13,14 @@ use rules::StartResult;
 use rules::State;
 use rules::UnitAnswer;
 use rules::UnitResult;
+use state_choosing::Found;
 
 // ---- start
 
 fn fresh_state(x: Set) -> State
     ensures { λ r. ⌜ r ≡ fresh x ⌝ }
 {
-    let ms = [states::no_message(); 64];
+    let ms = [state_formed::no_message(); 64];
     State {
         set: x,
         clock: 0,
@@ -33,7 +33,7 @@ fn fresh_state(x: Set) -> State
 pub fn start(x: Set) -> StartResult
     ensures { λ r. ⌜ r ≡ startOf x ⌝ }
 {
-    if streams::is_valid(x) {
+    if stream_valid::is_valid(x) {
         let s = fresh_state(x);
         let a = StartAnswer::Started;
         return StartResult {
@@ -41,7 +41,7 @@ pub fn start(x: Set) -> StartResult
             state: s,
         };
     }
-    let s = fresh_state(streams::empty_set());
+    let s = fresh_state(stream_valid::empty_set());
     let a = StartAnswer::Refused(Refusal::OutOfRule);
     StartResult {
         answer: a,
@@ -55,7 +55,7 @@ pub fn start(x: Set) -> StartResult
 pub fn post(s: State, k: usize) -> PostResult
     ensures { λ r. ⌜ r ≡ postOf s k ⌝ }
 {
-    let sound = states::well_formed(s);
+    let sound = state_formed::well_formed(s);
     let mut next = s;
     let mut a = PostAnswer::Refused(Refusal::IllFormed);
     if sound {
@@ -89,7 +89,7 @@ pub fn post(s: State, k: usize) -> PostResult
 pub fn choose(s: State) -> ChooseAnswer
     ensures { λ r. ⌜ r ≡ chooseOf s ⌝ }
 {
-    let found = choosing::look(s);
+    let found = state_choosing::look(s);
     match found {
         Found::IllFormed => ChooseAnswer::Refused(Refusal::IllFormed),
         Found::Nothing => ChooseAnswer::Nothing,
@@ -159,7 +159,7 @@ fn served(task: usize, m: Message, now: u32, done: bool, spent: bool) -> UnitAns
 pub fn unit(s: State, done: bool) -> UnitResult
     ensures { λ r. ⌜ r ≡ unitOf s done ⌝ }
 {
-    let found = choosing::look(s);
+    let found = state_choosing::look(s);
     let mut next = s;
     let mut a = UnitAnswer::Idle;
     let what = decide(found, next.clock, done);
@@ -183,7 +183,7 @@ pub fn unit(s: State, done: bool) -> UnitResult
                     next.messages[k] = behind;
                     k = k + 1;
                 }
-                next.messages[end] = states::no_message();
+                next.messages[end] = state_formed::no_message();
                 next.count = end;
             } else {
                 m.used = m.used + 1;

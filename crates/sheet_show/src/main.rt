@@ -1,4 +1,4 @@
 // Prints the file set.bin as a readable text.
 fn main() {
-    text_run::show();
+    text_io::show();
 }

@@ -1,4 +1,4 @@
 // Makes the file set.bin of a readable text from standard input.
 fn main() {
-    text_run::make();
+    text_io::make();
 }

@@ -1,4 +1,4 @@
 // Runs a trace from standard input on the set in set.bin.
 fn main() {
-    trace_run::run();
+    trace_io::run();
 }

@@ -25,8 +25,8 @@ use programs::Program;
 const USAGE: &str = "\
 compare trace BIN CASES SEED    the trace program BIN against the library
 compare console BIN LINES SEED  the console program BIN against the library
-compare many BIN CASES SEED     the batch program BIN against the library, on mixed sheets
-compare damaged BIN CASES SEED  the batch program BIN against the library, on damaged sheets
+compare many BIN CASES SEED     the program BIN of many cases against the library, on mixed sheets
+compare damaged BIN CASES SEED  the program BIN of many cases against the library, on damaged sheets
 compare batch CASES SEED DIR    writes DIR/cases.bin and DIR/expected.txt
 compare ontime CASES SEED       that accepted sets run on time";
 

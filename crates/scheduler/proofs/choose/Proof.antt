@@ -3,7 +3,7 @@ use native.Mathlib.Omega.{arith}
 use borrow.Author.Needs.{needs}
 use Prim.Native.Nat.{_<_}
 use Rattle.laws.proofs.Parts.{sized}
-use Rattle.choosing.proofs.Looking.{Serves, serves, rests, ill, place-lt}
+use Rattle.state_choosing.proofs.Looking.{Serves, serves, rests, ill, place-lt}
 use Rattle.scheduler.proofs.Ways.{choose-12, choose-none, choose-one}
 use Rattle.scheduler.proofs.choose.Statement.{statement}
 use Rattle.scheduler.proofs.choose.Tie as tie

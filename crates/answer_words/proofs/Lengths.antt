@@ -1,0 +1,65 @@
+-- No answer takes more bytes than a line has.
+-- Assumes nothing.
+use Prim.Native.Nat.{ℕ, suc, _+_, _≤_}
+use native.Mathlib.Omega.{arith}
+use mathlib.Core.List.{List, [], _∷_, _++_}
+use lib.ListN.{length, length-append}
+use lib.IntN.{ℤ, pos, negsuc}
+use Rattle.rules.specs.declared.Tuple.{Tuple}
+use Rattle.rules.specs.declared.Tuple.the-variants.{Once, Every}
+use Rattle.rules.specs.declared.ReadAnswer.{ReadAnswer}
+use Rattle.rules.specs.declared.ReadAnswer.the-variants.{Read, Refused}
+use Rattle.rules.specs.Numbers.{Says, number, refused, refused-with-0, started, posted, none, runs, ran, done, cut, idle, gives, tuples, accept, late, overload, read, wrote}
+use Rattle.line.specs.Decimal.{letters, decimalOf, signedOf, spaced}
+use Rattle.line.proofs.Puts.{digits-short}
+use Rattle.answer_words.specs.Words.{tupleWords, says, readWords}
+
+-- a number with its space, behind a word
+one : (w : List ℕ) (n : ℕ) → length (w ++ spaced (decimalOf n)) ≤ length w + 21
+one w n = omega (arith, length-append w (spaced (decimalOf n)), digits-short 20 n)
+
+two : (w : List ℕ) (a b : ℕ) → length (w ++ spaced (decimalOf a) ++ spaced (decimalOf b)) ≤ length w + 42
+two w a b = omega (arith, one (w ++ spaced (decimalOf a)) b, one w a)
+
+sign : (z : ℤ) → length (signedOf z) ≤ 21
+sign (pos n) = omega (arith, digits-short 20 n)
+sign (negsuc n) = omega (arith, digits-short 20 (suc n))
+
+three : (w : List ℕ) (a b : ℕ) (z : ℤ) → length (w ++ spaced (decimalOf a) ++ spaced (decimalOf b) ++ spaced (signedOf z)) ≤ length w + 64
+three w a b z =
+    omega (arith, length-append (w ++ spaced (decimalOf a) ++ spaced (decimalOf b)) (spaced (signedOf z)), two w a b, sign z)
+
+tuple-short : (t : Tuple) → length (tupleWords t) ≤ 47
+tuple-short (Once a) = omega (arith, one (letters "once") a)
+tuple-short (Every z a) = omega (arith, two (letters "every") z a)
+
+pub says-short : (s : Says) → length (says s) ≤ 95
+unfolding says
+says-short (refused n) = omega (arith, one (letters "refused") n)
+says-short (refused-with-0 n) = omega (arith, two (letters "refused") n 0)
+says-short started = omega arith
+says-short (posted k d) = omega (arith, two (letters "posted") k d)
+says-short none = omega arith
+says-short (runs t k) =
+    omega (
+      arith,
+      length-append (letters "task" ++ spaced (decimalOf t)) (letters " stream" ++ spaced (decimalOf k)),
+      one (letters "task") t,
+      one (letters " stream") k,
+    )
+says-short (ran t k) = omega (arith, two (letters "ran") t k)
+says-short (done t k z) = omega (arith, three (letters "done") t k z)
+says-short (cut t k z) = omega (arith, three (letters "cut") t k z)
+says-short idle = omega arith
+says-short (gives n) = omega (arith, digits-short 20 n)
+says-short (tuples a b) =
+    omega (arith, length-append (tupleWords a) (spaced (tupleWords b)), tuple-short a, tuple-short b)
+says-short accept = omega arith
+says-short (late i w) = omega (arith, two (letters "late") i w)
+says-short overload = omega arith
+says-short read = omega arith
+says-short (wrote n) = omega (arith, one (letters "wrote") n)
+
+pub read-short : (a : ReadAnswer) (n : ℕ) → length (readWords a n) ≤ 95
+read-short Read n = omega (arith, one (letters "set") n)
+read-short (Refused why) n = says-short (refused (number why))

@@ -1,0 +1,89 @@
+// What the programs print: a refusal, and the lines of a trace; the words of specs/Words.antt.
+ghost use mathlib.Core.Path.{_≡_};
+ghost use Rattle.rules.specs.Numbers.{number, refused as Refused-with, postSays, unitSays, verdictSays};
+ghost use Rattle.line.specs.Held.{holding, puts};
+ghost use Rattle.answer_words.specs.Words.{says, lineOf, stepLine};
+use line::Line;
+use rules::PostAnswer;
+use rules::Refusal;
+use rules::UnitAnswer;
+use rules::Verdict;
+
+// The number that the cab prints for a refusal.
+pub fn refusal_number(why: Refusal) -> u32
+    ensures { λ r. ⌜ r ≡ number why ⌝ }
+{
+    match why {
+        Refusal::NoStream => 1,
+        Refusal::Full => 2,
+        Refusal::LastClock => 3,
+        Refusal::NothingPending => 4,
+        Refusal::BitsMissing => 5,
+        Refusal::BadVersion => 6,
+        Refusal::OutOfRule => 7,
+        Refusal::LongCycles => 8,
+        Refusal::BadByte => 9,
+        Refusal::Leftover => 10,
+        Refusal::ShortBuffer => 11,
+        Refusal::IllFormed => 12,
+    }
+}
+
+pub fn refused(l: Line, why: Refusal) -> Line
+    ensures { λ r. ⌜ r ≡ puts l (says (Refused-with (number why))) ⌝ }
+{
+    line::one(l, b"refused", refusal_number(why) as u64)
+}
+
+fn post_words(l: Line, a: PostAnswer) -> Line
+    ensures { λ r. ⌜ r ≡ puts l (says (postSays a)) ⌝ }
+{
+    match a {
+        PostAnswer::Posted(k, d) => line::two(l, b"posted", k as u64, d as u64),
+        PostAnswer::Refused(why) => refused(l, why),
+    }
+}
+
+fn unit_words(l: Line, a: UnitAnswer) -> Line
+    ensures { λ r. ⌜ r ≡ puts l (says (unitSays a)) ⌝ }
+{
+    match a {
+        UnitAnswer::Ran(t, k) => line::two(l, b"ran", t as u64, k as u64),
+        UnitAnswer::Finished(t, k, z) => line::signed(line::two(l, b"done", t as u64, k as u64), z),
+        UnitAnswer::Cut(t, k, z) => line::signed(line::two(l, b"cut", t as u64, k as u64), z),
+        UnitAnswer::Idle => line::word(l, b"idle"),
+        UnitAnswer::Refused(why) => refused(l, why),
+    }
+}
+
+fn verdict_words(l: Line, a: Verdict) -> Line
+    ensures { λ r. ⌜ r ≡ puts l (says (verdictSays a)) ⌝ }
+{
+    match a {
+        Verdict::Accept => line::word(l, b"accept"),
+        Verdict::Late(i, w) => line::two(l, b"late", i, w),
+        Verdict::Overload => line::word(l, b"overload"),
+        Verdict::Refused(why) => refused(l, why),
+    }
+}
+
+// A step's line has the clock before the step in front.
+pub fn post_line(clock: u32, a: PostAnswer) -> Line
+    ensures { λ r. ⌜ r ≡ holding (stepLine clock (postSays a)) ⌝ }
+{
+    let front = line::put(line::decimal(line::blank(), clock as u64), b' ');
+    line::put(post_words(front, a), b'\n')
+}
+
+pub fn unit_line(clock: u32, a: UnitAnswer) -> Line
+    ensures { λ r. ⌜ r ≡ holding (stepLine clock (unitSays a)) ⌝ }
+{
+    let front = line::put(line::decimal(line::blank(), clock as u64), b' ');
+    line::put(unit_words(front, a), b'\n')
+}
+
+pub fn verdict_line(a: Verdict) -> Line
+    ensures { λ r. ⌜ r ≡ holding (lineOf (says (verdictSays a))) ⌝ }
+{
+    line::put(verdict_words(line::blank(), a), b'\n')
+}

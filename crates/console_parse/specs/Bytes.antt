@@ -1,0 +1,31 @@
+-- Words and numbers among bytes.
+-- Assumes nothing.
+use Prim.Native.Nat.{ℕ, zero, suc, _+_, _-_, _*_, _%_}
+use Prim.Native.Char.{code}
+use mathlib.Core.Bool.{Bool, true, false, cond, _&&_, _||_}
+use mathlib.Core.List.{List, [], _∷_, _++_}
+use lib.ListN.{length}
+use lib.Dec.{leb, eqb}
+use Rattle.laws.specs.Lists.{within, all}
+use Rattle.line.specs.Decimal.{readOn}
+use Rattle.line.specs.Hex.{isHex}
+
+abbrev pub isDigit : ℕ → Bool
+isDigit b = within (code "0") b (code "9")
+
+-- the word at the front, before the first space, and what is left behind it, from that space on
+unfoldable pub front : List ℕ → List ℕ
+front [] = []
+front (b ∷ l) = cond (eqb b (code " ")) [] (b ∷ front l)
+
+unfoldable pub behind : List ℕ → List ℕ
+behind [] = []
+behind (b ∷ l) = cond (eqb b (code " ")) (b ∷ l) (behind l)
+
+-- "A number is 1 to 10 decimal digits", and in this place at most `most`
+unfoldable pub isNumber : ℕ → List ℕ → Bool
+isNumber most w = within 1 (length w) 10 && (all isDigit w && leb (readOn 0 w) most)
+
+-- "HEX is an even number of lower-case hex digits"
+unfoldable pub isHexText : List ℕ → Bool
+isHexText w = eqb (length w % 2) 0 && all isHex w

@@ -1,0 +1,37 @@
+-- What the private functions find on the way through a line.
+-- Assumes nothing.
+use Prim.Native.Nat.{ℕ, zero, suc, _+_}
+use Prim.Native.Char.{code}
+use mathlib.Core.Bool.{Bool, true, false, cond, _&&_}
+use mathlib.Core.List.{List, [], _∷_, _++_}
+use lib.ListN.{length, set}
+use lib.Dec.{eqb}
+use Rattle.line.specs.Decimal.{readOn}
+use Rattle.console_names.specs.declared.Kind.{Kind}
+use Rattle.console_names.specs.declared.Kind.the-variants.{Unknown}
+use Rattle.console_parse.specs.declared.Order.{Order}
+use Rattle.console_parse.specs.declared.Got.{Got}
+use Rattle.console_parse.specs.declared.Got.the-variants.{Is, Bad}
+use Rattle.console_parse.specs.declared.Next.{Next}
+use Rattle.console_parse.specs.declared.Next.the-variants.{Is as IsTo, Bad as BadNext}
+use Rattle.console_parse.specs.Bytes.{front, behind, isNumber}
+use Rattle.console_parse.specs.Lines.{orderAt}
+
+unfoldable pub gotOf : ℕ → List ℕ → Got
+gotOf most w = cond (isNumber most w) (Is (readOn 0 w)) Bad
+
+-- the number behind the space at `at`, where the line goes on with l from there
+unfoldable pub nextOf : ℕ → ℕ → List ℕ → Next
+nextOf most at [] = BadNext
+nextOf most at (b ∷ l) =
+    cond (eqb b (code " ") && isNumber most (front l)) (IsTo (readOn 0 (front l)) (at + 1 + length (front l))) BadNext
+
+-- the order, where numbers with these limits are still to come, the next for place k, and what was read stands in ns
+unfoldable pub filled : ℕ → Kind → List ℕ → List ℕ → List ℕ → Order
+filled k kind [] [] ns = record { kind = kind; numbers = ns }
+filled k kind [] (b ∷ l) ns = orderAt Unknown []
+filled k kind (m ∷ ms) [] ns = orderAt Unknown []
+filled k kind (m ∷ ms) (b ∷ l) ns =
+    cond (eqb b (code " ") && isNumber m (front l))
+    (filled (suc k) kind ms (behind l) (set ns k (readOn 0 (front l))))
+    (orderAt Unknown [])

@@ -1,0 +1,118 @@
+// The lines of the answers that only the console prints; the words of words/specs/Words.antt.
+ghost use mathlib.Core.Path.{_≡_};
+ghost use Rattle.rules.specs.Numbers.{startSays, chooseSays, countSays, jitterSays, writeSays};
+ghost use Rattle.line.specs.Held.{holding, puts};
+ghost use Rattle.answer_words.specs.Words.{tupleWords, says, readWords, lineOf};
+use line::Line;
+use rules::ChooseAnswer;
+use rules::CountAnswer;
+use rules::JitterAnswer;
+use rules::ReadAnswer;
+use rules::StartAnswer;
+use rules::Tuple;
+use rules::WriteAnswer;
+
+fn start_words(l: Line, a: StartAnswer) -> Line
+    ensures { λ r. ⌜ r ≡ puts l (says (startSays a)) ⌝ }
+{
+    match a {
+        StartAnswer::Started => line::word(l, b"started"),
+        StartAnswer::Refused(why) => answer_words::refused(l, why),
+    }
+}
+
+fn choose_words(l: Line, a: ChooseAnswer) -> Line
+    ensures { λ r. ⌜ r ≡ puts l (says (chooseSays a)) ⌝ }
+{
+    match a {
+        ChooseAnswer::Nothing => line::word(l, b"none"),
+        ChooseAnswer::Runs(t, k) => line::one(
+            line::one(l, b"task", t as u64),
+            b" stream",
+            k as u64,
+        ),
+        ChooseAnswer::Refused(why) => answer_words::refused(l, why),
+    }
+}
+
+fn count_words(l: Line, a: CountAnswer) -> Line
+    ensures { λ r. ⌜ r ≡ puts l (says (countSays a)) ⌝ }
+{
+    match a {
+        CountAnswer::Number(n) => line::decimal(l, n),
+        CountAnswer::Refused(why) => line::number(answer_words::refused(l, why), 0),
+    }
+}
+
+fn tuple_words(l: Line, t: Tuple) -> Line
+    ensures { λ r. ⌜ r ≡ puts l (tupleWords t) ⌝ }
+{
+    match t {
+        Tuple::Once(a) => line::one(l, b"once", a as u64),
+        Tuple::Every(z, a) => line::two(l, b"every", z as u64, a as u64),
+    }
+}
+
+fn jitter_words(l: Line, a: JitterAnswer) -> Line
+    ensures { λ r. ⌜ r ≡ puts l (says (jitterSays a)) ⌝ }
+{
+    match a {
+        JitterAnswer::Tuples(t, u) => tuple_words(line::put(tuple_words(l, t), b' '), u),
+        JitterAnswer::Refused(why) => answer_words::refused(l, why),
+    }
+}
+
+fn write_words(l: Line, a: WriteAnswer) -> Line
+    ensures { λ r. ⌜ r ≡ puts l (says (writeSays a)) ⌝ }
+{
+    match a {
+        WriteAnswer::Wrote(n) => line::one(l, b"wrote", n as u64),
+        WriteAnswer::Refused(why) => answer_words::refused(l, why),
+    }
+}
+
+fn read_words(l: Line, a: ReadAnswer, n: usize) -> Line
+    ensures { λ r. ⌜ r ≡ puts l (readWords a n) ⌝ }
+{
+    match a {
+        ReadAnswer::Read => line::one(l, b"set", n as u64),
+        ReadAnswer::Refused(why) => answer_words::refused(l, why),
+    }
+}
+
+pub fn start_line(a: StartAnswer) -> Line
+    ensures { λ r. ⌜ r ≡ holding (lineOf (says (startSays a))) ⌝ }
+{
+    line::put(start_words(line::blank(), a), b'\n')
+}
+
+pub fn choose_line(a: ChooseAnswer) -> Line
+    ensures { λ r. ⌜ r ≡ holding (lineOf (says (chooseSays a))) ⌝ }
+{
+    line::put(choose_words(line::blank(), a), b'\n')
+}
+
+pub fn count_line(a: CountAnswer) -> Line
+    ensures { λ r. ⌜ r ≡ holding (lineOf (says (countSays a))) ⌝ }
+{
+    line::put(count_words(line::blank(), a), b'\n')
+}
+
+pub fn jitter_line(a: JitterAnswer) -> Line
+    ensures { λ r. ⌜ r ≡ holding (lineOf (says (jitterSays a))) ⌝ }
+{
+    line::put(jitter_words(line::blank(), a), b'\n')
+}
+
+pub fn write_line(a: WriteAnswer) -> Line
+    ensures { λ r. ⌜ r ≡ holding (lineOf (says (writeSays a))) ⌝ }
+{
+    line::put(write_words(line::blank(), a), b'\n')
+}
+
+// A sheet that was read is told by the number of streams of its set.
+pub fn read_line(a: ReadAnswer, n: usize) -> Line
+    ensures { λ r. ⌜ r ≡ holding (lineOf (readWords a n)) ⌝ }
+{
+    line::put(read_words(line::blank(), a, n), b'\n')
+}

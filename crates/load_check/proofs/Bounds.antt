@@ -1,0 +1,58 @@
+-- How large the numbers of a valid set are: blocking, and what rows add.
+-- Assumes nothing.
+use Prim.Native.Nat.{ℕ, _+_, _-_, _*_, _/_, _≤_}
+use native.Mathlib.Nat.{div-le-self, le-trans, mul-le-mul}
+use native.Mathlib.Omega.{arith}
+use mathlib.Core.Path.{_≡_}
+use mathlib.Core.List.{List}
+use mathlib.Core.Bool.{Bool, true, false, cond}
+use lib.Dec.{leb, eqb, lit≤}
+use lib.ListN.{getD}
+use Rattle.laws.specs.Lists.{below, any, top, All}
+use Rattle.laws.proofs.Sums.{all-map, all-each, all-below, length-below, sum-le, top-le, cond-le}
+use Rattle.rules.specs.declared.Stream.{Stream}
+use Rattle.rules.specs.Load.{urgent, held, blocking}
+use Rattle.rules.proofs.Valid.{ValidStream}
+use Rattle.load_check.specs.Dues.{rowDue, dueAt, duesBelow, Sound}
+use Rattle.load_check.specs.Held.{blockingsOf}
+
+-- ---- blocking
+
+held-fits : (t i : ℕ) (s : Stream) → ValidStream s → held t i s ≤ 65535
+held-fits t i s v =
+    cond-le (eqb (s .task) t) (cond (leb (s .deadline) i) 0 (s .cost - 1)) 65535 (other (leb (s .deadline) i) (s .cost - 1) (omega (arith, v .cost .high)))
+  where
+    other : (b : Bool) (n : ℕ) → n ≤ 65535 → cond b 0 n ≤ 65535
+    other true n h = omega arith
+    other false n h = h
+
+pub blocking-fits : (ss : List Stream) (i t : ℕ) → All ValidStream ss → blocking ss i t ≤ 65535
+unfolding blocking
+blocking-fits ss i t v =
+    cond-le (any (urgent t i) ss) (top (held t i) ss) 65535 (top-le (held t i) 65535 ss (all-map ValidStream (λ s. held t i s ≤ 65535) ss (held-fits t i) v))
+
+pub blockings-fit : (ss : List Stream) (i n : ℕ) → n ≡ blockingsOf ss i → All ValidStream ss → n ≤ 1048560
+unfolding blockingsOf
+blockings-fit ss i n e v =
+    rw e
+    (le-trans (sum-le (blocking ss i) 65535 (below 16) (all-each (λ t. blocking ss i t ≤ 65535) (below 16) (λ t. blocking-fits ss i t v))) (lit≤ tt))
+
+-- ---- rows
+
+pub row-fits : (c f z i : ℕ) → c ≤ 65535 → i ≤ 4294967295 → rowDue c f z i ≤ 281470681743360
+unfolding rowDue
+row-fits c f z i h k =
+    cond-le (leb f i) (c * ((i - f) / z + 1)) 281470681743360
+    (le-trans (mul-le-mul {n₂ = 65535} {m₂ = 4294967296} h (omega (arith, div-le-self (i - f) z))) (lit≤ tt))
+
+pub dues-fit : (costs firsts cycles : List ℕ) (n i : ℕ) → Sound costs cycles n → i ≤ 4294967295 → duesBelow costs firsts cycles n i ≤ 18014123631575040
+unfolding duesBelow
+dues-fit costs firsts cycles n i s k =
+    omega (
+      arith,
+      s .room,
+      length-below n,
+      sum-le (dueAt costs firsts cycles i) 281470681743360 (below n)
+          (all-below (λ j. dueAt costs firsts cycles i j ≤ 281470681743360) n
+          (λ j h. row-fits (getD costs j 0) (getD firsts j 0) (getD cycles j 0) i (s .cost j h) k)),
+    )

@@ -1,0 +1,97 @@
+// The blocking of each task, and up to where it stays the same.
+ghost use mathlib.Core.Path.{_≡_};
+ghost use Prim.Native.Nat.{_+_, _≤_, _<_};
+ghost use Rattle.rules.proofs.Valid.{ValidSet};
+ghost use Rattle.rules.specs.Streams.{streamsOf};
+ghost use Rattle.rules.specs.Load.{urgent, held, blocking};
+ghost use Rattle.load_check.specs.Held.{blockingsOf, Nearer, NextDeadline};
+use crate::larger;
+use crate::wide;
+use rules::Set;
+use rules::Stream;
+
+fn is_urgent(s: Stream, i: u32, t: usize) -> bool
+    ensures { λ r. ⌜ r ≡ urgent t i s ⌝ }
+{
+    (s.task == t) & (s.deadline <= i)
+}
+
+fn held_by(s: Stream, i: u32, t: usize) -> u32
+    ensures { λ r. ⌜ r ≡ held t i s ⌝ }
+{
+    if s.task == t {
+        if s.deadline <= i {
+            0
+        } else {
+            stream_valid::less(s.cost, 1)
+        }
+    } else {
+        0
+    }
+}
+
+fn task_blocking(x: Set, i: u32, t: usize) -> u32
+    requires { ⌜ ValidSet x ⌝ }
+    ensures { λ r. ⌜ r ≡ blocking (streamsOf x) i t ⌝ }
+{
+    let n = x.count;
+    let mut any = false;
+    let mut most: u32 = 0;
+    let mut k: usize = 0;
+    while k < n {
+        let s = x.streams[k];
+        any = any | is_urgent(s, i, t);
+        most = larger(most, held_by(s, i, t));
+        k = k + 1;
+    }
+    if any { most } else { 0 }
+}
+
+// The blocking of one task more.
+fn with_task(acc: u64, units: u32) -> u64
+    requires { ⌜ acc ≤ 1048560 ⌝ }
+    ensures { λ r. ⌜ r ≡ acc + units ⌝ }
+{
+    acc + wide(units)
+}
+
+// The blocking of all tasks at a length.
+pub(crate) fn blockings(x: Set, i: u32) -> u64
+    requires { ⌜ ValidSet x ⌝ }
+    ensures { λ r. ⌜ r ≡ blockingsOf (streamsOf x) i ⌝ }
+{
+    let mut acc: u64 = 0;
+    let mut t: usize = 0;
+    while t < 16 {
+        acc = with_task(acc, task_blocking(x, i, t));
+        t = t + 1;
+    }
+    acc
+}
+
+// The nearest so far, or the deadline d where it lies between.
+fn nearer(i: u32, d: u32, nearest: u32) -> u32
+    ensures { λ r. ⌜ Nearer i d nearest r ⌝ }
+{
+    if i < d {
+        if d < nearest { d } else { nearest }
+    } else {
+        nearest
+    }
+}
+
+// The first deadline after i, or the end: up to there the blocking is that of i.
+pub(crate) fn next_deadline(x: Set, i: u32, end: u32) -> u32
+    requires { ⌜ (ValidSet x) × (i < end) ⌝ }
+    ensures { λ r. ⌜ NextDeadline (streamsOf x) i end r ⌝ }
+{
+    let n = x.count;
+    let mut nearest = end;
+    let mut k: usize = 0;
+    while k < n {
+        let s = x.streams[k];
+        nearest = nearer(i, s.deadline, nearest);
+        k = k + 1;
+    }
+    nearest
+}

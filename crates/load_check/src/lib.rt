@@ -1,0 +1,68 @@
+// The load check: demand and the verdict of a set, which speaks of every length.
+mod dues; // dues.rt: a set's tuples laid out in rows, and what is due by a length
+mod held; // held.rt: the blocking of each task
+mod lengths; // lengths.rt: the testing of a range of lengths
+
+ghost use mathlib.Core.Path.{_≡_};
+ghost use Prim.Native.Nat.{max};
+ghost use Rattle.rules.specs.Load.{demandOf, VerdictOf};
+use load_cycles::Opening;
+use rules::CountAnswer;
+use rules::Refusal;
+use rules::Set;
+use rules::Verdict;
+
+// The tuples of a set as rows: row k is due first at the length firsts[k], and again each cycles[k], with costs[k] each time.
+pub(crate) struct Rows {
+    pub count: usize,
+    pub costs: [u32; 64],
+    pub firsts: [u32; 64],
+    pub cycles: [u32; 64],
+}
+
+// What testing a row of lengths finds: no late one, or the first late one and its demand.
+pub(crate) enum Tested {
+    Clear,
+    Late(u64, u64),
+}
+
+fn wide(n: u32) -> u64
+    ensures { λ r. ⌜ r ≡ n ⌝ }
+{
+    n as u64
+}
+
+fn larger(a: u32, b: u32) -> u32
+    ensures { λ r. ⌜ r ≡ max a b ⌝ }
+{
+    if a < b { b } else { a }
+}
+
+// The demand of a set at a length, 7 for an invalid set.
+pub fn demand(x: Set, i: u32) -> CountAnswer
+    ensures { λ r. ⌜ r ≡ demandOf x i ⌝ }
+{
+    if stream_valid::is_valid(x) {
+        let t = dues::rows_of(x);
+        CountAnswer::Number(dues::rows_due(t, i) + held::blockings(x, i))
+    } else {
+        CountAnswer::Refused(Refusal::OutOfRule)
+    }
+}
+
+// The verdict of a set: accept, late with the least late length and its demand, overload, 8 or 7.
+pub fn verdict(x: Set) -> Verdict
+    ensures { λ r. ⌜ VerdictOf x r ⌝ }
+{
+    let begun = load_cycles::begin(x);
+    match begun {
+        Opening::Stops(v) => v,
+        Opening::Until(end) => {
+            let found = lengths::test_range(x, 1, end);
+            match found {
+                Tested::Clear => Verdict::Accept,
+                Tested::Late(i, w) => Verdict::Late(i, w),
+            }
+        }
+    }
+}

@@ -1,0 +1,183 @@
+-- Start gives a well formed state, post and unit keep one, so every state that calls from a start can leave is well formed; and 12 is given exactly for one that is not.
+-- Assumes nothing.
+use Prim.Native.Nat.{ℕ, suc, _+_, _-_, _≤_, _<_}
+use mathlib.Core.Bool.{Bool, true}
+use mathlib.Core.List.{List, [], _∷_, _++_}
+use mathlib.Core.Logic.{_≢_, ⊎-elim}
+use mathlib.Core.Path.{_≡_, refl, sym, ap, subst, _∙_}
+use native.Mathlib.Numerals.{add-one}
+use native.Mathlib.Omega.{arith}
+use lib.ListN.{length, take, drop, set, length-set}
+use lib.Seq.{split-at, drop-set-lt}
+use Rattle.laws.specs.Lists.{all, remove}
+use Rattle.laws.proofs.Parts.{length-remove}
+use Rattle.laws.proofs.Gates.{eq-or-ne, Each, Placed-at, mem-at, all-drop, all-last, drop-remove}
+use Rattle.rules.specs.declared.Message.{Message}
+use Rattle.rules.specs.declared.State.{State}
+use Rattle.rules.specs.declared.PostResult.{PostResult}
+use Rattle.rules.specs.declared.UnitResult.{UnitResult}
+use Rattle.rules.specs.Streams.{Placed}
+use Rattle.rules.specs.States.{noMessage, pending, taskOf, costOf, messageUnused, lastClock, Housed}
+use Rattle.rules.specs.Steps.{newMessage, added, postOf, placeOf, messageAt, ticked, gained, stayed, departed, unitOf}
+use Rattle.state_formed.proofs.Standing.{Standing}
+use Rattle.state_formed.proofs.WellFormed.{WellFormed, well-formed, well-formed-back}
+use Rattle.state_choosing.specs.Words.{at, Served}
+use Rattle.state_choosing.proofs.Choice.{choice, place-in}
+use Rattle.promise_steps.specs.Formed.{Formed, PostKeeps, UnitKeeps}
+use Rattle.promise_steps.proofs.Valid.{stream-valid}
+use Rattle.promise_steps.proofs.Cases.{PostCase, refuses, accepts, post-case, Serving, chosenOf, UnitCase, stops, idles, finishes, cuts, runs, unit-case, pending-added, message-is, pending-stayed, pending-departed}
+use Rattle.promise_steps.proofs.Rows.{Rows, rows, rows-ok, rows-last, rows-later, rows-gain, rows-leave, row-at}
+use Rattle.promise_steps.proofs.Started.{Once, once, once-ok, once-last, once-gain, once-leave}
+
+module _ (s : State) (f : Formed s) where
+  w : WellFormed s
+  w = well-formed s (f .formed)
+
+  housed-as : (n : State) → n .set ≡ s .set → length (n .messages) ≡ 64 → Housed n
+  housed-as n e h = record { set = subst Placed (sym e) (f .housed .set); places = h }
+
+  -- ---- a post
+
+  new-stands : (k : ℕ) → k < s .set .count → (c : ℕ) → c ≤ s .clock → Standing (s .set) (s .clock) c (newMessage s k)
+  new-stands k h c q = record {
+    stream = h;
+    used = stream-valid (s .set) (f .housed .set) (w .set) k h .cost .low;
+    early = omega arith;
+    late = omega arith;
+    order = omega arith;
+  }
+
+  post-formed : (k : ℕ) → k < s .set .count → s .count < 64 → Formed (added s (newMessage s k))
+  post-formed k h room = record {
+    formed = well-formed-back (added s (newMessage s k)) (record {
+      set = w .set;
+      few = omega arith;
+      clock = w .clock;
+      each = rw (pending-added s (f .housed .places) (newMessage s k) room) (rows-ok (s .set) (s .clock) (pending s ++ (newMessage s k ∷ []))
+          (rows-last (s .set) (s .clock) 0 (pending s) (newMessage s k) (omega arith) (new-stands k h) (rows (s .set) (s .clock) (pending s) (w .each))));
+      once = rw (pending-added s (f .housed .places) (newMessage s k) room) (once-ok (s .set) (pending s ++ (newMessage s k ∷ []))
+          (once-last (s .set) (pending s) (newMessage s k) refl (once (s .set) (pending s) (w .once))));
+      unused = rw (add-one, drop-set-lt (suc (s .count)) (s .messages) (s .count) (newMessage s k) (omega arith)) (all-drop messageUnused (s .count) (s .messages) (w .unused));
+    });
+    housed = housed-as (added s (newMessage s k)) refl (length-set (s .messages) (s .count) (newMessage s k) ∙ f .housed .places);
+  }
+
+  -- ---- an idle unit
+
+  idle-formed : s .clock < lastClock → Formed (ticked s)
+  idle-formed early = record {
+    formed = well-formed-back (ticked s) (record {
+      set = w .set;
+      few = w .few;
+      clock = omega arith;
+      each = rows-ok (s .set) (s .clock + 1) (pending s) (rows-later (s .set) (s .clock) 0 (pending s) (rows (s .set) (s .clock) (pending s) (w .each)));
+      once = w .once;
+      unused = w .unused;
+    });
+    housed = housed-as (ticked s) refl (f .housed .places);
+  }
+
+  -- ---- a unit that serves the chosen message
+
+  module _ (v : Serving s) where
+    words : Served (s .set) (pending s) (placeOf s)
+    words = choice s (f .formed) (f .housed .places) (f .housed .set .sixteen) (v .some)
+
+    low : placeOf s < s .count
+    low = place-in s (f .formed) (f .housed .places) (f .housed .set .sixteen) (v .some)
+
+    x : Message
+    x = at (pending s) (placeOf s)
+
+    front : List Message
+    front = take (placeOf s) (pending s)
+
+    rear : List Message
+    rear = drop (suc (placeOf s)) (pending s)
+
+    split : pending s ≡ front ++ (x ∷ rear)
+    unfolding front rear x
+    split = split-at (pending s) (placeOf s) noMessage (words .inside)
+
+    rows-now : Rows (s .set) (s .clock + 1) 0 (front ++ (x ∷ rear))
+    rows-now = subst (λ (l : List Message). Rows (s .set) (s .clock + 1) 0 l) split (rows-later (s .set) (s .clock) 0 (pending s) (rows (s .set) (s .clock) (pending s) (w .each)))
+
+    once-now : Once (s .set) (front ++ (x ∷ rear))
+    once-now = subst (λ (l : List Message). Once (s .set) l) split (once (s .set) (pending s) (w .once))
+
+    -- where the chosen message has not started, no message of its task has
+    none-started : x .used ≡ 0 → Each (λ y. taskOf (s .set) y ≡ taskOf (s .set) x → y .used ≡ 0) (front ++ (x ∷ rear))
+    unfolding x
+    none-started e = subst (λ (l : List Message). Each (λ y. taskOf (s .set) y ≡ taskOf (s .set) x → y .used ≡ 0) l) split (λ y i q. unstarted y q (mem-at (pending s) noMessage i))
+      where
+        unstarted : (y : Message) → taskOf (s .set) y ≡ taskOf (s .set) x → Placed-at (pending s) noMessage y → y .used ≡ 0
+        unstarted y q p = ⊎-elim
+            (λ (z : y .used ≡ 0). z)
+            (λ (z : y .used ≢ 0). absurd (omega (
+              arith,
+              words .started (p .place) (p .inside) (ap (taskOf (s .set)) (p .there) ∙ q) (omega (arith, ap (λ (m : Message). m .used) (p .there))),
+            )))
+            (eq-or-ne (y .used) 0)
+
+    stays-short : chosenOf s .used + 1 ≢ costOf (s .set) (chosenOf s) → x .used + 1 < costOf (s .set) x
+    unfolding x
+    stays-short short =
+        let q : x .used + 1 ≢ costOf (s .set) x = λ e. short (cc (message-is s (f .housed .places) (placeOf s) low, e)) in
+        omega (arith, row-at (s .set) (s .clock + 1) 0 front x rear rows-now .1)
+
+    stay-formed : chosenOf s .used + 1 ≢ costOf (s .set) (chosenOf s) → Formed (stayed s (placeOf s))
+    unfolding front rear x
+    stay-formed short = record {
+      formed = well-formed-back (stayed s (placeOf s)) (record {
+        set = w .set;
+        few = w .few;
+        clock = omega (arith, v .early);
+        each = rw (pending-stayed s (f .housed .places) (placeOf s) (w .few) low) (rows-ok (s .set) (s .clock + 1) (front ++ (gained x ∷ rear))
+            (rows-gain (s .set) (s .clock + 1) 0 front x rear (stays-short short) rows-now));
+        once = rw (pending-stayed s (f .housed .places) (placeOf s) (w .few) low) (once-ok (s .set) (front ++ (gained x ∷ rear)) (once-gain (s .set) front x rear none-started once-now));
+        unused = rw (drop-set-lt (s .count) (s .messages) (placeOf s) (gained (messageAt s (placeOf s))) low) (w .unused);
+      });
+      housed = housed-as (stayed s (placeOf s)) refl (length-set (s .messages) (placeOf s) (gained (messageAt s (placeOf s))) ∙ f .housed .places);
+    }
+
+    unused-left : all messageUnused (drop (s .count - 1) (remove noMessage (placeOf s) (s .messages))) ≡ true
+    unfolding messageUnused
+    unused-left =
+        ap (all messageUnused) (drop-remove noMessage (placeOf s) (s .count - 1) (s .messages) (omega (arith, low)) (omega (arith, low, w .few, f .housed .places)))
+        ∙ ap (λ (n : ℕ). all messageUnused (drop n (s .messages) ++ (noMessage ∷ []))) (let e : suc (s .count - 1) ≡ s .count = omega (arith, low) in e)
+        ∙ all-last messageUnused (drop (s .count) (s .messages)) noMessage (w .unused) refl
+
+    leave-formed : Formed (departed s (placeOf s))
+    unfolding front rear
+    leave-formed = record {
+      formed = well-formed-back (departed s (placeOf s)) (record {
+        set = w .set;
+        few = omega (arith, w .few);
+        clock = omega (arith, v .early);
+        each = rw (pending-departed s (f .housed .places) (placeOf s) (w .few) low) (rows-ok (s .set) (s .clock + 1) (front ++ rear) (rows-leave (s .set) (s .clock + 1) 0 front x rear rows-now));
+        once = rw (pending-departed s (f .housed .places) (placeOf s) (w .few) low) (once-ok (s .set) (front ++ rear) (once-leave (s .set) front x rear once-now));
+        unused = unused-left;
+      });
+      housed = housed-as (departed s (placeOf s)) refl (length-remove noMessage (placeOf s) (s .messages) ∙ f .housed .places);
+    }
+
+-- ---- the steps
+
+post-by : (s : State) (k : ℕ) → Formed s → (p : PostResult) → PostCase s k p → Formed (p .state)
+post-by s k f p (refuses why) = f
+post-by s k f p (accepts h room) = post-formed s f k h room
+
+pub post-keeps : PostKeeps
+unfolding PostKeeps
+post-keeps s k f = post-by s k f (postOf s k) (post-case s k)
+
+unit-by : (s : State) (done : Bool) → Formed s → (u : UnitResult) → UnitCase s done u → Formed (u .state)
+unit-by s done f u (stops why) = f
+unit-by s done f u (idles e early) = idle-formed s f early
+unit-by s done f u (finishes v) = leave-formed s f v
+unit-by s done f u (cuts v e) = leave-formed s f v
+unit-by s done f u (runs v e) = stay-formed s f v e
+
+pub unit-keeps : UnitKeeps
+unfolding UnitKeeps
+unit-keeps s done f = unit-by s done f (unitOf s done) (unit-case s done)

@@ -1,0 +1,75 @@
+-- Every state that calls from a start can leave is well formed. Assumes nothing.
+use Prim.Native.Nat.{ℕ, zero, suc}
+use mathlib.Core.Bool.{true}
+use mathlib.Core.List.{List, [], _∷_}
+use mathlib.Core.Path.{_≡_, refl, sym, subst}
+use native.Mathlib.Omega.{arith}
+use lib.ListN.{replicate}
+use Rattle.laws.specs.Lists.{All, all, sum, count, scan}
+use Rattle.laws.proofs.Sums.{by-test}
+use Rattle.rules.specs.declared.Set.{Set}
+use Rattle.rules.specs.declared.State.{State}
+use Rattle.rules.specs.declared.PostAnswer.{PostAnswer}
+use Rattle.rules.specs.declared.PostAnswer.the-variants.{Posted, Refused as PostRefused}
+use Rattle.rules.specs.declared.UnitAnswer.{UnitAnswer}
+use Rattle.rules.specs.declared.UnitAnswer.the-variants.{Ran, Finished, Cut, Idle, Refused as UnitRefused}
+use Rattle.rules.specs.Streams.{Placed, FourTuples, noStream, emptySet, tupleUnused, streamUnused, valid}
+use Rattle.rules.specs.States.{messagesOk, startedOnce, messageUnused}
+use Rattle.rules.specs.Steps.{fresh, startOf, postOf, unitOf}
+use Rattle.rules.specs.Runs.{Call, posts, units, Run, afterPost, afterUnit, stepOf, begin, runFrom, runOf}
+use Rattle.state_formed.proofs.WellFormed.{well-formed-back}
+use Rattle.promise_steps.specs.Formed.{Formed, StartGives, PostKeeps, UnitKeeps, RunKeeps}
+use Rattle.promise_steps.proofs.Kept.{post-keeps, unit-keeps}
+
+-- ---- the start
+
+fresh-formed : (S : Set) → Placed S → valid S ≡ true → Formed (fresh S)
+unfolding messagesOk scan startedOnce messageUnused all count sum
+fresh-formed S placed ok = record {
+  formed = well-formed-back (fresh S) (record { set = ok; few = omega arith; clock = omega arith; each = refl; once = refl; unused = refl });
+  housed = record { set = placed; places = refl };
+}
+
+pub all-same : {A : Type 0} (P : A → Type 0) (a : A) → P a → (n : ℕ) → All P (replicate n a)
+all-same P a p zero = tt
+all-same P a p (suc n) = (p, all-same P a p n)
+
+empty-placed : Placed emptySet
+empty-placed = record { sixteen = refl; four = all-same FourTuples noStream refl 16 }
+
+empty-valid : valid emptySet ≡ true
+unfolding valid all streamUnused tupleUnused
+empty-valid = refl
+
+pub start-gives : StartGives
+unfolding StartGives startOf
+start-gives S placed = by-test (valid S)
+    (λ e. rw e (fresh-formed S placed e))
+    (λ e. rw e (fresh-formed emptySet empty-placed empty-valid))
+
+-- ---- the calls
+
+post-state : (r : Run) (k : ℕ) (s : State) (a : PostAnswer) → afterPost r k s a .state ≡ s
+post-state r k s (Posted j d) = refl
+post-state r k s (PostRefused why) = refl
+
+unit-state : (r : Run) (s : State) (a : UnitAnswer) → afterUnit r s a .state ≡ s
+unit-state r s (Ran t k) = refl
+unit-state r s (Finished t k l) = refl
+unit-state r s (Cut t k l) = refl
+unit-state r s Idle = refl
+unit-state r s (UnitRefused why) = refl
+
+step-keeps : (r : Run) (c : Call) → Formed (r .state) → Formed (stepOf r c .state)
+unfolding stepOf PostKeeps UnitKeeps
+step-keeps r (posts k) f = subst Formed (sym (post-state r k (postOf (r .state) k .state) (postOf (r .state) k .answer))) (post-keeps (r .state) k f)
+step-keeps r (units done) f = subst Formed (sym (unit-state r (unitOf (r .state) done .state) (unitOf (r .state) done .answer))) (unit-keeps (r .state) done f)
+
+from-keeps : (r : Run) (cs : List Call) → Formed (r .state) → Formed (runFrom r cs .state)
+unfolding runFrom
+from-keeps r [] f = f
+from-keeps r (c ∷ cs) f = from-keeps (stepOf r c) cs (step-keeps r c f)
+
+pub run-keeps : RunKeeps
+unfolding RunKeeps runOf begin StartGives
+run-keeps S placed calls = from-keeps (begin S) calls (start-gives S placed)

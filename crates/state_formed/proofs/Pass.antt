@@ -1,0 +1,135 @@
+-- The pass over the pending messages: what holds before the place k, and what each turn of the loop finds.
+-- Assumes nothing.
+use Prim.Native.Nat.{ℕ, _+_, _-_, _≤_, _<_}
+use mathlib.Core.Bool.{Bool, true, false, cond, _&&_}
+use mathlib.Core.Logic.{inl}
+use mathlib.Core.List.{List}
+use mathlib.Core.Path.{_≡_, refl, ap, sym, _∙_}
+use native.Mathlib.Omega.{arith}
+use borrow.Author.Tests.{ltb-true, ltb-false, le-leb}
+use lib.Dec.{ltb, leb}
+use lib.ListN.{length, getD, take, drop, set, replicate}
+use Rattle.laws.specs.Lists.{below, all, scan}
+use Rattle.laws.proofs.Sums.{and-parts, by-test}
+use Rattle.laws.proofs.Parts.{part, part-all, scan-go, scan-no, scan-end, getD-any}
+use Rattle.rules.specs.declared.Message.{Message}
+use Rattle.rules.specs.declared.Stream.{Stream}
+use Rattle.rules.specs.declared.State.{State}
+use Rattle.rules.specs.Streams.{streamAt, noStream}
+use Rattle.rules.specs.States.{noMessage, pending, taskOf, postedAt, messageOk, messagesOk, startedOnce, messageUnused}
+use Rattle.state_formed.specs.Sound.{restFormed}
+use Rattle.state_formed.proofs.Standing.{message-out, message-beyond, message-by}
+use Rattle.state_formed.proofs.Tally.{Tally, tally-start, tally-past, tally-go, tally-no, tally-end}
+use Rattle.state_formed.proofs.WellFormed.{blank, no-test}
+
+-- what was tested before the first message: how many messages there are, and the clock; and what the types say
+pub record Opened (s : State) : Type 0 where
+  pub few : s .count ≤ 64
+  pub clock : s .clock ≤ 4000000000
+  pub places : length (s .messages) ≡ 64
+  pub streams : length (s .set .streams) ≡ 16
+
+-- the messages before k have passed: what is left to test comes to the same as the whole
+pub record Pass (s : State) (k before : ℕ) (counts : List ℕ) : Type 0 where
+  pub opened : Opened s
+  pub here : k ≤ s .count
+  pub left : scan (messageOk (s .set) (s .clock)) (postedAt (s .set)) before (part k (s .count) (s .messages)) ≡ messagesOk (s .set) (s .clock) (pending s)
+  pub tally : Tally (s .set) (s .messages) (s .count) k counts
+
+pub pass-start : (s : State) → Opened s → Pass s 0 0 (replicate 16 0)
+unfolding messagesOk
+pass-start s o = record { opened = o; here = omega arith; left = rw (part-all (s .messages) (s .count)) refl; tally = tally-start (s .set) (s .messages) (s .count) }
+
+module _ (s : State) (k before : ℕ) (counts : List ℕ) (inv : Pass s k before counts) (h : k < s .count) where
+  -- the message at k
+  abbrev m : Message
+  m = getD (s .messages) k noMessage
+
+  inside : k < length (s .messages)
+  inside = omega (arith, inv .opened .few, inv .opened .places)
+
+  -- it does not pass
+  not-it : messageOk (s .set) (s .clock) before m ≡ false → false ≡ restFormed s
+  not-it e =
+      no-test s 2
+      (sym (scan-no (messageOk (s .set) (s .clock)) (postedAt (s .set)) (s .messages) (s .count) k before _ noMessage m (inv .left) refl e h inside))
+
+  -- it names no stream of the set, or one that has no place
+  pub pass-out : (ltb (m .stream) (s .set .count) && ltb (m .stream) 16) ≡ false → false ≡ restFormed s
+  pass-out g =
+      by-test (ltb (m .stream) (s .set .count))
+      (λ t. not-it (message-beyond (s .set) (s .clock) before m (omega (arith, inv .opened .streams, ltb-false (m .stream) 16 (rw t at g)))))
+      (λ t. not-it (message-out (s .set) (s .clock) before m (ltb-false (m .stream) (s .set .count) t)))
+
+  module _ (g : (ltb (m .stream) (s .set .count) && ltb (m .stream) 16) ≡ true) where
+    named : m .stream < s .set .count
+    named = ltb-true _ _ (and-parts (ltb (m .stream) (s .set .count)) (ltb (m .stream) 16) g .0)
+
+    pub pass-stream : m .stream < 16
+    pass-stream = ltb-true _ _ (and-parts (ltb (m .stream) (s .set .count)) (ltb (m .stream) 16) g .1)
+
+    -- its stream, as the code reads it within the array
+    abbrev y : Stream
+    y = getD (s .set .streams) (m .stream) blank
+
+    read : y ≡ streamAt (s .set) (m .stream)
+    read = getD-any (s .set .streams) (m .stream) blank noStream (omega (arith, pass-stream, inv .opened .streams))
+
+    task : y .task ≡ taskOf (s .set) m
+    task = ap (λ (x : Stream). x .task) read
+
+    module _ (at : ℕ) (e₁ : at ≡ m .deadline - y .deadline) where
+      abbrev ok : Bool
+      ok = ltb (m .used) (y .cost) && ((leb (y .deadline) (m .deadline) && leb at (s .clock)) && leb before at)
+
+      same : ok ≡ messageOk (s .set) (s .clock) before m
+      same = message-by (s .set) (s .clock) before m y at named read e₁
+
+      pub pass-no : ok ≡ false → false ≡ restFormed s
+      pass-no e = not-it (sym same ∙ e)
+
+      -- it is good: the started ones of its task are counted with it in the end
+      module _ (e : ok ≡ true) where
+        next : (counts′ : List ℕ) → Tally (s .set) (s .messages) (s .count) (k + 1) counts′ → Pass s (k + 1) at counts′
+        next counts′ t = record {
+          opened = inv .opened;
+          here = omega arith;
+          left =
+              scan-go (messageOk (s .set) (s .clock)) (postedAt (s .set)) (s .messages) (s .count) k before at _ noMessage m (inv .left) refl
+              (e₁ ∙ ap (λ (x : Stream). m .deadline - x .deadline) read) (sym same ∙ e) h inside;
+          tally = t;
+        }
+
+        pub pass-past : (ltb 0 (m .used) && ltb (y .task) 16) ≡ false → Pass s (k + 1) at counts
+        pass-past q = next counts (tally-past (s .set) (s .messages) (s .count) k counts m (y .task) (inv .tally) refl task h inside q)
+
+        module _ (q : (ltb 0 (m .used) && ltb (y .task) 16) ≡ true) where
+          begun : 0 < m .used
+          begun = ltb-true _ _ (and-parts (ltb 0 (m .used)) (ltb (y .task) 16) q .0)
+
+          pub pass-task : y .task < 16
+          pass-task = ltb-true _ _ (and-parts (ltb 0 (m .used)) (ltb (y .task) 16) q .1)
+
+          pub pass-twice : 0 < getD counts (y .task) 0 → false ≡ restFormed s
+          pass-twice f = no-test s 3 (sym (tally-no (s .set) (s .messages) (s .count) k counts m (y .task) (inv .tally) refl task h inside begun pass-task f))
+
+          pub pass-go : getD counts (y .task) 0 ≤ 0 → Pass s (k + 1) at (set counts (y .task) 1)
+          pass-go f = next (set counts (y .task) 1) (tally-go (s .set) (s .messages) (s .count) k counts m (y .task) (inv .tally) refl task h inside begun pass-task f)
+
+-- all messages have passed: only the places behind them are left
+pub record Passed (s : State) : Type 0 where
+  pub opened : Opened s
+  pub each : messagesOk (s .set) (s .clock) (pending s) ≡ true
+  pub once : all (startedOnce (s .set) (pending s)) (below 16) ≡ true
+
+pub pass-end : (s : State) (k before : ℕ) (counts : List ℕ) → Pass s k before counts → s .count ≤ k → Passed s
+pass-end s k before counts inv h = record {
+  opened = inv .opened;
+  each = sym (scan-end (messageOk (s .set) (s .clock)) (postedAt (s .set)) (s .messages) (s .count) k before _ (inv .left) (inl h));
+  once = sym (tally-end (s .set) (s .messages) (s .count) k counts (inv .tally) h);
+}
+
+pub last-test : (s : State) (r : Bool) → Passed s → r ≡ all messageUnused (drop (s .count) (s .messages)) → r ≡ restFormed s
+unfolding restFormed
+last-test s r p u =
+    rw (le-leb (s .count) 64 (p .opened .few), le-leb (s .clock) 4000000000 (p .opened .clock), p .each, p .once) u

@@ -1,0 +1,113 @@
+-- What the test of a well formed state says, as propositions, and what its messages have.
+-- Assumes nothing.
+use Prim.Native.Nat.{ℕ, _+_, _-_, _≤_, _<_}
+use mathlib.Core.Bool.{Bool, true, false, false≢true}
+use mathlib.Core.List.{[], _∷_}
+use mathlib.Core.Path.{_≡_, refl, sym, _∙_}
+use native.Mathlib.Omega.{arith}
+use borrow.Author.Tests.{leb-true, le-leb, eqb-true}
+use lib.Dec.{eqb}
+use lib.ListN.{length, getD, take, drop}
+use lib.Seq.{getD-take, getD-drop, length-take-le}
+use Rattle.laws.specs.Lists.{below, all}
+use Rattle.laws.proofs.Parts.{every-at, all-any, scan-at, getD-any}
+use Rattle.laws.proofs.Sums.{all-take-at, by-test}
+use Rattle.rules.specs.declared.Set.{Set}
+use Rattle.rules.specs.declared.Stream.{Stream}
+use Rattle.rules.specs.declared.Message.{Message}
+use Rattle.rules.specs.declared.State.{State}
+use Rattle.rules.specs.Streams.{streamAt, noStream, valid}
+use Rattle.rules.specs.States.{noMessage, pending, taskOf, postedAt, messageOk, messagesOk, startedOnce, messageUnused, lastClock, stateTests, wellFormed}
+use Rattle.rules.specs.Steps.{messageAt}
+use Rattle.rules.proofs.Valid.{ValidStream, ValidSet, valid-set}
+use Rattle.state_formed.specs.Sound.{Sound, restFormed}
+use Rattle.state_formed.proofs.Standing.{Standing, standing}
+
+-- the default of a place that the machine reads within an array
+abbrev pub blank : Stream
+blank = record { task = 0; cost = 0; deadline = 0; count = 0; tuples = [] }
+
+pub record WellFormed (s : State) : Type 0 where
+  pub set : valid (s .set) ≡ true
+  pub few : s .count ≤ 64
+  pub clock : s .clock ≤ 4000000000
+  pub each : messagesOk (s .set) (s .clock) (pending s) ≡ true
+  pub once : all (startedOnce (s .set) (pending s)) (below 16) ≡ true
+  pub unused : all messageUnused (drop (s .count) (s .messages)) ≡ true
+
+pub well-formed : (s : State) → wellFormed s ≡ true → WellFormed s
+unfolding wellFormed
+well-formed s e =
+    let t = every-at (stateTests s) in
+    record { set = t 0 e; few = leb-true _ _ (t 1 e); clock = leb-true _ _ (t 2 e); each = t 3 e; once = t 4 e; unused = t 5 e }
+
+pub well-formed-back : (s : State) → WellFormed s → wellFormed s ≡ true
+unfolding wellFormed
+well-formed-back s h = rw (h .set, le-leb (s .count) 64 (h .few), le-leb (s .clock) 4000000000 (h .clock), h .each, h .once, h .unused)
+
+pub sound : (s : State) → wellFormed s ≡ true → Sound s
+sound s e = let h = well-formed s e in record { set = h .set; few = h .few; each = h .each }
+
+-- the places behind the messages
+pub unused-zero : (s : State) → WellFormed s → (j : ℕ) → s .count ≤ j → messageAt s j ≡ noMessage
+unfolding messageUnused
+unused-zero s h j q =
+    let place : s .count + (j - s .count) ≡ j = omega arith in
+    zero-message (messageAt s j)
+    (rw (getD-drop (s .count) (s .messages) (j - s .count) noMessage, place) at (all-any messageUnused (drop (s .count) (s .messages)) (j - s .count) noMessage refl (h .unused)))
+  where
+    zero-message : (m : Message) → messageUnused m ≡ true → m ≡ noMessage
+    zero-message m e =
+        let t = every-at (eqb (m .stream) 0 ∷ eqb (m .deadline) 0 ∷ eqb (m .used) 0 ∷ []) in
+        let all-zero : _≡_ {A = Message} (record { stream = m .stream; deadline = m .deadline; used = m .used }) noMessage =
+        rw (eqb-true (m .stream) 0 (t 0 e), eqb-true (m .deadline) 0 (t 1 e), eqb-true (m .used) 0 (t 2 e)) in
+        all-zero
+
+-- a stream of a valid set
+pub stream-valid : (x : Set) (k : ℕ) → valid x ≡ true → length (x .streams) ≡ 16 → k < x .count → ValidStream (streamAt x k)
+stream-valid x k e l h =
+    let v = valid-set x e in
+    all-take-at ValidStream (x .streams) (x .count) k noStream h (omega (arith, v .count)) (v .streams)
+
+module _ (s : State) (h : Sound s) (ms : length (s .messages) ≡ 64) (k : ℕ) (q : k < s .count) where
+  -- a pending message stands behind what was posted before it
+  pub stands : (b : ℕ) × Standing (s .set) (s .clock) b (messageAt s k)
+  unfolding messagesOk
+  stands =
+      let l : length (pending s) ≡ s .count = length-take-le (s .count) (s .messages) (omega (arith, h .few)) in
+      let o = scan-at (messageOk (s .set) (s .clock)) (postedAt (s .set)) 0 (pending s) k noMessage (h .each) (omega arith) in
+      (o .0, standing (s .set) (s .clock) (o .0) (messageAt s k) (rw (getD-take (s .count) (s .messages) k noMessage q) at (o .1)))
+
+  pub stream-in : messageAt s k .stream < s .set .count
+  stream-in = stands .1 .stream
+
+  pub stream-place : messageAt s k .stream < 16
+  stream-place = omega (arith, stream-in, valid-set (s .set) (h .set) .count)
+
+  module _ (ss : length (s .set .streams) ≡ 16) where
+    pub message-stream : ValidStream (streamAt (s .set) (messageAt s k .stream))
+    message-stream = stream-valid (s .set) (messageAt s k .stream) (h .set) ss stream-in
+
+    pub task-in : taskOf (s .set) (messageAt s k) < 16
+    task-in = omega (arith, message-stream .task)
+
+    -- the same of the stream as the code reads it, within the array
+    pub stream-read : getD (s .set .streams) (messageAt s k .stream) blank ≡ streamAt (s .set) (messageAt s k .stream)
+    stream-read = getD-any (s .set .streams) (messageAt s k .stream) blank noStream (omega (arith, stream-place))
+
+    pub task-read : getD (s .set .streams) (messageAt s k .stream) blank .task < 16
+    task-read = rw stream-read task-in
+
+-- a test that fails, of those behind the set's
+pub no-test : (s : State) (k : ℕ) → getD (drop 1 (stateTests s)) k true ≡ false → false ≡ restFormed s
+unfolding restFormed
+no-test s k e = by-test (restFormed s) (λ t. absurd (false≢true (sym e ∙ every-at (drop 1 (stateTests s)) k t))) (λ t. sym t)
+
+-- the set's test, and the rest
+pub set-fails : (s : State) → valid (s .set) ≡ false → false ≡ wellFormed s
+unfolding wellFormed
+set-fails s e = rw e refl
+
+pub rest-tells : (s : State) (r : Bool) → valid (s .set) ≡ true → r ≡ restFormed s → r ≡ wellFormed s
+unfolding wellFormed restFormed
+rest-tells s r e f = rw e f

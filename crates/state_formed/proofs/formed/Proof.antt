@@ -1,0 +1,197 @@
+-- `state_formed::formed` meets its contract. Assumes nothing.
+use native.Mathlib.Omega.{arith}
+use borrow.Author.Needs.{needs}
+use borrow.Author.Tests.{lt-leb, not-true, not-false}
+use mathlib.Core.Bool.{Bool, _&&_}
+use mathlib.Core.Logic.{⊎-elim}
+use mathlib.Core.Path.{_≡_, refl, sym, ap, _∙_}
+use Prim.Native.Nat.{ℕ, _-_, _≤_}
+use lib.ListN.{length, getD, drop}
+use Rattle.laws.specs.Lists.{all}
+use Rattle.laws.proofs.Parts.{sized}
+use Rattle.laws.proofs.Fits.{and-go, and-end}
+use Rattle.rules.specs.States.{noMessage, messageUnused}
+use Rattle.state_formed.specs.Sound.{stateOf}
+use Rattle.state_formed.proofs.WellFormed.{no-test}
+use Rattle.state_formed.proofs.Pass.{Opened, Pass, pass-start, pass-out, pass-stream, pass-no, pass-past, pass-task, pass-twice, pass-go, Passed, pass-end, last-test}
+use Rattle.state_formed.proofs.formed.Statement.{statement}
+use Rattle.state_formed.proofs.formed.Tie as tie
+
+abbrev Inv-loop : tie.InvT-loop
+Inv-loop clock count set messages counts₀ before₀ k₀ counts before k = Pass (stateOf set clock count messages) k before counts
+
+abbrev μ-loop : tie.MeasureT-loop
+μ-loop clock count set messages counts₀ before₀ k₀ counts before k = count - k
+
+abbrev Inv-loop2 : tie.InvT-loop2
+Inv-loop2 clock count messages before k₀ unused₀ k unused =
+    (length messages ≡ 64) × ((unused && all messageUnused (drop k messages)) ≡ all messageUnused (drop count messages))
+
+abbrev μ-loop2 : tie.MeasureT-loop2
+μ-loop2 clock count messages before k₀ unused₀ k unused = 64 - k
+
+returns : tie.Need-returns Inv-loop μ-loop Inv-loop2 μ-loop2
+returns c = no-test _ 0 (lt-leb _ 64 (c .if1 .taken))
+
+returns-2 : tie.Need-returns-2 Inv-loop μ-loop Inv-loop2 μ-loop2
+returns-2 c = no-test _ 1 (lt-leb _ 4000000000 (c .if2 .taken))
+
+loop-holds : tie.Need-loop-holds Inv-loop μ-loop Inv-loop2 μ-loop2
+loop-holds c =
+    let start = c .before .before in
+    pass-start (stateOf (start .args .t1) (start .args .clock) (start .args .count) (start .args .t2)) (record {
+      few = c .before .if1 .left;
+      clock = c .if2 .left;
+      places = start .good .1 .0 .1 .0 .1;
+      streams = sized _ (start .args .t1 .streams) 16 (start .good .0 .1 .1 .1 .0 .1 .0 .1);
+    })
+
+mul-m : tie.Need-mul-m Inv-loop μ-loop Inv-loop2 μ-loop2
+mul-m c = omega (arith, c .loop-test .taken, c .before .loop .inv .opened .few)
+
+array-copy-out-m : tie.Need-array-copy-out-m Inv-loop μ-loop Inv-loop2 μ-loop2
+array-copy-out-m c = omega (arith, c .loop-test .taken, c .before .loop .inv .opened .few)
+
+returns-3 : tie.Need-returns-3 Inv-loop μ-loop Inv-loop2 μ-loop2
+returns-3 c =
+    let loop = c .before .before .before .loop in
+    pass-out _ (loop .k) _ _ (loop .inv) (c .before .before .loop-test .taken) (not-true _ (c .if3 .taken))
+
+mul-x : tie.Need-mul-x Inv-loop μ-loop Inv-loop2 μ-loop2
+mul-x c =
+    let loop = c .before .before .before .loop in
+    omega (arith, pass-stream _ (loop .k) _ _ (loop .inv) (c .before .before .loop-test .taken) (not-false _ (c .if3 .left)))
+
+element-copy-out-x : tie.Need-element-copy-out-x Inv-loop μ-loop Inv-loop2 μ-loop2
+element-copy-out-x c =
+    let loop = c .before .before .before .loop in
+    pass-stream _ (loop .k) _ _ (loop .inv) (c .before .before .loop-test .taken) (not-false _ (c .if3 .left))
+
+less-requires : tie.Need-less-requires Inv-loop μ-loop Inv-loop2 μ-loop2
+less-requires c κs = search needs
+
+returns-4 : tie.Need-returns-4 Inv-loop μ-loop Inv-loop2 μ-loop2
+returns-4 c =
+    let loop = c .before .before .before .before .before .before .before .before .before .before .loop in
+    let less = c .before .before .before .before .before .less in
+    pass-no _ (loop .k) _ _ (loop .inv) (c .before .before .before .before .before .before .before .before .before .loop-test .taken) (not-false _ (c .before .before .before .before .before .before .before .if3 .left)) (less .result) (less .ensures) (not-true _ (c .if4 .taken))
+
+mul-if6 : tie.Need-mul-if6 Inv-loop μ-loop Inv-loop2 μ-loop2
+mul-if6 c =
+    let loop = c .before .before .before .before .before .before .before .before .before .before .before .before .loop in
+    let less = c .before .before .before .before .before .before .before .less in
+    omega (arith, pass-task _ (loop .k) _ _ (loop .inv) (c .before .before .before .before .before .before .before .before .before .before .before .loop-test .taken) (not-false _ (c .before .before .before .before .before .before .before .before .before .if3 .left)) (less .result) (less .ensures) (not-false _ (c .before .before .if4 .left)) (c .if5 .taken))
+
+array-read-if6 : tie.Need-array-read-if6 Inv-loop μ-loop Inv-loop2 μ-loop2
+array-read-if6 c =
+    let loop = c .before .before .before .before .before .before .before .before .before .before .before .before .loop in
+    let less = c .before .before .before .before .before .before .before .less in
+    (pass-task _ (loop .k) _ _ (loop .inv) (c .before .before .before .before .before .before .before .before .before .before .before .loop-test .taken) (not-false _ (c .before .before .before .before .before .before .before .before .before .if3 .left)) (less .result) (less .ensures) (not-false _ (c .before .before .if4 .left)) (c .if5 .taken))
+
+returns-5 : tie.Need-returns-5 Inv-loop μ-loop Inv-loop2 μ-loop2
+returns-5 c =
+    let loop = c .before .before .before .before .before .before .before .before .before .before .before .before .before .loop in
+    let less = c .before .before .before .before .before .before .before .before .less in
+    pass-twice _ (loop .k) _ _ (loop .inv) (c .before .before .before .before .before .before .before .before .before .before .before .before .loop-test .taken) (not-false _ (c .before .before .before .before .before .before .before .before .before .before .if3 .left)) (less .result) (less .ensures) (not-false _ (c .before .before .before .if4 .left)) (c .before .if5 .taken) (c .if6 .taken)
+
+mul-counts : tie.Need-mul-counts Inv-loop μ-loop Inv-loop2 μ-loop2
+mul-counts c =
+    let loop = c .before .before .before .before .before .before .before .before .before .before .before .before .before .loop in
+    let less = c .before .before .before .before .before .before .before .before .less in
+    omega (arith, pass-task _ (loop .k) _ _ (loop .inv) (c .before .before .before .before .before .before .before .before .before .before .before .before .loop-test .taken) (not-false _ (c .before .before .before .before .before .before .before .before .before .before .if3 .left)) (less .result) (less .ensures) (not-false _ (c .before .before .before .if4 .left)) (c .before .if5 .taken))
+
+array-write-counts : tie.Need-array-write-counts Inv-loop μ-loop Inv-loop2 μ-loop2
+array-write-counts c =
+    let loop = c .before .before .before .before .before .before .before .before .before .before .before .before .before .loop in
+    let less = c .before .before .before .before .before .before .before .before .less in
+    (pass-task _ (loop .k) _ _ (loop .inv) (c .before .before .before .before .before .before .before .before .before .before .before .before .loop-test .taken) (not-false _ (c .before .before .before .before .before .before .before .before .before .before .if3 .left)) (less .result) (less .ensures) (not-false _ (c .before .before .before .if4 .left)) (c .before .if5 .taken))
+
+add-k : tie.Need-add-k Inv-loop μ-loop Inv-loop2 μ-loop2
+add-k c = search needs
+
+loop-less : tie.Need-loop-less Inv-loop μ-loop Inv-loop2 μ-loop2
+loop-less c = search needs
+
+loop-again : tie.Need-loop-again Inv-loop μ-loop Inv-loop2 μ-loop2
+loop-again c =
+    let loop = c .before .before .before .before .before .before .before .before .before .before .before .before .loop in
+    let less = c .before .before .before .before .before .before .before .less in
+    ⊎-elim
+    (λ w.
+    rw (w .2)
+    (pass-go _ (loop .k) _ _ (loop .inv) (c .before .before .before .before .before .before .before .before .before .before .before .loop-test .taken) (not-false _ (c .before .before .before .before .before .before .before .before .before .if3 .left)) (less .result) (less .ensures) (not-false _ (c .before .before .if4 .left)) (w .0 .taken) (w .1 .left)))
+    (λ w.
+    rw (w .1)
+    (pass-past _ (loop .k) _ _ (loop .inv) (c .before .before .before .before .before .before .before .before .before .before .before .loop-test .taken) (not-false _ (c .before .before .before .before .before .before .before .before .before .if3 .left)) (less .result) (less .ensures) (not-false _ (c .before .before .if4 .left)) (w .0 .left)))
+    (c .if5 .came)
+
+loop2-holds : tie.Need-loop2-holds Inv-loop μ-loop Inv-loop2 μ-loop2
+loop2-holds c =
+    let start = c .before .before .before .before in
+    let loop = c .before .loop in (
+      loop .inv .opened .places,
+      ap (λ (k : ℕ). all messageUnused (drop k (start .args .t2))) (let e : loop .k ≡ start .args .count = omega (arith, loop .inv .here, c .loop-test .left) in e),
+    )
+
+mul-m-2 : tie.Need-mul-m-2 Inv-loop μ-loop Inv-loop2 μ-loop2
+mul-m-2 c = search needs
+
+array-copy-out-m-2 : tie.Need-array-copy-out-m-2 Inv-loop μ-loop Inv-loop2 μ-loop2
+array-copy-out-m-2 c = search needs
+
+message-unused-requires : tie.Need-message-unused-requires Inv-loop μ-loop Inv-loop2 μ-loop2
+message-unused-requires c κs = search needs
+
+add-k-2 : tie.Need-add-k-2 Inv-loop μ-loop Inv-loop2 μ-loop2
+add-k-2 c = search needs
+
+loop2-less : tie.Need-loop2-less Inv-loop μ-loop Inv-loop2 μ-loop2
+loop2-less c = search needs
+
+loop2-again : tie.Need-loop2-again Inv-loop μ-loop Inv-loop2 μ-loop2
+loop2-again c =
+    let start = c .before .before .before .before .before .before .before .before in
+    let loop = c .before .before .before .loop2 in
+    (loop .inv .0, and-go messageUnused (start .args .t2) (loop .k) (loop .unused) _ _ noMessage _ (loop .inv .1) refl (c .message-unused .ensures) (omega (arith, c .before .before .loop2-test .taken, loop .inv .0)))
+
+returns-6 : tie.Need-returns-6 Inv-loop μ-loop Inv-loop2 μ-loop2
+returns-6 c =
+    let start = c .before .before .before .before .before .before in
+    let loop = c .before .loop2 in
+    last-test _ _ (pass-end _ _ _ _ (c .before .before .before .loop .inv) (c .before .before .loop-test .left))
+    (and-end messageUnused (start .args .t2) (loop .k) _ _ (loop .inv .1) (omega (arith, c .loop2-test .left, loop .inv .0)))
+
+pub formed-spec : {M : Type 1} → statement M
+formed-spec =
+    tie.close
+    (tie.spec
+    Inv-loop
+    μ-loop
+    Inv-loop2
+    μ-loop2
+    returns
+    returns-2
+    loop-holds
+    mul-m
+    array-copy-out-m
+    returns-3
+    mul-x
+    element-copy-out-x
+    less-requires
+    returns-4
+    mul-if6
+    array-read-if6
+    returns-5
+    mul-counts
+    array-write-counts
+    add-k
+    loop-less
+    loop-again
+    loop2-holds
+    mul-m-2
+    array-copy-out-m-2
+    message-unused-requires
+    add-k-2
+    loop2-less
+    loop2-again
+    returns-6)

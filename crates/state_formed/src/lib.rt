@@ -1,0 +1,82 @@
+// Is a state well formed? And the readers that the steps use.
+ghost use mathlib.Core.Path.{_≡_};
+ghost use Rattle.rules.specs.States.{noMessage, messageUnused, wellFormed};
+ghost use Rattle.state_formed.specs.Sound.{stateOf, restFormed};
+use rules::Message;
+use rules::Set;
+use rules::State;
+
+pub fn no_message() -> Message
+    ensures { λ r. ⌜ r ≡ noMessage ⌝ }
+{
+    Message {
+        stream: 0,
+        deadline: 0,
+        used: 0,
+    }
+}
+
+fn message_unused(m: Message) -> bool
+    ensures { λ r. ⌜ r ≡ messageUnused m ⌝ }
+{
+    (m.stream == 0) & ((m.deadline == 0) & (m.used == 0))
+}
+
+// The tests of a state of these parts but for the first, that its set is valid. A first pass over the pending messages: each names a stream of the set, has
+// used less than c, was posted by now and not before the one in front of it, and is its task's only started one. A second over the places behind: they
+// are zero. Both passes stand here, since what is handed to another function is copied.
+pub fn formed(set: Set, messages: [Message; 64], clock: u32, count: usize) -> bool
+    ensures { λ r. ⌜ r ≡ restFormed (stateOf set clock count messages) ⌝ }
+{
+    if 64 < count {
+        return false;
+    }
+    if 4000000000 < clock {
+        return false;
+    }
+    let mut counts = [0u32; 16];
+    let mut before: u32 = 0;
+    let mut k: usize = 0;
+    while k < count {
+        let m = messages[k];
+        let i = m.stream;
+        if !((i < set.count) & (i < 16)) {
+            return false;
+        }
+        let x = set.streams[i];
+        let t = x.task;
+        let at = stream_valid::less(m.deadline, x.deadline);
+        let ok = (m.used < x.cost)
+            & (((x.deadline <= m.deadline) & (at <= clock)) & (before <= at));
+        if !ok {
+            return false;
+        }
+        if (0 < m.used) & (t < 16) {
+            if 0 < counts[t] {
+                return false;
+            }
+            counts[t] = 1;
+        }
+        before = at;
+        k = k + 1;
+    }
+    let mut unused = true;
+    while k < 64 {
+        let m = messages[k];
+        let zero = message_unused(m);
+        unused = unused & zero;
+        k = k + 1;
+    }
+    unused
+}
+
+// Is the state well formed? A parameter that is not read by an index here is handed on without a copy.
+pub fn well_formed(s: State) -> bool
+    ensures { λ r. ⌜ r ≡ wellFormed s ⌝ }
+{
+    if !stream_valid::is_valid(s.set) {
+        return false;
+    }
+    let messages = s.messages;
+    formed(s.set, messages, s.clock, s.count)
+}

@@ -1,0 +1,142 @@
+-- A stream as a line of text: `task 0 cost 2 deadline 5 once@0 every 20@18`.
+-- Assumes nothing.
+use Prim.Native.Nat.{ℕ, zero, suc, _+_}
+use Prim.Native.Char.{code}
+use mathlib.Core.Bool.{Bool, true, false, cond, _&&_}
+use mathlib.Core.List.{List, [], _∷_, _++_}
+use lib.ListN.{length, set, take, drop}
+use lib.Dec.{leb, ltb, eqb}
+use Rattle.laws.specs.Lists.{within, flat}
+use Rattle.rules.specs.declared.Tuple.{Tuple}
+use Rattle.rules.specs.declared.Tuple.the-variants.{Once, Every}
+use Rattle.rules.specs.declared.TuplePlace.{TuplePlace}
+use Rattle.rules.specs.declared.Stream.{Stream as StreamT}
+use Rattle.rules.specs.Streams.{noStream, offset, tuplesOf}
+use Rattle.line.specs.declared.Line.{Line}
+use Rattle.line.specs.Decimal.{letters, decimalOf, readOn}
+use Rattle.console_names.specs.Rows.{same}
+use Rattle.text_line.specs.declared.Fault.{Fault}
+use Rattle.text_line.specs.declared.Fault.the-variants.{NotTask, Task, NotCost, Cost, NotDeadline, Deadline, NotTuple, Cycle, Offset, FiveTuples, LongLine}
+use Rattle.text_line.specs.declared.Field.{Field}
+use Rattle.text_line.specs.declared.Field.the-variants.{Is, Missing, Outside}
+use Rattle.text_line.specs.declared.TupleRead.{TupleRead}
+use Rattle.text_line.specs.declared.TupleRead.the-variants.{Is as IsTuple, Bad as BadTuple}
+use Rattle.text_line.specs.declared.Said.{Said}
+use Rattle.text_line.specs.declared.Said.the-variants.{Stream, Nothing, Bad}
+use Rattle.text_line.specs.declared.LineRead.{LineRead}
+
+-- ---- the line of a stream
+
+abbrev pub tupleText : Tuple → List ℕ
+tupleText (Once a) = letters " once@" ++ decimalOf a
+tupleText (Every z a) = letters " every " ++ decimalOf z ++ letters "@" ++ decimalOf a
+
+abbrev pub placeText : TuplePlace → List ℕ
+placeText p = tupleText (p .tuple)
+
+unfoldable pub streamText : StreamT → List ℕ
+streamText s =
+    letters "task " ++ decimalOf (s .task)
+    ++ (letters " cost " ++ decimalOf (s .cost))
+    ++ (letters " deadline " ++ decimalOf (s .deadline))
+    ++ flat placeText (tuplesOf s)
+
+-- ---- reading a line: l is the line, `at` the place where reading goes on
+
+abbrev pub isDigit : ℕ → Bool
+isDigit b = within (code "0") b (code "9")
+
+-- the bytes at the front that pass a test; the digits there
+unfoldable pub lead : (ℕ → Bool) → List ℕ → List ℕ
+lead p [] = []
+lead p (b ∷ l) = cond (p b) (b ∷ lead p l) []
+
+abbrev pub digits : List ℕ → List ℕ
+digits l = lead isDigit l
+
+-- the bytes of w stand there
+unfoldable pub startsAt : List ℕ → List ℕ → ℕ → Bool
+startsAt w l at = leb (at + length w) (length l) && same (take (length w) (drop at l)) w
+
+-- a number whose digits stand from `at` to `end` and say n
+unfoldable pub endedAt : ℕ → ℕ → ℕ → ℕ → ℕ → Field
+endedAt low high at end n = cond (eqb end at) Missing (cond (within low n high) (Is n end) Outside)
+
+-- a number from low to high: as many digits as stand there, and at least one
+unfoldable pub numberAt : ℕ → ℕ → List ℕ → ℕ → Field
+numberAt low high l at = endedAt low high at (at + length (digits (drop at l))) (readOn 0 (digits (drop at l)))
+
+-- the word w, and a number from low to high behind it
+unfoldable pub fieldAt : List ℕ → ℕ → ℕ → List ℕ → ℕ → Field
+fieldAt w low high l at = cond (startsAt w l at) (numberAt low high l (at + length w)) Missing
+
+-- what a field leads to: on with its number, or what to answer
+module _ {A : Type 0} where
+  unfoldable pub byField : Field → A → A → (ℕ → ℕ → A) → A
+  byField (Is n end) missing outside next = next n end
+  byField Missing missing outside next = missing
+  byField Outside missing outside next = outside
+
+-- a tuple, its offset from low to high: `every Z@A` from the @ on, the whole of it, and either kind
+unfoldable pub offsetAt : ℕ → ℕ → ℕ → List ℕ → ℕ → TupleRead
+offsetAt z low high l at =
+    byField (fieldAt (letters "@") low high l at) (BadTuple NotTuple) (BadTuple Offset) (λ a end. IsTuple (Every z a) end)
+
+unfoldable pub everyAt : ℕ → ℕ → List ℕ → ℕ → TupleRead
+everyAt low high l at =
+    byField (fieldAt (letters " every ") 1 1000000 l at) (BadTuple NotTuple) (BadTuple Cycle) (λ z end. offsetAt z low high l end)
+
+unfoldable pub tupleAt : ℕ → ℕ → List ℕ → ℕ → TupleRead
+tupleAt low high l at =
+    byField (fieldAt (letters " once@") low high l at) (everyAt low high l at) (BadTuple Offset) (λ a end. IsTuple (Once a) end)
+
+abbrev pub isStream : StreamT → LineRead
+isStream s = record { said = Stream; stream = s }
+
+abbrev pub bad : Fault → LineRead
+bad why = record { said = Bad why; stream = noStream }
+
+-- a stream with no tuple yet, and one tuple more
+abbrev pub opened : ℕ → ℕ → ℕ → StreamT
+opened task cost deadline =
+    record { task = task; cost = cost; deadline = deadline; count = 0; tuples = noStream .tuples }
+
+unfoldable pub added : StreamT → Tuple → StreamT
+added s t =
+    cond (ltb (s .count) 4)
+    (record { task = s .task; cost = s .cost; deadline = s .deadline; count = s .count + 1; tuples = set (s .tuples) (s .count) (record { tuple = t }) })
+    s
+
+-- where the line ends: "1 to 4 tuples"
+abbrev pub finished : StreamT → LineRead
+finished s = cond (eqb (s .count) 0) (bad NotTuple) (isStream s)
+
+-- at most n tuples more; "the first is 0 and they never fall"
+unfoldable pub byTuple : TupleRead → (Tuple → ℕ → LineRead) → LineRead
+byTuple (IsTuple t end) next = next t end
+byTuple (BadTuple why) next = bad why
+
+unfoldable pub tuplesAt : ℕ → StreamT → ℕ → ℕ → List ℕ → ℕ → LineRead
+tuplesAt zero s low high l at = cond (leb (length l) at) (finished s) (bad FiveTuples)
+tuplesAt (suc n) s low high l at =
+    cond (leb (length l) at) (finished s)
+    (byTuple (tupleAt low high l at) (λ t end. tuplesAt n (added s t) (offset t) 100000 l end))
+
+-- the fields in their order
+unfoldable pub deadlineAt : ℕ → ℕ → List ℕ → ℕ → LineRead
+deadlineAt task cost l at =
+    byField (fieldAt (letters " deadline ") 1 200000 l at) (bad NotDeadline) (bad Deadline) (λ d end. tuplesAt 4 (opened task cost d) 0 0 l end)
+
+unfoldable pub costAt : ℕ → List ℕ → ℕ → LineRead
+costAt task l at =
+    byField (fieldAt (letters " cost ") 1 65535 l at) (bad NotCost) (bad Cost) (λ c end. deadlineAt task c l end)
+
+-- an empty line says nothing
+unfoldable pub lineRead : List ℕ → LineRead
+lineRead l =
+    cond (eqb (length l) 0) (record { said = Nothing; stream = noStream })
+    (byField (fieldAt (letters "task ") 0 15 l 0) (bad NotTask) (bad Task) (λ task end. costAt task l end))
+
+-- a line with all its 128 places used is longer than any stream's
+unfoldable pub judged : Line → LineRead
+judged l = cond (ltb (l .len) 128) (lineRead (take (l .len) (l .bytes))) (bad LongLine)

@@ -1,0 +1,353 @@
+// A stream as a line of text: `task 0 cost 2 deadline 5 once@0 every 20@18`.
+ghost use mathlib.Core.Path.{_≡_};
+ghost use mathlib.Core.List.{_++_, []};
+ghost use Prim.Native.Nat.{_-_, _≤_};
+ghost use lib.ListN.{drop, take};
+ghost use Rattle.laws.specs.Lists.{flat};
+ghost use Rattle.rules.specs.Streams.{tuplesOf, noTuple, noStream};
+ghost use Rattle.line.specs.Held.{holding, puts};
+ghost use Rattle.text_line.specs.Lines.{isDigit, startsAt, endedAt, numberAt, fieldAt, offsetAt, everyAt, tupleAt, opened, added, isStream, bad, finished, tuplesAt, deadlineAt, costAt, lineRead, judged, placeText, streamText};
+use line::Line;
+use rules::Stream;
+use rules::Tuple;
+use rules::TuplePlace;
+
+// Why a line is no stream.
+pub enum Fault {
+    NotTask,
+    Task,
+    NotCost,
+    Cost,
+    NotDeadline,
+    Deadline,
+    NotTuple,
+    Cycle,
+    Offset,
+    FiveTuples,
+    LongLine,
+    ManyStreams,
+}
+
+// A word with a number behind it: the number and where it ends.
+pub enum Field {
+    Is(u32, usize),
+    Missing,
+    Outside,
+}
+
+// A tuple, and where it ends.
+pub enum TupleRead {
+    Is(Tuple, usize),
+    Bad(Fault),
+}
+
+// What a line says. The stream stands beside it, none where the line says another thing.
+pub enum Said {
+    Stream,
+    Nothing,
+    Bad(Fault),
+}
+
+pub struct LineRead {
+    pub said: Said,
+    pub stream: Stream,
+}
+
+// ---- reading
+
+// The bytes of w stand in the line from `at` on.
+fn starts(line: &[u8], at: usize, w: &[u8]) -> bool
+    ensures { λ r. ⌜ r ≡ startsAt (now (w .entry)) (now (line .entry)) at ⌝ }
+{
+    if line.len() < at {
+        return false;
+    }
+    if line.len() - at < w.len() {
+        return false;
+    }
+    let end = at + w.len();
+    console_names::same(&line[at..end], w)
+}
+
+fn is_digit(b: u8) -> bool
+    ensures { λ r. ⌜ r ≡ isDigit b ⌝ }
+{
+    (48 <= b) & (b <= 57)
+}
+
+fn digit_of(b: u8) -> u64
+    ensures { λ r. ⌜ r ≡ b - 48 ⌝ }
+{
+    if b < 48 { 0 } else { (b - 48) as u64 }
+}
+
+// A number whose digits stand from `at` to `end`.
+fn ended(at: usize, end: usize, n: u64, low: u32, high: u32) -> Field
+    ensures { λ r. ⌜ r ≡ endedAt low high at end n ⌝ }
+{
+    if end == at {
+        return Field::Missing;
+    }
+    if n < low as u64 {
+        return Field::Outside;
+    }
+    if n <= high as u64 {
+        Field::Is(n as u32, end)
+    } else {
+        Field::Outside
+    }
+}
+
+fn number_at(line: &[u8], at: usize, low: u32, high: u32) -> Field
+    ensures { λ r. ⌜ r ≡ numberAt low high (now (line .entry)) at ⌝ }
+{
+    let mut n: u64 = 0;
+    let mut i = at;
+    while i < line.len() {
+        let b = line[i];
+        if !is_digit(b) {
+            return ended(at, i, n, low, high);
+        }
+        n = n * 10 + digit_of(b);
+        if 4294967295 < n {
+            return Field::Outside;
+        }
+        i += 1;
+    }
+    ended(at, i, n, low, high)
+}
+
+// The word w, and behind it a number from low to high.
+fn field_at(line: &[u8], at: usize, w: &[u8], low: u32, high: u32) -> Field
+    ensures { λ r. ⌜ r ≡ fieldAt (now (w .entry)) low high (now (line .entry)) at ⌝ }
+{
+    if starts(line, at, w) {
+        number_at(line, at + w.len(), low, high)
+    } else {
+        Field::Missing
+    }
+}
+
+fn offset_at(line: &[u8], at: usize, z: u32, low: u32, high: u32) -> TupleRead
+    ensures { λ r. ⌜ r ≡ offsetAt z low high (now (line .entry)) at ⌝ }
+{
+    match field_at(line, at, b"@", low, high) {
+        Field::Is(a, end) => TupleRead::Is(Tuple::Every(z, a), end),
+        Field::Missing => TupleRead::Bad(Fault::NotTuple),
+        Field::Outside => TupleRead::Bad(Fault::Offset),
+    }
+}
+
+fn every_at(line: &[u8], at: usize, low: u32, high: u32) -> TupleRead
+    ensures { λ r. ⌜ r ≡ everyAt low high (now (line .entry)) at ⌝ }
+{
+    match field_at(line, at, b" every ", 1, 1000000) {
+        Field::Is(z, end) => offset_at(line, end, z, low, high),
+        Field::Missing => TupleRead::Bad(Fault::NotTuple),
+        Field::Outside => TupleRead::Bad(Fault::Cycle),
+    }
+}
+
+// A tuple whose offset is from low to high.
+fn tuple_at(line: &[u8], at: usize, low: u32, high: u32) -> TupleRead
+    ensures { λ r. ⌜ r ≡ tupleAt low high (now (line .entry)) at ⌝ }
+{
+    match field_at(line, at, b" once@", low, high) {
+        Field::Is(a, end) => TupleRead::Is(Tuple::Once(a), end),
+        Field::Missing => every_at(line, at, low, high),
+        Field::Outside => TupleRead::Bad(Fault::Offset),
+    }
+}
+
+fn no_tuple() -> TuplePlace
+    ensures { λ r. ⌜ r ≡ noTuple ⌝ }
+{
+    let t = Tuple::Once(0);
+    TuplePlace { tuple: t }
+}
+
+fn no_stream() -> Stream
+    ensures { λ r. ⌜ r ≡ noStream ⌝ }
+{
+    let ts = [no_tuple(); 4];
+    Stream {
+        task: 0,
+        cost: 0,
+        deadline: 0,
+        count: 0,
+        tuples: ts,
+    }
+}
+
+fn stream_read(s: Stream) -> LineRead
+    ensures { λ r. ⌜ r ≡ isStream s ⌝ }
+{
+    LineRead {
+        said: Said::Stream,
+        stream: s,
+    }
+}
+
+fn bad_line(why: Fault) -> LineRead
+    ensures { λ r. ⌜ r ≡ bad why ⌝ }
+{
+    let s = no_stream();
+    LineRead {
+        said: Said::Bad(why),
+        stream: s,
+    }
+}
+
+// A stream with no tuple yet.
+fn open(task: u32, cost: u32, deadline: u32) -> Stream
+    ensures { λ r. ⌜ r ≡ opened task cost deadline ⌝ }
+{
+    let mut s = no_stream();
+    s.task = task as usize;
+    s.cost = cost;
+    s.deadline = deadline;
+    s
+}
+
+// One tuple more. A stream that has four stays as it is.
+fn add(s: Stream, t: Tuple) -> Stream
+    ensures { λ r. ⌜ r ≡ added s t ⌝ }
+{
+    let k = s.count;
+    if k < 4 {
+        let mut next = s;
+        next.tuples[k] = TuplePlace { tuple: t };
+        next.count = k + 1;
+        next
+    } else {
+        s
+    }
+}
+
+// The line ends here.
+fn finish(s: Stream) -> LineRead
+    ensures { λ r. ⌜ r ≡ finished s ⌝ }
+{
+    let n = s.count;
+    if n == 0 {
+        bad_line(Fault::NotTuple)
+    } else {
+        stream_read(s)
+    }
+}
+
+// At most `left` tuples more, the offset of the next from low to high.
+fn tuples(line: &[u8], at: usize, s: Stream, low: u32, high: u32, left: usize) -> LineRead
+    ensures { λ r. ⌜ r ≡ tuplesAt left s low high (now (line .entry)) at ⌝ }
+{
+    if line.len() <= at {
+        return finish(s);
+    }
+    if left == 0 {
+        return bad_line(Fault::FiveTuples);
+    }
+    match tuple_at(line, at, low, high) {
+        TupleRead::Is(t, end) => tuples(
+            line,
+            end,
+            add(s, t),
+            stream_valid::offset_of(t),
+            100000,
+            left - 1,
+        ),
+        TupleRead::Bad(why) => bad_line(why),
+    }
+}
+
+fn deadline_at(line: &[u8], at: usize, task: u32, cost: u32) -> LineRead
+    ensures { λ r. ⌜ r ≡ deadlineAt task cost (now (line .entry)) at ⌝ }
+{
+    match field_at(line, at, b" deadline ", 1, 200000) {
+        Field::Is(d, end) => tuples(line, end, open(task, cost, d), 0, 0, 4),
+        Field::Missing => bad_line(Fault::NotDeadline),
+        Field::Outside => bad_line(Fault::Deadline),
+    }
+}
+
+fn cost_at(line: &[u8], at: usize, task: u32) -> LineRead
+    ensures { λ r. ⌜ r ≡ costAt task (now (line .entry)) at ⌝ }
+{
+    match field_at(line, at, b" cost ", 1, 65535) {
+        Field::Is(c, end) => deadline_at(line, end, task, c),
+        Field::Missing => bad_line(Fault::NotCost),
+        Field::Outside => bad_line(Fault::Cost),
+    }
+}
+
+// What a line says.
+pub fn read_line(line: &[u8]) -> LineRead
+    ensures { λ r. ⌜ r ≡ lineRead (now (line .entry)) ⌝ }
+{
+    if line.len() == 0 {
+        let s = no_stream();
+        return LineRead {
+            said: Said::Nothing,
+            stream: s,
+        };
+    }
+    match field_at(line, 0, b"task ", 0, 15) {
+        Field::Is(task, end) => cost_at(line, end, task),
+        Field::Missing => bad_line(Fault::NotTask),
+        Field::Outside => bad_line(Fault::Task),
+    }
+}
+
+// What the bytes of a line say; a line with all its 128 places used is longer than any stream's.
+pub fn judge(l: Line) -> LineRead
+    ensures { λ r. ⌜ r ≡ judged l ⌝ }
+{
+    let n = l.len;
+    let bytes = l.bytes;
+    if n < 128 {
+        read_line(&bytes[..n])
+    } else {
+        bad_line(Fault::LongLine)
+    }
+}
+
+// ---- writing
+
+fn tuple_text(l: Line, p: TuplePlace) -> Line
+    ensures { λ r. ⌜ r ≡ puts l (placeText p) ⌝ }
+{
+    let t = p.tuple;
+    match t {
+        Tuple::Once(a) => line::decimal(line::word(l, b" once@"), a as u64),
+        Tuple::Every(z, a) => line::decimal(
+            line::word(line::one(l, b" every", z as u64), b"@"),
+            a as u64,
+        ),
+    }
+}
+
+fn tuples_text(l: Line, s: Stream) -> Line
+    ensures { λ r. ⌜ r ≡ puts l (flat placeText (tuplesOf s)) ⌝ }
+{
+    let n = s.count;
+    let mut next = l;
+    let mut k: usize = 0;
+    while k < 4 {
+        if n <= k {
+            return next;
+        }
+        let p = s.tuples[k];
+        next = tuple_text(next, p);
+        k += 1;
+    }
+    next
+}
+
+// A stream's own line, without the newline.
+pub fn stream_line(s: Stream) -> Line
+    ensures { λ r. ⌜ r ≡ puts (holding []) (streamText s) ⌝ }
+{
+    let task = line::one(line::blank(), b"task", s.task as u64);
+    let cost = line::one(task, b" cost", s.cost as u64);
+    let deadline = line::one(cost, b" deadline", s.deadline as u64);
+    tuples_text(deadline, s)
+}

@@ -1,0 +1,31 @@
+-- A set's readable text, and the page that it is put on.
+-- Assumes nothing.
+use Prim.Native.Nat.{ℕ}
+use mathlib.Core.Bool.{cond, _&&_}
+use mathlib.Core.List.{List, _++_}
+use lib.ListN.{length, drop}
+use lib.Dec.{leb}
+use Rattle.laws.specs.Lists.{flat}
+use Rattle.rules.specs.declared.Stream.{Stream}
+use Rattle.rules.specs.declared.Set.{Set}
+use Rattle.rules.specs.declared.Refusal.the-variants.{OutOfRule, ShortBuffer}
+use Rattle.rules.specs.declared.WriteAnswer.{WriteAnswer}
+use Rattle.rules.specs.declared.WriteAnswer.the-variants.{Wrote, Refused}
+use Rattle.rules.specs.Streams.{streamsOf, valid}
+use Rattle.line.specs.Decimal.{newline}
+use Rattle.text_line.specs.Lines.{streamText}
+
+-- one stream a line, in order
+abbrev pub lineText : Stream → List ℕ
+lineText s = streamText s ++ newline
+
+unfoldable pub textOf : Set → List ℕ
+textOf x = flat lineText (streamsOf x)
+
+-- 7 for an invalid set, then 11 for a page with less than 128 bytes for each of 16 lines
+unfoldable pub listOf : Set → ℕ → WriteAnswer
+listOf x room = cond (valid x) (cond (leb 2048 room) (Wrote (length (textOf x))) (Refused ShortBuffer)) (Refused OutOfRule)
+
+-- the text at the front of the page, and the rest as it was; a refused one changes nothing
+unfoldable pub pageOf : Set → List ℕ → List ℕ
+pageOf x page = cond (valid x && leb 2048 (length page)) (textOf x ++ drop (length (textOf x)) page) page

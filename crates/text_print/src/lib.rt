@@ -1,0 +1,55 @@
+// A set's readable text, put on a page.
+ghost use mathlib.Core.Path.{_≡_};
+ghost use mathlib.Core.Bool.{true};
+ghost use mathlib.Core.List.{_++_, []};
+ghost use Prim.Native.Nat.{_≤_};
+ghost use lib.ListN.{length, drop};
+ghost use Rattle.rules.specs.Streams.{valid};
+ghost use Rattle.line.specs.Held.{holding, puts};
+ghost use Rattle.text_print.specs.Listed.{lineText, textOf, listOf, pageOf};
+use line::Line;
+use rules::Refusal;
+use rules::Set;
+use rules::Stream;
+use rules::WriteAnswer;
+
+// A stream's line, with its newline.
+fn line_of(s: Stream) -> Line
+    ensures { λ r. ⌜ r ≡ puts (holding []) (lineText s) ⌝ }
+{
+    line::put(text_line::stream_line(s), b'\n')
+}
+
+// The lines of a valid set, one behind the other, on a page that has room for them.
+fn put_lines(x: Set, out: &mut [u8]) -> usize
+    requires { ⌜ (valid x ≡ true) × (2048 ≤ length (now out)) ⌝ }
+    ensures { λ r. ⌜ (r ≡ length (textOf x)) × (now (out .exit) ≡ textOf x ++ drop (length (textOf x)) (now (out .entry))) ⌝ }
+{
+    let n = x.count;
+    let mut at = 0;
+    let mut k: usize = 0;
+    while k < 16 {
+        if n <= k {
+            return at;
+        }
+        let s = x.streams[k];
+        at = page::append(out, at, line_of(s));
+        k += 1;
+    }
+    at
+}
+
+// A set's text at the front of a page, and how long it is. An invalid set is refused with 7, a page of less than 2,048 bytes, 128 for each
+// stream that a set may have, with 11; the page then stays as it is.
+pub fn print(x: Set, out: &mut [u8]) -> WriteAnswer
+    ensures { λ r. ⌜ (r ≡ listOf x (length (now (out .entry)))) × (now (out .exit) ≡ pageOf x (now (out .entry))) ⌝ }
+{
+    if stream_valid::is_valid(x) {
+        if 2048 <= out.len() {
+            let n = put_lines(x, out);
+            return WriteAnswer::Wrote(n);
+        }
+        return WriteAnswer::Refused(Refusal::ShortBuffer);
+    }
+    WriteAnswer::Refused(Refusal::OutOfRule)
+}

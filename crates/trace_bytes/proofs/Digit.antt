@@ -1,0 +1,17 @@
+-- The byte behind a p: a hex digit, or another.
+-- Assumes nothing.
+use Prim.Native.Nat.{ℕ}
+use mathlib.Core.Path.{_≡_, refl, sym, ap, _∙_}
+use mathlib.Core.Bool.{Bool, true, false}
+use Rattle.line.specs.Hex.{isHex, hexOf}
+use Rattle.trace_bytes.specs.declared.Heard.{Heard}
+use Rattle.trace_bytes.specs.declared.Heard.the-variants.{Post, Bad}
+use Rattle.trace_bytes.specs.Steps.{afterP}
+
+pub hexed : (t : Bool) (b n : ℕ) → t ≡ isHex b → t ≡ true → n ≡ hexOf b → Post n ≡ afterP b
+unfolding afterP
+hexed t b n e h f = rw (← e, h, f)
+
+pub other : (t : Bool) (b : ℕ) → t ≡ isHex b → t ≡ false → Bad ≡ afterP b
+unfolding afterP
+other t b e h = rw (← e, h)

@@ -1,0 +1,30 @@
+-- Document 01, "The trace program": what a byte of a trace asks for.
+-- Assumes nothing.
+use Prim.Native.Nat.{ℕ}
+use Prim.Native.Char.{code}
+use mathlib.Core.Bool.{Bool, cond, _||_}
+use lib.Dec.{eqb}
+use Rattle.trace_bytes.specs.declared.Heard.{Heard}
+use Rattle.trace_bytes.specs.declared.Heard.the-variants.{Skip, More, Post, Unit, Done, Bad}
+use Rattle.line.specs.Hex.{isHex, hexOf}
+
+-- "p and one lower-case hex digit posts, u is a unit, d a unit with done. Spaces and newlines between steps are skipped.
+-- Any other byte [is refused]"
+unfoldable pub betweenSteps : ℕ → Heard
+betweenSteps b =
+    cond (eqb b (code "p")) More
+    (cond (eqb b (code "u")) Unit
+    (cond (eqb b (code "d")) Done
+    (cond (eqb b (code " ") || eqb b (code "\n")) Skip Bad)))
+
+-- "or p without its digit"
+unfoldable pub afterP : ℕ → Heard
+afterP b = cond (isHex b) (Post (hexOf b)) Bad
+
+-- a byte, where a p waits for its digit and where none does
+abbrev pub heardOf : Bool → ℕ → Heard
+heardOf waiting b = cond waiting (afterP b) (betweenSteps b)
+
+-- the end of the trace
+abbrev pub endOf : Bool → Heard
+endOf waiting = cond waiting Bad Skip

@@ -1,4 +1,0 @@
-// The trace program on a sheet with a byte too many.
-fn main() {
-    trace_run::run();
-}

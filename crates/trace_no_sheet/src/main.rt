@@ -1,4 +1,0 @@
-// The trace program with no set.bin: read as no bytes.
-fn main() {
-    trace_run::run();
-}
