@@ -1,4 +1,4 @@
--- Parts of lists as loops pass over them: the places k to n, and what `all`, `scan`, `sum`, `find` and `firstLeast` are of what is left; tests that passed;
+-- Parts of lists as loops pass over them: the places k to n, and what `all`, `scan`, `sum`, `find` and `firstBy` are of what is left; tests that passed;
 -- a place taken out of a list.
 -- Assumes nothing.
 use Prim.Native.Nat.{ℕ, zero, suc, _+_, _-_, _≤_, _<_, min}
@@ -13,7 +13,7 @@ use borrow.Author.Tests.{eqb-true, eqb-false, ltb-true, ltb-false, leb-true, leb
 use lib.Dec.{ltb, leb, eqb}
 use lib.ListN.{length, getD, take, drop, set, length-take, length-append, drop-of-length-le, length-map, List·getD-eq-default}
 use lib.Seq.{drop-cons, getD-take, take-all, take-append-le}
-use Rattle.laws.specs.Lists.{every, below, all, sum, count, find, scan, remove, firstLeast}
+use Rattle.laws.specs.Lists.{every, below, all, sum, count, find, scan, remove, firstBy}
 use Rattle.laws.proofs.Sums.{and-parts, by-test}
 
 -- ---- the places k to n of a list, shut, so that its arguments are found
@@ -187,23 +187,23 @@ module _ {A : Type 0} (d : A) where
   take-remove (suc i) zero (x ∷ l) h g = absurd (omega arith)
   take-remove (suc i) (suc n) (x ∷ l) h g = ap (λ (xs : List A). x ∷ xs) (take-remove i n l (omega arith) (omega arith))
 
--- ---- the first number at which f is least
+-- ---- the first number that no other goes before
 
 pick-le : (b : Bool) (m n : ℕ) → m ≤ n → cond b n m ≤ suc n
 pick-le true m n h = omega arith
 pick-le false m n h = omega arith
 
-pub first-least-le : (f : ℕ → ℕ) (n : ℕ) → firstLeast f n ≤ n
-unfolding firstLeast
-first-least-le f zero = omega arith
-first-least-le f (suc n) = pick-le (ltb (f n) (f (firstLeast f n))) (firstLeast f n) n (first-least-le f n)
+pub first-by-le : (before : ℕ → ℕ → Bool) (n : ℕ) → firstBy before n ≤ n
+unfolding firstBy
+first-by-le before zero = omega arith
+first-by-le before (suc n) = pick-le (before n (firstBy before n)) (firstBy before n) n (first-by-le before n)
 
--- only the values below n matter
-pub first-least-same : (f g : ℕ → ℕ) (n : ℕ) → ((k : ℕ) → k < n → f k ≡ g k) → firstLeast f n ≡ firstLeast g n
-unfolding firstLeast
-first-least-same f g zero h = refl
-first-least-same f g (suc n) h =
-    rw (first-least-same f g n (λ k q. h k (omega arith)), h n (omega arith), h (firstLeast g n) (omega (arith, first-least-le g n)))
+-- only what is before what below n matters; the numbers asked about are at most n
+pub first-by-same : (before after : ℕ → ℕ → Bool) (n : ℕ) → ((j k : ℕ) → j < n → k < n → before j k ≡ after j k) → firstBy before n ≡ firstBy after n
+unfolding firstBy
+first-by-same before after zero h = refl
+first-by-same before after (suc n) h =
+    rw (first-by-same before after n (λ j k p q. h j k (omega arith) (omega arith)), h n (firstBy after n) (omega arith) (omega (arith, first-by-le after n)))
 
 -- ---- the numbers below n
 
@@ -276,34 +276,43 @@ module _ {A : Type 0} (p : A → Bool) (d : A) where
   find-within (x ∷ l) zero h e = rw e (omega arith)
   find-within (x ∷ l) (suc j) h e = by-test (p x) (λ q. rw q (omega arith)) (λ q. rw q (omega (arith, find-within l j (omega arith) e)))
 
--- ---- the first number at which f is least: it is below n, no other is less, and those before it are greater
+-- ---- the first number that no other goes before: it is below n, none goes before it, and it goes before all before it
 
-module _ (f : ℕ → ℕ) where
-  pub first-least-lt : (n : ℕ) → 0 < n → firstLeast f n < n
-  unfolding firstLeast
-  first-least-lt zero h = absurd (let z : 0 < 0 = h in omega arith)
-  first-least-lt (suc zero) h = by-test (ltb (f 0) (f 0)) (λ e. rw e (omega arith)) (λ e. rw e (omega arith))
-  first-least-lt (suc (suc n)) h =
-      by-test (ltb (f (suc n)) (f (firstLeast f (suc n)))) (λ e. rw e (omega arith)) (λ e. rw e (omega (arith, first-least-lt (suc n) (omega arith))))
+-- a strict order, but for ties
+pub record Order (before : ℕ → ℕ → Bool) : Type 0 where
+  pub irreflexive : (a : ℕ) → before a a ≡ false
+  pub transitive : (a b c : ℕ) → before a b ≡ true → before b c ≡ true → before a c ≡ true
+  pub between : (a b c : ℕ) → before a c ≡ true → before b c ≡ false → before a b ≡ true
 
-  pub first-least-least : (n k : ℕ) → k < n → f (firstLeast f n) ≤ f k
-  unfolding firstLeast
-  first-least-least zero k h = absurd (let z : k < 0 = h in omega arith)
-  first-least-least (suc n) k h =
-      by-test (ltb (f n) (f (firstLeast f n)))
-      (λ e. rw e (upto k h (λ x. omega (arith, ltb-true (f n) (f (firstLeast f n)) e, first-least-least n k x)) (omega arith)))
-      (λ e. rw e (upto k h (λ x. first-least-least n k x) (ltb-false (f n) (f (firstLeast f n)) e)))
+pub first-by-lt : (before : ℕ → ℕ → Bool) (n : ℕ) → 0 < n → firstBy before n < n
+unfolding firstBy
+first-by-lt before zero h = absurd (let z : 0 < 0 = h in omega arith)
+first-by-lt before (suc zero) h = by-test (before 0 0) (λ e. rw e (omega arith)) (λ e. rw e (omega arith))
+first-by-lt before (suc (suc n)) h =
+    by-test (before (suc n) (firstBy before (suc n))) (λ e. rw e (omega arith)) (λ e. rw e (omega (arith, first-by-lt before (suc n) (omega arith))))
+
+module _ (before : ℕ → ℕ → Bool) (o : Order before) where
+  pub first-by-none : (n k : ℕ) → k < n → before k (firstBy before n) ≡ false
+  unfolding firstBy
+  first-by-none zero k h = absurd (let z : k < 0 = h in omega arith)
+  first-by-none (suc n) k h =
+      by-test (before n (firstBy before n))
+      (λ e. rw e (upto (λ x. not-both e (first-by-none n k x)) (o .irreflexive n)))
+      (λ e. rw e (upto (λ x. first-by-none n k x) e))
     where
-      upto : {v : ℕ} (k : ℕ) → k < suc n → (k < n → v ≤ f k) → v ≤ f n → v ≤ f k
-      upto {v} k h g q = ⊎-elim (λ (x : k ≡ n). rw x q) (λ (x : k < n). g x) (eq-or-lt-of-le (omega arith))
+      upto : {c : ℕ} → (k < n → before k c ≡ false) → before n c ≡ false → before k c ≡ false
+      upto f q = ⊎-elim (λ (x : k ≡ n). rw x q) (λ (x : k < n). f x) (eq-or-lt-of-le (omega arith))
 
-  pub first-least-first : (n k : ℕ) → k < firstLeast f n → f (firstLeast f n) < f k
-  unfolding firstLeast
-  first-least-first zero k h = absurd (let z : k < 0 = h in omega arith)
-  first-least-first (suc n) k h =
-      by-test (ltb (f n) (f (firstLeast f n)))
-      (λ e. rw e (omega (arith, ltb-true (f n) (f (firstLeast f n)) e, first-least-least n k (let z : k < n = rw e at h in z))))
-      (λ e. rw e (first-least-first n k (let z : k < firstLeast f n = rw e at h in z)))
+      not-both : before n (firstBy before n) ≡ true → before k (firstBy before n) ≡ false → before k n ≡ false
+      not-both e f = by-test (before k n) (λ g. absurd (false≢true (sym f ∙ o .transitive k n (firstBy before n) g e))) (λ g. g)
+
+  pub first-by-first : (n k : ℕ) → k < firstBy before n → before (firstBy before n) k ≡ true
+  unfolding firstBy
+  first-by-first zero k h = absurd (let z : k < 0 = h in omega arith)
+  first-by-first (suc n) k h =
+      by-test (before n (firstBy before n))
+      (λ e. rw e (o .between n k (firstBy before n) e (first-by-none n k (let z : k < n = rw e at h in z))))
+      (λ e. rw e (first-by-first n k (let z : k < firstBy before n = rw e at h in z)))
 
 -- ---- how many pass
 

@@ -72,7 +72,7 @@ module _ {A B : Type 0} (p : B → A → Bool) (f : A → B) where
   scan b [] = true
   scan b (x ∷ xs) = p b x && scan (f x) xs
 
--- the first number below n at which f is least; 0 where n is 0
-unfoldable pub firstLeast : (ℕ → ℕ) → ℕ → ℕ
-firstLeast f zero = 0
-firstLeast f (suc n) = cond (ltb (f n) (f (firstLeast f n))) n (firstLeast f n)
+-- the first number below n that no other goes before; 0 where n is 0
+unfoldable pub firstBy : (ℕ → ℕ → Bool) → ℕ → ℕ
+firstBy before zero = 0
+firstBy before (suc n) = cond (before n (firstBy before n)) n (firstBy before n)

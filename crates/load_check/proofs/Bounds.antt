@@ -12,7 +12,7 @@ use Rattle.laws.specs.Lists.{below, any, top, All}
 use Rattle.laws.proofs.Sums.{all-map, all-each, all-below, length-below, sum-le, top-le, cond-le}
 use Rattle.rules.specs.declared.Stream.{Stream}
 use Rattle.rules.specs.Load.{urgent, held, blocking}
-use Rattle.rules.proofs.Valid.{ValidStream}
+use Rattle.rules.specs.Valid.{ValidStream}
 use Rattle.load_check.specs.Dues.{rowDue, dueAt, duesBelow, Sound}
 use Rattle.load_check.specs.Held.{blockingsOf}
 

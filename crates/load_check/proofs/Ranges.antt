@@ -7,9 +7,8 @@ use mathlib.Core.Path.{_≡_, subst, sym, _∙_}
 use mathlib.Core.List.{List}
 use Rattle.rules.specs.declared.Stream.{Stream}
 use Rattle.rules.specs.declared.Verdict.the-variants.{Accept, Late}
-use Rattle.rules.specs.Load.{demand, JudgedByH}
-use Rattle.rules.proofs.Finite.{lastLength}
-use Rattle.rules.proofs.Judge.{Fits, Opens, fits-one, accepts, is-late}
+use Rattle.rules.specs.Load.{demand, JudgedByH, lastLength, Opens}
+use Rattle.rules.proofs.Judge.{Fits, fits-one, accepts, is-late}
 use Rattle.load_check.specs.declared.Rows.{Rows}
 use Rattle.load_check.specs.declared.Tested.{Tested}
 use Rattle.load_check.specs.declared.Tested.the-variants.{Clear, Late as FoundLate}

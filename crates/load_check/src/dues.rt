@@ -1,7 +1,7 @@
 // A set's tuples laid out in rows, so that the loop over lengths reads plain numbers in place.
 ghost use mathlib.Core.Path.{_≡_};
 ghost use Prim.Native.Nat.{_≤_, _<_};
-ghost use Rattle.rules.proofs.Valid.{Between, ValidCycle, ValidStream, ValidSet};
+ghost use Rattle.rules.specs.Valid.{Between, ValidCycle, ValidStream, ValidSet};
 ghost use Rattle.rules.specs.Streams.{offset, streamsOf};
 ghost use Rattle.load_check.specs.Dues.{rowDue, duesBelow, rowsDue, tupleDue, streamDue, Sound, Grows, RowsOf};
 use crate::Rows;

@@ -1,7 +1,7 @@
 // The blocking of each task, and up to where it stays the same.
 ghost use mathlib.Core.Path.{_≡_};
 ghost use Prim.Native.Nat.{_+_, _≤_, _<_};
-ghost use Rattle.rules.proofs.Valid.{ValidSet};
+ghost use Rattle.rules.specs.Valid.{ValidSet};
 ghost use Rattle.rules.specs.Streams.{streamsOf};
 ghost use Rattle.rules.specs.Load.{urgent, held, blocking};
 ghost use Rattle.load_check.specs.Held.{blockingsOf, Nearer, NextDeadline};

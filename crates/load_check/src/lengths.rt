@@ -1,7 +1,7 @@
 // The testing of a range of lengths.
 ghost use mathlib.Core.Path.{_≡_};
 ghost use Prim.Native.Nat.{_≤_};
-ghost use Rattle.rules.proofs.Valid.{ValidSet};
+ghost use Rattle.rules.specs.Valid.{ValidSet};
 ghost use Rattle.rules.specs.Streams.{streamsOf};
 ghost use Rattle.load_check.specs.Dues.{Sound};
 ghost use Rattle.load_check.specs.Lengths.{Spanned, Ranged};

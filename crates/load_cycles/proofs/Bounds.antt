@@ -13,9 +13,8 @@ use Rattle.rules.specs.declared.Tuple.the-variants.{Once, Every}
 use Rattle.rules.specs.declared.TuplePlace.{TuplePlace}
 use Rattle.rules.specs.declared.Stream.{Stream}
 use Rattle.rules.specs.Streams.{tuplesOf, offsetAt}
-use Rattle.rules.specs.Load.{rateOf, rate, streamLoad}
-use Rattle.rules.proofs.Valid.{ValidPlace, ValidStream}
-use Rattle.rules.proofs.Finite.{deadlineOf, greatestDeadline, streamOffset, greatestOffset}
+use Rattle.rules.specs.Load.{rateOf, rate, streamLoad, deadlineOf, greatestDeadline, streamOffset, greatestOffset}
+use Rattle.rules.specs.Valid.{ValidPlace, ValidStream}
 
 -- what stands at a place past the end of the streams
 abbrev pub blank : Stream

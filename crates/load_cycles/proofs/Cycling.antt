@@ -18,7 +18,8 @@ use Rattle.rules.specs.declared.CountAnswer.the-variants.{Number, Refused}
 use Rattle.rules.specs.declared.Refusal.the-variants.{OutOfRule, LongCycles}
 use Rattle.rules.specs.Streams.{streamsOf, valid}
 use Rattle.rules.specs.Load.{IsH}
-use Rattle.rules.proofs.Valid.{Between, ValidStream, valid-set}
+use Rattle.rules.specs.Valid.{Between, ValidStream}
+use Rattle.rules.proofs.Valid.{valid-set}
 use Rattle.rules.proofs.Cycles.{join-every, join-once, least-is-h, hOf, h-of}
 use Rattle.rules.proofs.Verdicts.{h-unique}
 use Rattle.load_cycles.specs.declared.Joined.the-variants.{Is, Above}

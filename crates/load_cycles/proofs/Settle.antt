@@ -12,11 +12,10 @@ use Rattle.rules.specs.declared.Refusal.the-variants.{OutOfRule, LongCycles}
 use Rattle.rules.specs.declared.Verdict.{Verdict}
 use Rattle.rules.specs.declared.Verdict.the-variants.{Accept, Late, Overload, Refused}
 use Rattle.rules.specs.Streams.{streamsOf, valid}
-use Rattle.rules.specs.Load.{load, JudgedByH, VerdictOf}
+use Rattle.rules.specs.Load.{load, JudgedByH, VerdictOf, greatestDeadline, greatestOffset, lastLength, Opens}
 use Rattle.rules.proofs.Valid.{valid-set}
-use Rattle.rules.proofs.Finite.{greatestDeadline, greatestOffset, lastLength}
 use Rattle.rules.proofs.Cycles.{least-is-h}
-use Rattle.rules.proofs.Judge.{Opens, overloads, too-long}
+use Rattle.rules.proofs.Judge.{overloads, too-long}
 use Rattle.rules.proofs.Verdicts.{h-unique, verdict-unique}
 use Rattle.load_cycles.specs.declared.Joined.{Joined}
 use Rattle.load_cycles.specs.declared.Joined.the-variants.{Is, Above}

@@ -7,9 +7,7 @@ use Rattle.rules.specs.declared.Set.{Set}
 use Rattle.rules.specs.declared.Verdict.{Verdict}
 use Rattle.rules.specs.declared.Verdict.the-variants.{Accept, Late, Overload, Refused}
 use Rattle.rules.specs.Streams.{streamsOf, valid}
-use Rattle.rules.specs.Load.{VerdictOf}
-use Rattle.rules.proofs.Finite.{lastLength}
-use Rattle.rules.proofs.Judge.{Opens}
+use Rattle.rules.specs.Load.{VerdictOf, lastLength, Opens}
 use Rattle.load_cycles.specs.declared.Opening.{Opening}
 use Rattle.load_cycles.specs.declared.Opening.the-variants.{Stops, Until}
 

@@ -1,8 +1,8 @@
 // The greatest deadline and offset, and the end of the lengths to test.
 ghost use mathlib.Core.Path.{_≡_};
 ghost use Prim.Native.Nat.{_+_, _≤_};
-ghost use Rattle.rules.proofs.Valid.{ValidStream, ValidSet};
-ghost use Rattle.rules.proofs.Finite.{greatestDeadline, streamOffset, greatestOffset};
+ghost use Rattle.rules.specs.Valid.{ValidStream, ValidSet};
+ghost use Rattle.rules.specs.Load.{greatestDeadline, streamOffset, greatestOffset};
 ghost use Rattle.rules.specs.Streams.{streamsOf};
 use crate::larger;
 use rules::Set;

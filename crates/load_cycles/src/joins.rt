@@ -1,7 +1,7 @@
 // The least common multiple of the cycles, and the long-run load.
 ghost use mathlib.Core.Path.{_≡_};
 ghost use Prim.Native.Nat.{_*_, _≤_};
-ghost use Rattle.rules.proofs.Valid.{Between, ValidCycle, ValidPlace, ValidStream, ValidSet};
+ghost use Rattle.rules.specs.Valid.{Between, ValidCycle, ValidPlace, ValidStream, ValidSet};
 ghost use Rattle.rules.specs.Streams.{streamsOf};
 ghost use Rattle.rules.specs.Load.{rateOf, streamLoad, load};
 ghost use Rattle.load_cycles.specs.Cycles.{CycleOf, CyclesOf, CommonOf, JoinedBy};

@@ -11,7 +11,8 @@ use Rattle.laws.proofs.Sums.{all-take-at}
 use Rattle.rules.specs.declared.Set.{Set}
 use Rattle.rules.specs.declared.Stream.{Stream}
 use Rattle.rules.specs.Streams.{Placed, noStream, streamsOf, streamAt, valid}
-use Rattle.rules.proofs.Valid.{ValidStream, valid-set}
+use Rattle.rules.specs.Valid.{ValidStream}
+use Rattle.rules.proofs.Valid.{valid-set}
 
 module _ (S : Set) (placed : Placed S) (ok : valid S ≡ true) where
   pub streams-length : length (streamsOf S) ≡ S .count

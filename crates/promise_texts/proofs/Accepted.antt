@@ -18,7 +18,7 @@ use Rattle.rules.specs.declared.TuplePlace.{TuplePlace}
 use Rattle.rules.specs.declared.Stream.{Stream}
 use Rattle.rules.specs.Streams.{offset, offsetAt}
 use Rattle.rules.specs.Sheet.{streamOf, setOf}
-use Rattle.rules.proofs.Valid.{Between, ValidCycle, ValidPlace}
+use Rattle.rules.specs.Valid.{Between, ValidCycle, ValidPlace}
 use Rattle.sheet_read.proofs.Filled.{cond-elim}
 use Rattle.sheet_write.proofs.Back.{Chain}
 use Rattle.sheet_write.proofs.Accepted.{GoodStream, stream-four, stream-ok, set-ok, set-placed}

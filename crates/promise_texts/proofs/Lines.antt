@@ -17,7 +17,8 @@ use Rattle.rules.specs.declared.TuplePlace.{TuplePlace}
 use Rattle.rules.specs.declared.Stream.{Stream}
 use Rattle.rules.specs.Streams.{FourTuples, noTuple, offset, offsetAt, cycleOk, tuplesOf, tupleOk, tuplesOk, streamOk}
 use Rattle.rules.specs.Sheet.{streamOf}
-use Rattle.rules.proofs.Valid.{ValidCycle, ValidPlace, ValidStream, FirstZero, valid-place, valid-stream}
+use Rattle.rules.specs.Valid.{ValidCycle, ValidPlace, ValidStream, FirstZero}
+use Rattle.rules.proofs.Valid.{valid-place, valid-stream}
 use Rattle.sheet_write.proofs.Whole.{stream-holds, whole-stream}
 use Rattle.line.specs.Decimal.{letters, decimalOf}
 use Rattle.console_names.specs.Rows.{same}

@@ -19,7 +19,8 @@ use Rattle.rules.specs.declared.ReadAnswer.{ReadAnswer}
 use Rattle.rules.specs.declared.ReadAnswer.the-variants.{Read}
 use Rattle.rules.specs.Streams.{FourTuples, Placed, streamsOf, streamOk, valid}
 use Rattle.rules.specs.Sheet.{setOf, sheetOf, readOf}
-use Rattle.rules.proofs.Valid.{ValidSet, valid-set, streams-few}
+use Rattle.rules.specs.Valid.{ValidSet}
+use Rattle.rules.proofs.Valid.{valid-set, streams-few}
 use Rattle.sheet_write.proofs.Whole.{set-holds, whole-set}
 use Rattle.sheet_write.proofs.Back.{read-back}
 use Rattle.sheet_write.proofs.Rounds.{SheetOf, read-exactly}

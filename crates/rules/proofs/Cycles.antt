@@ -14,7 +14,7 @@ use Rattle.rules.specs.declared.TuplePlace.{TuplePlace}
 use Rattle.rules.specs.declared.Stream.{Stream}
 use Rattle.rules.specs.Streams.{tuplesOf}
 use Rattle.rules.specs.Load.{CycleIn, PlaceIn, CyclesIn, Common, IsH}
-use Rattle.rules.proofs.Valid.{ValidCycle, ValidPlace, ValidStream}
+use Rattle.rules.specs.Valid.{ValidCycle, ValidPlace, ValidStream}
 
 -- a multiple of a multiple of the cycles is one
 cycle-up : (m n : ℕ) (t : Tuple) → m ∣ n → CycleIn m t → CycleIn n t

@@ -8,14 +8,14 @@ use Rattle.rules.specs.declared.Tuple.the-variants.{Once, Every}
 use Rattle.rules.specs.declared.TuplePlace.{TuplePlace}
 use Rattle.rules.specs.declared.Stream.{Stream}
 use Rattle.rules.specs.declared.Set.{Set}
-use Rattle.laws.specs.Lists.{all, any, sum, top, count, find, remove, flat, scan, firstLeast}
+use Rattle.laws.specs.Lists.{all, any, sum, top, count, find, remove, flat, scan, firstBy}
 use Rattle.laws.specs.Bits.{toBits, onto, bits, bytes, pack}
 use Rattle.rules.specs.Streams.{tupleOk, tuplesOk, tupleUnused, streamOk, streamUnused, valid, events, limit, limitOf, jitterOk, jitterOf}
 use Rattle.rules.specs.States.{messageOk, messagesOk, startedOnce, messageUnused, wellFormed}
-use Rattle.rules.specs.Steps.{startOf, postOf, taskDeadline, runningTask, startedAt, urgentAt, servedAt, placeOf, chooseOf, laxityOf, servedOf, emptyUnit, unitOf}
-use Rattle.rules.specs.Load.{due, blocking, demand, demandOf, streamLoad, load}
+use Rattle.rules.specs.Steps.{startOf, postOf, taskDeadline, ahead, runningTask, startedAt, urgentAt, servedAt, placeOf, chooseOf, laxityOf, servedOf, emptyUnit, unitOf, callOf}
+use Rattle.rules.specs.Load.{costIn, due, has, blocksFor, blocking, demand, demandOf, streamLoad, load}
 use Rattle.rules.specs.Sheet.{streamOf, setOf, streamBits, sheetBits, sheetOf, readEnd, readTuples, readStream, readStreams, readBits, readOf, writeOf, bufferOf}
-use Rattle.rules.specs.Runs.{stepOf, begin, runFrom, runOf, answersFrom, answersOf}
+use Rattle.rules.specs.Runs.{acceptedOf, departuresOf, stepOf, begin, runFrom, runOf, stepsFrom, stepsOf, answersOf, missedNow, missedFrom, missedIn}
 
 -- a stream with one tuple
 abbrev pub stream : ℕ → ℕ → ℕ → Tuple → Stream
@@ -31,5 +31,5 @@ setB = setOf (stream 0 2 5 (each 20) ∷ stream 0 4 20 (each 20) ∷ stream 1 2 
 
 -- An example is computed: to unfold `computed` is to unfold every definition that it goes through.
 unfoldable pub computed : ℕ
-unfolding all any sum top count find remove flat scan firstLeast toBits onto bits bytes pack tupleOk tuplesOk tupleUnused streamOk streamUnused valid events limit limitOf jitterOk jitterOf messageOk messagesOk startedOnce messageUnused wellFormed startOf postOf taskDeadline runningTask startedAt urgentAt servedAt placeOf chooseOf laxityOf servedOf emptyUnit unitOf due blocking demand demandOf streamLoad load streamBits sheetBits sheetOf readEnd readTuples readStream readStreams readBits readOf writeOf bufferOf stepOf begin runFrom runOf answersFrom answersOf
+unfolding all any sum top count find remove flat scan firstBy toBits onto bits bytes pack tupleOk tuplesOk tupleUnused streamOk streamUnused valid events limit limitOf jitterOk jitterOf messageOk messagesOk startedOnce messageUnused wellFormed startOf postOf taskDeadline ahead runningTask startedAt urgentAt servedAt placeOf chooseOf laxityOf servedOf emptyUnit unitOf callOf costIn due has blocksFor blocking demand demandOf streamLoad load streamBits sheetBits sheetOf readEnd readTuples readStream readStreams readBits readOf writeOf bufferOf acceptedOf departuresOf stepOf begin runFrom runOf stepsFrom stepsOf answersOf missedNow missedFrom missedIn
 computed = 0

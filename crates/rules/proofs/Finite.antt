@@ -16,27 +16,8 @@ use Rattle.rules.specs.declared.Tuple.the-variants.{Once, Every}
 use Rattle.rules.specs.declared.TuplePlace.{TuplePlace}
 use Rattle.rules.specs.declared.Stream.{Stream}
 use Rattle.rules.specs.Streams.{tuplesOf, offset, offsetAt, eventsOf, events, limit}
-use Rattle.rules.specs.Load.{due, urgent, held, blocking, demand, CycleIn, PlaceIn, CyclesIn, Common, rateOf, rate, streamLoad, load}
-use Rattle.rules.proofs.Valid.{ValidPlace, ValidCycle, ValidStream}
-
--- ---- how far there is to test
-
-abbrev pub deadlineOf : Stream → ℕ
-deadlineOf s = s .deadline
-
--- the greatest deadline, and the greatest offset, of a stream and of streams; 0 where there is none
-unfoldable pub greatestDeadline : List Stream → ℕ
-greatestDeadline ss = top deadlineOf ss
-
-unfoldable pub streamOffset : Stream → ℕ
-streamOffset s = top offsetAt (tuplesOf s)
-
-unfoldable pub greatestOffset : List Stream → ℕ
-greatestOffset ss = top streamOffset ss
-
--- the last length that has to be tested
-unfoldable pub lastLength : List Stream → ℕ → ℕ
-lastLength ss h = h + greatestDeadline ss + greatestOffset ss
+use Rattle.rules.specs.Load.{costIn, due, has, urgent, blocksFor, blocks, blocking, demand, CycleIn, PlaceIn, CyclesIn, Common, rateOf, rate, streamLoad, load, deadlineOf, greatestDeadline, streamOffset, greatestOffset, lastLength}
+use Rattle.rules.specs.Valid.{ValidPlace, ValidCycle, ValidStream}
 
 -- ---- one H more
 
@@ -80,10 +61,10 @@ pub due-more : (h i : ℕ) (s : Stream) → ValidStream s → CyclesIn h s → s
 unfolding due streamLoad
 due-more h i s v d le =
     let e : i + h - s .deadline ≡ (i - s .deadline) + h = omega arith in
-    let q : s .cost * limit s (i + h - s .deadline) ≡ s .cost * limit s (i - s .deadline) + sum (rate h (s .cost)) (tuplesOf s) =
-    ap (λ (n : ℕ). s .cost * limit s n) e ∙ ap (λ (n : ℕ). s .cost * n) (limit-more h (i - s .deadline) s v d (omega arith))
-    ∙ mul-add (s .cost) (limit s (i - s .deadline)) (sum (rateAt h) (tuplesOf s))
-    ∙ ap (λ (n : ℕ). s .cost * limit s (i - s .deadline) + n) (sum-mul (s .cost) (rateAt h) (tuplesOf s)) in
+    let q : costIn s * limit s (i + h - s .deadline) ≡ costIn s * limit s (i - s .deadline) + sum (rate h (costIn s)) (tuplesOf s) =
+    ap (λ (n : ℕ). costIn s * limit s n) e ∙ ap (λ (n : ℕ). costIn s * n) (limit-more h (i - s .deadline) s v d (omega arith))
+    ∙ mul-add (costIn s) (limit s (i - s .deadline)) (sum (rateAt h) (tuplesOf s))
+    ∙ ap (λ (n : ℕ). costIn s * limit s (i - s .deadline) + n) (sum-mul (costIn s) (rateAt h) (tuplesOf s)) in
     simp (le-leb (s .deadline) (i + h) (omega arith), le-leb (s .deadline) i (omega arith)) q
 
 -- a stream with what is known of it
@@ -114,16 +95,16 @@ dues-more ss h i v d le =
 
 -- ---- blocking
 
--- a stream whose deadline is not above i holds up no task
-held-none : (t i : ℕ) (s : Stream) → s .deadline ≤ i → held t i s ≡ 0
-held-none t i s le = simp (le-leb (s .deadline) i le) (cond-zero (eqb (s .task) t) 0 refl)
+-- a stream whose deadline is not above i blocks no task
+blocks-none : (t i : ℕ) (s : Stream) → s .deadline ≤ i → blocks t i s ≡ 0
+blocks-none t i s le = simp (le-leb (s .deadline) i le)
 
 -- from the greatest deadline on, no task is blocked
 pub blocking-none : (ss : List Stream) (i t : ℕ) → greatestDeadline ss ≤ i → blocking ss i t ≡ 0
 unfolding blocking greatestDeadline
 blocking-none ss i t le =
-    cond-zero (any (urgent t i) ss) (top (held t i) ss)
-    (top-zero (held t i) ss (all-map (λ s. s .deadline ≤ i) (λ s. held t i s ≡ 0) ss (held-none t i) (top-each deadlineOf i ss le)))
+    cond-zero (any (urgent t i) ss) (top (blocks t i) ss)
+    (top-zero (blocks t i) ss (all-map (λ s. s .deadline ≤ i) (λ s. blocks t i s ≡ 0) ss (blocks-none t i) (top-each deadlineOf i ss le)))
 
 pub blockings-none : (ss : List Stream) (i : ℕ) (ts : List ℕ) → greatestDeadline ss ≤ i → sum (blocking ss i) ts ≡ 0
 blockings-none ss i ts le = sum-zero (blocking ss i) ts (all-each (λ t. blocking ss i t ≡ 0) ts (λ t. blocking-none ss i t le))
@@ -143,7 +124,7 @@ unfolding due
 due-zero s v = simp (lt-leb (s .deadline) 0 (v .deadline .low))
 
 not-urgent : (t : ℕ) (s : Stream) → ValidStream s → urgent t 0 s ≡ false
-not-urgent t s v = and-no (eqb (s .task) t) (leb (s .deadline) 0) (lt-leb (s .deadline) 0 (v .deadline .low))
+not-urgent t s v = and-no (has t s) (leb (s .deadline) 0) (lt-leb (s .deadline) 0 (v .deadline .low))
 
 blocking-zero : (ss : List Stream) (t : ℕ) → All ValidStream ss → blocking ss 0 t ≡ 0
 unfolding blocking

@@ -15,9 +15,10 @@ use Rattle.rules.specs.declared.Refusal.the-variants.{OutOfRule, LongCyc
 use Rattle.rules.specs.declared.Verdict.{Verdict}
 use Rattle.rules.specs.declared.Verdict.the-variants.{Accept, Late, Overload, Refused}
 use Rattle.rules.specs.Streams.{streamsOf, valid}
-use Rattle.rules.specs.Load.{Common, IsH, load, demand, JudgedByH, VerdictIf, VerdictOf}
-use Rattle.rules.proofs.Valid.{ValidStream, valid-set}
-use Rattle.rules.proofs.Finite.{lastLength, demand-zero, finite}
+use Rattle.rules.specs.Load.{Common, IsH, load, demand, lastLength, longestH, Opens, JudgedByH, VerdictIf, VerdictOf}
+use Rattle.rules.specs.Valid.{ValidStream}
+use Rattle.rules.proofs.Valid.{valid-set}
+use Rattle.rules.proofs.Finite.{demand-zero, finite}
 use Rattle.rules.proofs.Cycles.{hOf, h-of}
 
 -- ---- what testing shows
@@ -36,13 +37,6 @@ fits-more ss i f p j y =
     same : ¬ (j < i) → i ≡ j
     same n = omega arith
 
--- the streams of a set that the opening lets through: H is h, not long, and the load is not above it
-pub record Opens (ss : List Stream) (h : ℕ) : Type 0 where
-  pub streams : All ValidStream ss
-  pub is-h : IsH ss h
-  pub short : h ≤ 1000000
-  pub light : load ss h ≤ h
-
 module _ (ss : List Stream) (h : ℕ) (o : Opens ss h) where
   pub accepts : Fits ss (lastLength ss h + 1) → JudgedByH ss Accept
   accepts f =
@@ -60,10 +54,10 @@ module _ (ss : List Stream) (h : ℕ) (o : Opens ss h) where
   is-late i f above =
       record { h = h; is-h = o .is-h; judged = record { short = o .short; light = o .light; that = refl; above = omega arith; least = f } }
 
-pub overloads : (ss : List Stream) (h : ℕ) → IsH ss h → h ≤ 1000000 → h < load ss h → JudgedByH ss Overload
+pub overloads : (ss : List Stream) (h : ℕ) → IsH ss h → h ≤ longestH → h < load ss h → JudgedByH ss Overload
 overloads ss h y le heavy = record { h = h; is-h = y; judged = record { short = le; heavy = omega arith } }
 
-pub too-long : (ss : List Stream) → All ValidStream ss → ((m : ℕ) → 0 < m → Common m ss → 1000000 < m) → JudgedByH ss (Refused LongCycles)
+pub too-long : (ss : List Stream) → All ValidStream ss → ((m : ℕ) → 0 < m → Common m ss → longestH < m) → JudgedByH ss (Refused LongCycles)
 too-long ss v f =
     let y : IsH ss (hOf ss) = h-of ss v in
     record { h = hOf ss; is-h = y; judged = record { number = refl; long = f (hOf ss) (y .positive) (y .common) } }
@@ -77,7 +71,7 @@ judgeFrom ss (suc n) i = cond (leb (demand ss i) i) (judgeFrom ss n (suc i)) (La
 
 unfoldable pub judgeBy : List Stream → ℕ → Verdict
 judgeBy ss h =
-    cond (leb h 1000000) (cond (leb (load ss h) h) (judgeFrom ss (lastLength ss h) 1) Overload) (Refused LongCycles)
+    cond (leb h longestH) (cond (leb (load ss h) h) (judgeFrom ss (lastLength ss h) 1) Overload) (Refused LongCycles)
 
 unfoldable pub judge : Set → Verdict
 judge x = cond (valid x) (judgeBy (streamsOf x) (hOf (streamsOf x))) (Refused OutOfRule)
@@ -93,7 +87,7 @@ judge-from ss h o (suc n) i e f =
     go true q r = r (leb-true _ _ q)
     go false q r = is-late ss h o i f (leb-false _ _ q)
 
-judge-light : (ss : List Stream) (h : ℕ) → All ValidStream ss → IsH ss h → h ≤ 1000000 → (b : Bool) → leb (load ss h) h ≡ b
+judge-light : (ss : List Stream) (h : ℕ) → All ValidStream ss → IsH ss h → h ≤ longestH → (b : Bool) → leb (load ss h) h ≡ b
     → JudgedByH ss (cond b (judgeFrom ss (lastLength ss h) 1) Overload)
 judge-light ss h v y le true e =
     judge-from ss h (record { streams = v; is-h = y; short = le; light = leb-true _ _ e }) (lastLength ss h) 1 (omega arith) (fits-one ss v)
@@ -101,9 +95,9 @@ judge-light ss h v y le false e = overloads ss h y le (leb-false _ _ e)
 
 judge-by : (ss : List Stream) (h : ℕ) → All ValidStream ss → IsH ss h → JudgedByH ss (judgeBy ss h)
 unfolding judgeBy
-judge-by ss h v y = go (leb h 1000000) refl
+judge-by ss h v y = go (leb h longestH) refl
   where
-    go : (b : Bool) → leb h 1000000 ≡ b
+    go : (b : Bool) → leb h longestH ≡ b
         → JudgedByH ss (cond b (cond (leb (load ss h) h) (judgeFrom ss (lastLength ss h) 1) Overload) (Refused LongCycles))
     go true e = judge-light ss h v y (leb-true _ _ e) (leb (load ss h) h) refl
     go false e = record { h = h; is-h = y; judged = record { number = refl; long = leb-false _ _ e } }

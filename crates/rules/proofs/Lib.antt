@@ -1,6 +1,7 @@
 -- Theorems about the definitions. Assumes nothing.
 pub mod Examples
 pub mod Valid
+pub mod Stages
 pub mod Finite
 pub mod Cycles
 pub mod Judge

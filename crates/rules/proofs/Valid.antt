@@ -15,41 +15,8 @@ use Rattle.rules.specs.declared.Tuple.the-variants.{Once, Every}
 use Rattle.rules.specs.declared.TuplePlace.{TuplePlace}
 use Rattle.rules.specs.declared.Stream.{Stream}
 use Rattle.rules.specs.declared.Set.{Set}
+use Rattle.rules.specs.Valid.{Between, ValidCycle, ValidPlace, FirstZero, ValidStream, ValidSet}
 use Rattle.rules.specs.Streams.{noTuple, tuplesOf, streamsOf, offset, offsetAt, cycleOk, tupleOk, tuplesOk, tupleUnused, streamTests, streamOk, streamUnused, setTests, valid}
-
--- from a to b
-pub record Between (a x b : ℕ) : Type 0 where
-  pub low : a ≤ x
-  pub high : x ≤ b
-
-abbrev pub ValidCycle : Tuple → Type 0
-ValidCycle (Once a) = Unit {0}
-ValidCycle (Every z a) = Between 1 z 1000000
-
-pub record ValidPlace (p : TuplePlace) : Type 0 where
-  pub offset : offsetAt p ≤ 100000
-  pub cycle : ValidCycle (p .tuple)
-
--- the first offset is 0
-abbrev pub FirstZero : List TuplePlace → Type 0
-FirstZero [] = Unit {0}
-FirstZero (p ∷ ps) = offsetAt p ≡ 0
-
--- `order` and `unused` are the tests themselves: offsets never fall, unused tuples are once at 0
-pub record ValidStream (s : Stream) : Type 0 where
-  pub task : s .task ≤ 15
-  pub cost : Between 1 (s .cost) 65535
-  pub deadline : Between 1 (s .deadline) 200000
-  pub count : Between 1 (s .count) 4
-  pub tuples : All ValidPlace (tuplesOf s)
-  pub first : FirstZero (tuplesOf s)
-  pub order : tuplesOk (tuplesOf s) ≡ true
-  pub unused : all tupleUnused (drop (s .count) (s .tuples)) ≡ true
-
-pub record ValidSet (x : Set) : Type 0 where
-  pub count : x .count ≤ 16
-  pub streams : All ValidStream (streamsOf x)
-  pub unused : all streamUnused (drop (x .count) (x .streams)) ≡ true
 
 between : (a x b : ℕ) → within a x b ≡ true → Between a x b
 between a x b e =

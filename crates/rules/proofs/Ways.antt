@@ -12,19 +12,20 @@ use Rattle.rules.specs.declared.Set.{Set}
 use Rattle.rules.specs.Streams.{streamAt, streamsOf, limit}
 use Rattle.rules.specs.Load.{demand}
 use Rattle.rules.specs.Sheet.{setOf}
-use Rattle.rules.specs.Runs.{Call, posts, units, Accepted, inWindow, answersOf}
+use Rattle.rules.specs.declared.Call.the-variants.{Posts, Units}
+use Rattle.rules.specs.Runs.{Accepted, inWindow, answersOf, missedIn}
 use Rattle.rules.specs.Numbers.{Says, posted, ran, done, cut, idle, refused}
 use Rattle.rules.proofs.Examples.{setB, stream, each, computed}
 
 -- "Messages of a task served in order of arrival: the March fault." "Taking a message before its first unit."
 -- The urgent message comes last, and is served first.
-pub march : answersOf setB (posts 1 ∷ posts 0 ∷ units false ∷ []) ≡ (posted 1 20 ∷ posted 0 5 ∷ ran 0 0 ∷ [])
+pub march : answersOf setB (Posts 1 ∷ Posts 0 ∷ Units false ∷ []) ≡ (posted 1 20 ∷ posted 0 5 ∷ ran 0 0 ∷ [])
 unfolding computed
 march = refl
 
 -- "A started message put back when a more urgent one comes. It runs on, under the shorter deadline": before task 1, whose deadline is 8.
 pub runs-on :
-    answersOf setB (posts 1 ∷ units false ∷ posts 0 ∷ posts 2 ∷ units true ∷ []) ≡ (posted 1 20 ∷ ran 0 1 ∷ posted 0 6 ∷ posted 2 9 ∷ done 0 1 (pos 18) ∷ [])
+    answersOf setB (Posts 1 ∷ Units false ∷ Posts 0 ∷ Posts 2 ∷ Units true ∷ []) ≡ (posted 1 20 ∷ ran 0 1 ∷ posted 0 6 ∷ posted 2 9 ∷ done 0 1 (pos 18) ∷ [])
 unfolding computed
 runs-on = refl
 
@@ -33,7 +34,7 @@ abbrev ties : Set
 ties = setOf (stream 7 3 9 (Once 0) ∷ stream 5 2 9 (Once 0) ∷ stream 5 3 9 (Once 0) ∷ [])
 
 -- "on a tie, the lowest task number"; "on a tie the earliest posted"
-pub tied : answersOf ties (posts 0 ∷ posts 2 ∷ posts 1 ∷ units true ∷ units true ∷ units true ∷ [])
+pub tied : answersOf ties (Posts 0 ∷ Posts 2 ∷ Posts 1 ∷ Units true ∷ Units true ∷ Units true ∷ [])
     ≡ (posted 0 9 ∷ posted 2 9 ∷ posted 1 9 ∷ done 5 2 (pos 8) ∷ done 5 1 (pos 7) ∷ done 7 0 (pos 6) ∷ [])
 unfolding computed
 tied = refl
@@ -42,10 +43,15 @@ tied = refl
 abbrev short : Set
 short = setOf (stream 0 2 2 (each 2) ∷ [])
 
-pub cut-at-cost : answersOf short (posts 0 ∷ posts 0 ∷ units false ∷ units false ∷ units false ∷ units true ∷ units false ∷ units true ∷ [])
+pub cut-at-cost : answersOf short (Posts 0 ∷ Posts 0 ∷ Units false ∷ Units false ∷ Units false ∷ Units true ∷ Units false ∷ Units true ∷ [])
     ≡ (posted 0 2 ∷ posted 0 2 ∷ ran 0 0 ∷ cut 0 0 (pos 0) ∷ ran 0 0 ∷ done 0 0 (negsuc 1) ∷ idle ∷ refused 4 ∷ [])
 unfolding computed
 cut-at-cost = refl
+
+-- its second message is still pending when the clock is at its deadline, 2: missed at that moment, and not before
+pub missed-late : (missedIn short (Posts 0 ∷ Posts 0 ∷ Units false ∷ []) ∷ missedIn short (Posts 0 ∷ Posts 0 ∷ Units false ∷ Units false ∷ []) ∷ []) ≡ (false ∷ true ∷ [])
+unfolding computed
+missed-late = refl
 
 -- "the accepted posts at clocks x to x + I, both ends counted"
 abbrev twenty : List Accepted

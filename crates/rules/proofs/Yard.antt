@@ -16,12 +16,12 @@ use Rattle.rules.specs.declared.ReadResult.{ReadResult}
 use Rattle.rules.specs.declared.CountAnswer.the-variants.{Number}
 use Rattle.rules.specs.declared.Verdict.{Verdict}
 use Rattle.rules.specs.Streams.{noTuple, emptySet, streamsOf}
-use Rattle.rules.specs.Load.{demand, demandOf, VerdictOf}
+use Rattle.rules.specs.Load.{demand, demandOf, greatestDeadline, streamOffset, greatestOffset, lastLength, VerdictOf}
 use Rattle.rules.specs.Sheet.{setOf, sheetOf, readOf}
 use Rattle.rules.specs.Numbers.{Says, countSays, gives, verdictSays, readSays, accept, late, overload, refused}
 use Rattle.rules.proofs.Examples.{stream, each, setB, computed}
 use Rattle.rules.proofs.Valid.{valid-set}
-use Rattle.rules.proofs.Finite.{greatestDeadline, streamOffset, greatestOffset, lastLength, demand-more}
+use Rattle.rules.proofs.Finite.{demand-more}
 use Rattle.rules.proofs.Cycles.{hOf}
 use Rattle.rules.proofs.Judge.{judgeFrom, judgeBy, judge, judge-right}
 

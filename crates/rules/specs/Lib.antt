@@ -1,4 +1,5 @@
 pub mod Streams
+pub mod Valid
 pub mod States
 pub mod Steps
 pub mod Load

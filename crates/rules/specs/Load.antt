@@ -17,25 +17,47 @@ use Rattle.rules.specs.declared.CountAnswer.{CountAnswer}
 use Rattle.rules.specs.declared.CountAnswer.the-variants.{Number, Refused as CountRefused}
 use Rattle.rules.specs.declared.Verdict.{Verdict}
 use Rattle.rules.specs.declared.Verdict.the-variants.{Accept, Late, Overload, Refused}
-use Rattle.rules.specs.Streams.{tuplesOf, streamsOf, limit, valid}
+use Rattle.rules.specs.Streams.{Stage, stagesOf, tuplesOf, streamsOf, offsetAt, limit, valid}
+use Rattle.rules.specs.Valid.{ValidStream}
 
 -- ---- demand
 
+-- c, the cost of a stream: of all its stages
+abbrev pub stageCost : Stage → ℕ
+stageCost g = g .cost
+
+unfoldable pub costIn : Stream → ℕ
+costIn s = sum stageCost (stagesOf s)
+
 -- "the sum over streams with d not above I of c times E(I - d)": what one stream adds
 unfoldable pub due : ℕ → Stream → ℕ
-due i s = cond (leb (s .deadline) i) (s .cost * limit s (i - s .deadline)) 0
+due i s = cond (leb (s .deadline) i) (costIn s * limit s (i - s .deadline)) 0
+
+-- a stage on the task t; that a stream has one: the task has that stream
+abbrev pub onTask : ℕ → Stage → Bool
+onTask t g = eqb (g .task) t
+
+unfoldable pub has : ℕ → Stream → Bool
+has t s = any (onTask t) (stagesOf s)
 
 -- "a stream with d not above I" of the task t
 abbrev pub urgent : ℕ → ℕ → Stream → Bool
-urgent t i s = eqb (s .task) t && leb (s .deadline) i
+urgent t i s = has t s && leb (s .deadline) i
+
+-- "c - 1" of a stage on the task t; the largest of a stream
+abbrev pub lessOne : ℕ → Stage → ℕ
+lessOne t g = cond (onTask t g) (g .cost - 1) 0
+
+unfoldable pub blocksFor : ℕ → Stream → ℕ
+blocksFor t s = top (lessOne t) (stagesOf s)
 
 -- "c - 1 among its streams with d above I"
-abbrev pub held : ℕ → ℕ → Stream → ℕ
-held t i s = cond (eqb (s .task) t) (cond (leb (s .deadline) i) 0 (s .cost - 1)) 0
+abbrev pub blocks : ℕ → ℕ → Stream → ℕ
+blocks t i s = cond (leb (s .deadline) i) 0 (blocksFor t s)
 
 -- "The blocking of a task is 0 unless it has a stream with d not above I; then it is the largest c - 1 among its streams with d above I, or 0 if there are none."
 unfoldable pub blocking : List Stream → ℕ → ℕ → ℕ
-blocking ss i t = cond (any (urgent t i) ss) (top (held t i) ss) 0
+blocking ss i t = cond (any (urgent t i) ss) (top (blocks t i) ss) 0
 
 -- "Demand(I), for I of 0 or more, is the sum over streams .., plus the blocking of each task."
 unfoldable pub demand : List Stream → ℕ → ℕ
@@ -76,35 +98,65 @@ abbrev pub rate : ℕ → ℕ → TuplePlace → ℕ
 rate h c p = c * rateOf h (p .tuple)
 
 unfoldable pub streamLoad : ℕ → Stream → ℕ
-streamLoad h s = sum (rate h (s .cost)) (tuplesOf s)
+streamLoad h s = sum (rate h (costIn s)) (tuplesOf s)
 
 -- "Long-run load is the sum of c times H / z over the cyclic tuples."
 unfoldable pub load : List Stream → ℕ → ℕ
 load ss h = sum (streamLoad h) ss
 
+-- ---- how far there is to test
+
+abbrev pub deadlineOf : Stream → ℕ
+deadlineOf s = s .deadline
+
+-- the greatest deadline, and the greatest offset, of a stream and of streams; 0 where there is none
+unfoldable pub greatestDeadline : List Stream → ℕ
+greatestDeadline ss = top deadlineOf ss
+
+unfoldable pub streamOffset : Stream → ℕ
+streamOffset s = top offsetAt (tuplesOf s)
+
+unfoldable pub greatestOffset : List Stream → ℕ
+greatestOffset ss = top streamOffset ss
+
+-- the last length that has to be tested: H, the greatest deadline and the greatest offset together
+unfoldable pub lastLength : List Stream → ℕ → ℕ
+lastLength ss h = h + greatestDeadline ss + greatestOffset ss
+
 -- ---- the verdict
+
+-- "8 exactly if H is above 1,000,000"
+abbrev pub longestH : ℕ
+longestH = 1000000
 
 -- "Verdicts, in this order: ..; 8 exactly if H is above 1,000,000; overload if long-run load is above H;
 -- late, with the least I where demand(I) is above I and that demand; accept." "Accept speaks of every I, not of those tested."
 pub record Accepts (ss : List Stream) (h : ℕ) : Type 0 where
-  pub short : h ≤ 1000000
+  pub short : h ≤ longestH
   pub light : load ss h ≤ h
   pub fits : (i : ℕ) → demand ss i ≤ i
 
 pub record IsLate (ss : List Stream) (h i w : ℕ) : Type 0 where
-  pub short : h ≤ 1000000
+  pub short : h ≤ longestH
   pub light : load ss h ≤ h
   pub that : w ≡ demand ss i
   pub above : i < demand ss i
   pub least : (j : ℕ) → j < i → demand ss j ≤ j
 
 pub record Overloads (ss : List Stream) (h : ℕ) : Type 0 where
-  pub short : h ≤ 1000000
+  pub short : h ≤ longestH
   pub heavy : h < load ss h
 
 pub record TooLong (h : ℕ) (why : Refusal) : Type 0 where
   pub number : why ≡ LongCycles
-  pub long : 1000000 < h
+  pub long : longestH < h
+
+-- the streams of a valid set that no verdict stops before any length: H is h, not long, and the load is not above it
+pub record Opens (ss : List Stream) (h : ℕ) : Type 0 where
+  pub streams : All ValidStream ss
+  pub is-h : IsH ss h
+  pub short : h ≤ longestH
+  pub light : load ss h ≤ h
 
 -- the verdict on the streams of a valid set whose H is h
 abbrev pub Judged : List Stream → ℕ → Verdict → Type 0

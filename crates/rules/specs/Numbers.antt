@@ -13,6 +13,8 @@ use Rattle.rules.specs.declared.ChooseAnswer.{ChooseAnswer}
 use Rattle.rules.specs.declared.ChooseAnswer.the-variants.{Nothing, Runs, Refused as ChooseRefused}
 use Rattle.rules.specs.declared.UnitAnswer.{UnitAnswer}
 use Rattle.rules.specs.declared.UnitAnswer.the-variants.{Ran, Finished, Cut, Idle, Refused as UnitRefused}
+use Rattle.rules.specs.declared.CallAnswer.{CallAnswer}
+use Rattle.rules.specs.declared.CallAnswer.the-variants.{ToPost, ToUnit}
 use Rattle.rules.specs.declared.CountAnswer.{CountAnswer}
 use Rattle.rules.specs.declared.CountAnswer.the-variants.{Number, Refused as CountRefused}
 use Rattle.rules.specs.declared.JitterAnswer.{JitterAnswer}
@@ -80,6 +82,10 @@ unitSays (Finished t k l) = done t k l
 unitSays (Cut t k l) = cut t k l
 unitSays Idle = idle
 unitSays (UnitRefused why) = refused (number why)
+
+abbrev pub callSays : CallAnswer → Says
+callSays (ToPost a) = postSays a
+callSays (ToUnit a) = unitSays a
 
 -- "refused with 7 and give 0"
 abbrev pub countSays : CountAnswer → Says

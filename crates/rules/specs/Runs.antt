@@ -1,31 +1,32 @@
--- Runs of calls from a fresh start, who was accepted, who left, and demand 3 stated of them.
+-- Runs of calls from a fresh start: what is answered, what happened, who was accepted and who left; and demand 3 stated of them.
 -- Assumes nothing.
-use Prim.Native.Nat.{ℕ, suc, _+_, _-_, _≤_, _<_}
-use mathlib.Core.Bool.{Bool, true, false, cond, _&&_}
-use mathlib.Core.List.{List, [], _∷_, _++_, List·Memᴰ}
+use Prim.Native.Nat.{ℕ, suc, _+_, _≤_, _<_}
+use mathlib.Core.Bool.{Bool, false, cond, not, _&&_, _||_}
+use mathlib.Core.List.{List, [], _∷_, _++_, map, List·Memᴰ}
 use mathlib.Core.Path.{_≡_}
-use mathlib.Core.Logic.{_⊎_}
 use lib.ListN.{length, getD, take, drop}
-use lib.Dec.{ltb, leb, eqb}
-use Rattle.laws.specs.Lists.{within, count}
+use lib.Dec.{eqb}
+use lib.IntN.{ℤ}
+use Rattle.laws.specs.Lists.{within, any, count}
+use Rattle.rules.specs.declared.Message.{Message}
 use Rattle.rules.specs.declared.Set.{Set}
 use Rattle.rules.specs.declared.State.{State}
+use Rattle.rules.specs.declared.Call.{Call}
+use Rattle.rules.specs.declared.Call.the-variants.{Posts, Units}
 use Rattle.rules.specs.declared.PostAnswer.{PostAnswer}
 use Rattle.rules.specs.declared.PostAnswer.the-variants.{Posted, Refused as PostRefused}
 use Rattle.rules.specs.declared.UnitAnswer.{UnitAnswer}
 use Rattle.rules.specs.declared.UnitAnswer.the-variants.{Ran, Finished, Cut, Idle, Refused as UnitRefused}
 use Rattle.rules.specs.declared.Verdict.the-variants.{Accept}
-use Rattle.rules.specs.Streams.{Placed, streamAt, limit}
-use Rattle.rules.specs.Steps.{startOf, postOf, placeOf, messageAt, unitOf}
+use Rattle.rules.specs.Streams.{Placed, noStage, stagesOf, streamAt, limit}
+use Rattle.rules.specs.States.{pending}
+use Rattle.rules.specs.Steps.{sooner, startOf, postOf, placeOf, messageAt, unitOf, callOf}
 use Rattle.rules.specs.Load.{VerdictOf}
-use Rattle.rules.specs.Numbers.{Says, postSays, unitSays}
+use Rattle.rules.specs.Numbers.{Says, callSays}
 
--- a call: a post to a stream, or a unit, with done or without
-pub data Call : Type 0 where
-  posts : (stream : ℕ) → Call
-  units : (done : Bool) → Call
+-- ---- what happens
 
--- an accepted post: its number in the order of accepted posts, its stream and the clock at it
+-- an accepted post: its number in the order of accepted posts, its stream and the time at it
 pub record Accepted : Type 0 where
   pub number : ℕ
   pub stream : ℕ
@@ -35,64 +36,103 @@ pub data How : Type 0 where
   finished : How
   cut : How
 
--- a departure: the number of the message that left, how, the units it had used and the clock after that unit
+-- a departure: the number of the message that left, its stream, how it left, the units it had used, its laxity and the time after that unit
 pub record Departure : Type 0 where
   pub number : ℕ
+  pub stream : ℕ
   pub how : How
   pub used : ℕ
+  pub laxity : ℤ
   pub at : ℕ
 
--- what there is to know of a run: the state, the numbers of the pending messages in their order, who was accepted and who left
+pub data Event : Type 0 where
+  accepts : Accepted → Event
+  leaves : Departure → Event
+
+-- the accepted posts, and the departures, of events in their order
+unfoldable pub acceptedOf : List Event → List Accepted
+acceptedOf [] = []
+acceptedOf (accepts p ∷ es) = p ∷ acceptedOf es
+acceptedOf (leaves d ∷ es) = acceptedOf es
+
+unfoldable pub departuresOf : List Event → List Departure
+departuresOf [] = []
+departuresOf (accepts p ∷ es) = departuresOf es
+departuresOf (leaves d ∷ es) = d ∷ departuresOf es
+
+-- ---- a run
+
+-- what there is to know of a run: the state, the time (the units that moved the clock since the start), the numbers of the pending messages in
+-- their order, and what happened, in order
 pub record Run : Type 0 where
   pub state : State
+  pub time : ℕ
   pub names : List ℕ
-  pub accepted : List Accepted
-  pub departures : List Departure
+  pub events : List Event
 
--- a post: an accepted one gets the next number
-abbrev pub afterPost : Run → ℕ → State → PostAnswer → Run
-afterPost r k s (Posted stream deadline) = record {
-  state = s;
-  names = r .names ++ (length (r .accepted) ∷ []);
-  accepted = r .accepted ++ (record { number = length (r .accepted); stream = k; at = r .state .clock } ∷ []);
-  departures = r .departures;
-}
-afterPost r k s (PostRefused why) = record { state = s; names = r .names; accepted = r .accepted; departures = r .departures }
+abbrev pub accepted : Run → List Accepted
+accepted r = acceptedOf (r .events)
+
+abbrev pub departures : Run → List Departure
+departures r = departuresOf (r .events)
+
+-- nothing happens; a unit passes
+abbrev pub afterRefusal : Run → State → Run
+afterRefusal r s = record { state = s; time = r .time; names = r .names; events = r .events }
+
+abbrev pub afterMoving : Run → State → Run
+afterMoving r s = record { state = s; time = r .time + 1; names = r .names; events = r .events }
+
+-- a post is accepted and gets the next number
+abbrev pub newPost : Run → ℕ → Accepted
+newPost r k = record { number = length (accepted r); stream = k; at = r .time }
+
+abbrev pub afterAccepting : Run → ℕ → State → Run
+afterAccepting r k s =
+    record { state = s; time = r .time; names = r .names ++ (newPost r k .number ∷ []); events = r .events ++ (accepts (newPost r k) ∷ []) }
 
 -- the chosen message leaves: its number goes from the pending ones to the departures
-abbrev pub afterLeaving : Run → State → How → Run
-afterLeaving r s how =
+abbrev pub newDeparture : Run → How → ℤ → Departure
+newDeparture r how laxity =
+    let i = placeOf (r .state) in
+    record {
+      number = getD (r .names) i 0;
+      stream = messageAt (r .state) i .stream;
+      how = how;
+      used = messageAt (r .state) i .used + 1;
+      laxity = laxity;
+      at = r .time + 1;
+    }
+
+abbrev pub afterLeaving : Run → State → How → ℤ → Run
+afterLeaving r s how laxity =
     let i = placeOf (r .state) in
     record {
       state = s;
+      time = r .time + 1;
       names = take i (r .names) ++ drop (suc i) (r .names);
-      accepted = r .accepted;
-      departures = r .departures ++ (record { number = getD (r .names) i 0; how = how; used = messageAt (r .state) i .used + 1; at = s .clock } ∷ []);
+      events = r .events ++ (leaves (newDeparture r how laxity) ∷ []);
     }
 
-abbrev pub afterStaying : Run → State → Run
-afterStaying r s = record { state = s; names = r .names; accepted = r .accepted; departures = r .departures }
+-- a post, and a unit
+abbrev pub afterPost : Run → ℕ → State → PostAnswer → Run
+afterPost r k s (Posted stream deadline) = afterAccepting r k s
+afterPost r k s (PostRefused why) = afterRefusal r s
 
--- a unit
 abbrev pub afterUnit : Run → State → UnitAnswer → Run
-afterUnit r s (Ran t k) = afterStaying r s
-afterUnit r s (Finished t k l) = afterLeaving r s finished
-afterUnit r s (Cut t k l) = afterLeaving r s cut
-afterUnit r s Idle = afterStaying r s
-afterUnit r s (UnitRefused why) = afterStaying r s
+afterUnit r s (Ran t k) = afterMoving r s
+afterUnit r s (Finished t k l) = afterLeaving r s finished l
+afterUnit r s (Cut t k l) = afterLeaving r s cut l
+afterUnit r s Idle = afterMoving r s
+afterUnit r s (UnitRefused why) = afterRefusal r s
 
 unfoldable pub stepOf : Run → Call → Run
-stepOf r (posts k) = afterPost r k (postOf (r .state) k .state) (postOf (r .state) k .answer)
-stepOf r (units done) = afterUnit r (unitOf (r .state) done .state) (unitOf (r .state) done .answer)
-
--- what the cab says to a call
-abbrev pub saysTo : State → Call → Says
-saysTo s (posts k) = postSays (postOf s k .answer)
-saysTo s (units done) = unitSays (unitOf s done .answer)
+stepOf r (Posts k) = afterPost r k (postOf (r .state) k .state) (postOf (r .state) k .answer)
+stepOf r (Units done) = afterUnit r (unitOf (r .state) done .state) (unitOf (r .state) done .answer)
 
 -- a fresh start, and a list of calls made one after the other, the first first
 unfoldable pub begin : Set → Run
-begin x = record { state = startOf x .state; names = []; accepted = []; departures = [] }
+begin x = record { state = startOf x .state; time = 0; names = []; events = [] }
 
 unfoldable pub runFrom : Run → List Call → Run
 runFrom r [] = r
@@ -101,13 +141,29 @@ runFrom r (c ∷ cs) = runFrom (stepOf r c) cs
 unfoldable pub runOf : Set → List Call → Run
 runOf x calls = runFrom (begin x) calls
 
--- the answers to the calls, in order
-unfoldable pub answersFrom : Run → List Call → List Says
-answersFrom r [] = []
-answersFrom r (c ∷ cs) = saysTo (r .state) c ∷ answersFrom (stepOf r c) cs
+-- ---- what is answered
+
+-- a call's answer, and the clock before the call
+pub record Step : Type 0 where
+  pub before : ℕ
+  pub says : Says
+
+abbrev pub stepTo : State → Call → Step
+stepTo s c = record { before = s .clock; says = callSays (callOf s c .answer) }
+
+unfoldable pub stepsFrom : Run → List Call → List Step
+stepsFrom r [] = []
+stepsFrom r (c ∷ cs) = stepTo (r .state) c ∷ stepsFrom (stepOf r c) cs
+
+unfoldable pub stepsOf : Set → List Call → List Step
+stepsOf x calls = stepsFrom (begin x) calls
+
+-- the answers alone, in order
+abbrev pub saidAt : Step → Says
+saidAt s = s .says
 
 unfoldable pub answersOf : Set → List Call → List Says
-answersOf x calls = answersFrom (begin x) calls
+answersOf x calls = map saidAt (stepsOf x calls)
 
 -- ---- "A run keeps the limit if, for every x and I of 0 or more, the accepted posts at clocks x to x + I, both ends counted, are at most E(I)."
 
@@ -124,19 +180,37 @@ abbrev pub dueAt : Set → Accepted → ℕ
 dueAt S p = p .at + streamAt S (p .stream) .deadline
 
 -- "finished or cut at its cost": the departure is that of this message, in time
-abbrev pub AtCost : Set → Accepted → Departure → How → Type 0
-AtCost S p d finished = Unit {0}
-AtCost S p d cut = d .used ≡ streamAt S (p .stream) .cost
+abbrev pub AtCost : Set → Departure → How → Type 0
+AtCost S d finished = Unit {0}
+AtCost S d cut = d .used ≡ getD (stagesOf (streamAt S (d .stream))) 0 noStage .cost
 
 pub record LeftInTime (S : Set) (p : Accepted) (d : Departure) : Type 0 where
   pub same : d .number ≡ p .number
-  pub cost : AtCost S p d (d .how)
+  pub stream : d .stream ≡ p .stream
+  pub cost : AtCost S d (d .how)
   pub time : d .at ≤ dueAt S p
 
 -- "If the check accepts a set, then from a fresh start, under any calls whose accepted posts keep every stream's event limit in every window,
 -- each accepted message has left, finished or cut at its cost, when the clock reaches its deadline."
 unfoldable pub Demand3 : Type 0
 Demand3 =
-    (S : Set) → Placed S → VerdictOf S Accept → (calls : List Call) → KeepsLimits S (runOf S calls .accepted)
-    → (p : Accepted) → List·Memᴰ p (runOf S calls .accepted) → dueAt S p ≤ runOf S calls .state .clock
-    → (d : Departure) × List·Memᴰ d (runOf S calls .departures) × LeftInTime S p d
+    (S : Set) → Placed S → VerdictOf S Accept → (calls : List Call) → KeepsLimits S (accepted (runOf S calls))
+    → (p : Accepted) → List·Memᴰ p (accepted (runOf S calls)) → dueAt S p ≤ runOf S calls .time
+    → (d : Departure) × List·Memᴰ d (departures (runOf S calls)) × LeftInTime S p d
+
+-- ---- is a message ever pending at its deadline?
+
+-- a pending message whose deadline the clock has reached
+abbrev pub overdue : ℕ → Message → Bool
+overdue clock m = not (sooner clock (m .deadline))
+
+unfoldable pub missedNow : State → Bool
+missedNow s = any (overdue (s .clock)) (pending s)
+
+-- at the moments of a run: where the calls begin, and after each
+unfoldable pub missedFrom : Run → List Call → Bool
+missedFrom r [] = missedNow (r .state)
+missedFrom r (c ∷ cs) = missedNow (r .state) || missedFrom (stepOf r c) cs
+
+unfoldable pub missedIn : Set → List Call → Bool
+missedIn x calls = missedFrom (begin x) calls

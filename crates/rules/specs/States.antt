@@ -4,13 +4,13 @@ use Prim.Native.Nat.{ℕ, _+_, _-_, _≤_}
 use mathlib.Core.Bool.{Bool, true, false, cond, _&&_}
 use mathlib.Core.List.{List, [], _∷_}
 use mathlib.Core.Path.{_≡_}
-use lib.ListN.{length, take, drop, replicate}
+use lib.ListN.{length, getD, take, drop}
 use lib.Dec.{ltb, leb, eqb}
 use Rattle.laws.specs.Lists.{every, within, below, all, count, scan}
 use Rattle.rules.specs.declared.Set.{Set}
 use Rattle.rules.specs.declared.Message.{Message}
 use Rattle.rules.specs.declared.State.{State}
-use Rattle.rules.specs.Streams.{Placed, streamAt, valid}
+use Rattle.rules.specs.Streams.{Placed, Stage, noStage, stagesOf, streamAt, valid}
 
 abbrev pub noMessage : Message
 noMessage = record { stream = 0; deadline = 0; used = 0 }
@@ -19,12 +19,27 @@ noMessage = record { stream = 0; deadline = 0; used = 0 }
 abbrev pub pending : State → List Message
 pending s = take (s .count) (s .messages)
 
--- a message's task, its cost c and its relative deadline d are those of its stream
+-- the state with another clock, and with n pending messages at the front of ms: what else it holds stays
+abbrev pub withClock : State → ℕ → State
+withClock s clock = record { set = s .set; clock = clock; count = s .count; messages = s .messages }
+
+abbrev pub withMessages : State → ℕ → List Message → State
+withMessages s n ms = record { set = s .set; clock = s .clock; count = n; messages = ms }
+
+-- the message with other used units
+abbrev pub withUsed : Message → ℕ → Message
+withUsed m used = record { stream = m .stream; deadline = m .deadline; used = used }
+
+-- the stage that a message is in: its stream has one
+abbrev pub stageOf : Set → Message → Stage
+stageOf x m = getD (stagesOf (streamAt x (m .stream))) 0 noStage
+
+-- a message's task and its cost c are those of its stage, its relative deadline d is that of its stream
 abbrev pub taskOf : Set → Message → ℕ
-taskOf x m = streamAt x (m .stream) .task
+taskOf x m = stageOf x m .task
 
 abbrev pub costOf : Set → Message → ℕ
-costOf x m = streamAt x (m .stream) .cost
+costOf x m = stageOf x m .cost
 
 abbrev pub spanOf : Set → Message → ℕ
 spanOf x m = streamAt x (m .stream) .deadline
@@ -60,6 +75,11 @@ startedOnce x l t = leb (count (startedOf x t) l) 1
 unfoldable pub messageUnused : Message → Bool
 messageUnused m = every (eqb (m .stream) 0 ∷ eqb (m .deadline) 0 ∷ eqb (m .used) 0 ∷ [])
 
+-- "up to 64 pending messages"
+abbrev pub mostPending : ℕ
+mostPending = 64
+
+-- "the clock is at most 4,000,000,000"
 abbrev pub lastClock : ℕ
 lastClock = 4000000000
 
@@ -68,7 +88,7 @@ lastClock = 4000000000
 abbrev pub stateTests : State → List Bool
 stateTests s =
     valid (s .set)
-    ∷ leb (s .count) 64
+    ∷ leb (s .count) mostPending
     ∷ leb (s .clock) lastClock
     ∷ messagesOk (s .set) (s .clock) (pending s)
     ∷ all (startedOnce (s .set) (pending s)) (below 16)
@@ -81,4 +101,4 @@ wellFormed s = every (stateTests s)
 -- What the types say of the arrays of a state: those of its set, and 64 places for messages. Every state that a program holds is so.
 pub record Housed (s : State) : Type 0 where
   pub set : Placed (s .set)
-  pub places : length (s .messages) ≡ 64
+  pub places : length (s .messages) ≡ mostPending

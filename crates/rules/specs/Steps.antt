@@ -1,12 +1,12 @@
 -- Document 01, "State and steps": start, post, choose and unit.
 -- Assumes nothing.
 use Prim.Native.Nat.{ℕ, zero, suc, _+_, _-_}
-use mathlib.Core.Bool.{Bool, true, false, cond, _&&_}
+use mathlib.Core.Bool.{Bool, true, false, cond, not, _&&_, _||_}
 use mathlib.Core.List.{List, [], _∷_}
 use lib.ListN.{length, getD, set, replicate}
 use lib.Dec.{ltb, leb, eqb}
 use lib.IntN.{ℤ, pos, _-ℤ_}
-use Rattle.laws.specs.Lists.{find, remove, firstLeast}
+use Rattle.laws.specs.Lists.{find, remove, firstBy}
 use Rattle.rules.specs.declared.Set.{Set}
 use Rattle.rules.specs.declared.Message.{Message}
 use Rattle.rules.specs.declared.State.{State}
@@ -21,14 +21,18 @@ use Rattle.rules.specs.declared.ChooseAnswer.the-variants.{Nothing, Runs
 use Rattle.rules.specs.declared.UnitResult.{UnitResult}
 use Rattle.rules.specs.declared.UnitAnswer.{UnitAnswer}
 use Rattle.rules.specs.declared.UnitAnswer.the-variants.{Ran, Finished, Cut, Idle, Refused as UnitRefused}
+use Rattle.rules.specs.declared.Call.{Call}
+use Rattle.rules.specs.declared.Call.the-variants.{Posts, Units}
+use Rattle.rules.specs.declared.CallAnswer.the-variants.{ToPost, ToUnit}
+use Rattle.rules.specs.declared.CallResult.{CallResult}
 use Rattle.rules.specs.Streams.{emptySet, streamAt, valid}
-use Rattle.rules.specs.States.{noMessage, pending, taskOf, costOf, startedOf, lastClock, wellFormed}
+use Rattle.rules.specs.States.{noMessage, pending, withClock, withMessages, withUsed, taskOf, costOf, startedOf, mostPending, lastClock, wellFormed}
 
 -- ---- Start
 
 -- "the clock at 0 and no message"
 abbrev pub fresh : Set → State
-fresh x = record { set = x; clock = 0; count = 0; messages = replicate 64 noMessage }
+fresh x = record { set = x; clock = 0; count = 0; messages = replicate mostPending noMessage }
 
 -- "A valid set gives the clock at 0 and no message. An invalid one gives 7 and the start of the empty set."
 unfoldable pub startOf : Set → StartResult
@@ -45,7 +49,7 @@ newMessage s k = record { stream = k; deadline = s .clock + streamAt (s .set) k 
 
 -- ".. goes last"
 abbrev pub added : State → Message → State
-added s m = record { set = s .set; clock = s .clock; count = s .count + 1; messages = set (s .messages) (s .count) m }
+added s m = withMessages s (s .count + 1) (set (s .messages) (s .count) m)
 
 -- "state unchanged"
 abbrev pub postRefused : State → Refusal → PostResult
@@ -56,7 +60,7 @@ unfoldable pub postOf : State → ℕ → PostResult
 postOf s k =
     cond (wellFormed s)
     (cond (ltb k (s .set .count))
-    (cond (ltb (s .count) 64)
+    (cond (ltb (s .count) mostPending)
     (record { answer = Posted k (newMessage s k .deadline); state = added s (newMessage s k) })
     (postRefused s Full))
     (postRefused s NoStream))
@@ -78,9 +82,20 @@ taskDeadline x [] t = never
 taskDeadline x (m ∷ l) t =
     cond (eqb (taskOf x m) t && sooner (m .deadline) (taskDeadline x l t)) (m .deadline) (taskDeadline x l t)
 
--- "The task with the least deadline runs; on a tie, the lowest task number."
-unfoldable pub runningTask : Set → List Message → ℕ
-runningTask x l = firstLeast (taskDeadline x l) 16
+-- one task goes before another: its deadline is sooner, or on a tie its turn is less
+unfoldable pub ahead : (deadline turn : ℕ → ℕ) → ℕ → ℕ → Bool
+ahead deadline turn t u = sooner (deadline t) (deadline u) || (not (sooner (deadline u) (deadline t)) && ltb (turn t) (turn u))
+
+-- "The task with the least deadline runs; on a tie, the lowest task number": of tasks with the same turn the first
+unfoldable pub runningTask : (turn : ℕ → ℕ) → Set → List Message → ℕ
+runningTask turn x l = firstBy (ahead (taskDeadline x l) turn) 16
+
+-- the turn of a task in a state: document 01 puts none before another
+abbrev pub noTurn : ℕ → ℕ
+noTurn t = 0
+
+abbrev pub turnOf : State → ℕ → ℕ
+turnOf s = noTurn
 
 -- "its started message"
 unfoldable pub startedAt : Set → List Message → ℕ → ℕ
@@ -88,7 +103,7 @@ startedAt x l t = find (startedOf x t) l
 
 -- "its message of least deadline, on a tie the earliest posted"
 abbrev pub dueOf : Set → ℕ → ℕ → Message → Bool
-dueOf x t d m = eqb (m .deadline) d && eqb (taskOf x m) t
+dueOf x t d m = not (sooner d (m .deadline)) && eqb (taskOf x m) t
 
 unfoldable pub urgentAt : Set → List Message → ℕ → ℕ
 urgentAt x l t = find (dueOf x t (taskDeadline x l t)) l
@@ -99,7 +114,7 @@ servedAt x l t = cond (ltb (startedAt x l t) (length l)) (startedAt x l t) (urge
 
 -- the place of the chosen message among the pending ones, and the message
 unfoldable pub placeOf : State → ℕ
-placeOf s = servedAt (s .set) (pending s) (runningTask (s .set) (pending s))
+placeOf s = servedAt (s .set) (pending s) (runningTask (turnOf s) (s .set) (pending s))
 
 abbrev pub messageAt : State → ℕ → Message
 messageAt s i = getD (s .messages) i noMessage
@@ -115,18 +130,18 @@ chooseOf s =
 
 -- "only the clock moves"
 abbrev pub ticked : State → State
-ticked s = record { set = s .set; clock = s .clock + 1; count = s .count; messages = s .messages }
+ticked s = withClock s (s .clock + 1)
 
 -- "The chosen message gains one used unit and the clock one."
 abbrev pub gained : Message → Message
-gained m = record { stream = m .stream; deadline = m .deadline; used = m .used + 1 }
+gained m = withUsed m (m .used + 1)
 
 abbrev pub stayed : State → ℕ → State
-stayed s i = record { set = s .set; clock = s .clock + 1; count = s .count; messages = set (s .messages) i (gained (messageAt s i)) }
+stayed s i = withMessages (ticked s) (s .count) (set (s .messages) i (gained (messageAt s i)))
 
 -- "it leaves .. The order of the rest is kept."
 abbrev pub departed : State → ℕ → State
-departed s i = record { set = s .set; clock = s .clock + 1; count = s .count - 1; messages = remove noMessage i (s .messages) }
+departed s i = withMessages (ticked s) (s .count - 1) (remove noMessage i (s .messages))
 
 -- "the laxity, its deadline minus the clock after the unit, which is negative when late"
 unfoldable pub laxityOf : ℕ → ℕ → ℤ
@@ -157,3 +172,10 @@ unitOf s done =
     (cond (eqb (s .count) 0) (emptyUnit s done) (servedOf s (placeOf s) done))
     (answered s (UnitRefused LastClock)))
     (answered s (UnitRefused IllFormed))
+
+-- ---- a call
+
+-- a post or a unit, and what it answers
+unfoldable pub callOf : State → Call → CallResult
+callOf s (Posts k) = record { answer = ToPost (postOf s k .answer); state = postOf s k .state }
+callOf s (Units done) = record { answer = ToUnit (unitOf s done .answer); state = unitOf s done .state }

@@ -39,6 +39,18 @@ streamsOf x = take (x .count) (x .streams)
 abbrev pub streamAt : Set → ℕ → Stream
 streamAt x k = getD (x .streams) k noStream
 
+-- a stage of a stream: a task and a cost c
+pub record Stage : Type 0 where
+  pub task : ℕ
+  pub cost : ℕ
+
+abbrev pub noStage : Stage
+noStage = record { task = 0; cost = 0 }
+
+-- "A stream has a task .., a cost c": one stage
+abbrev pub stagesOf : Stream → List Stage
+stagesOf s = record { task = s .task; cost = s .cost } ∷ []
+
 abbrev pub offset : Tuple → ℕ
 offset (Once a) = a
 offset (Every z a) = a

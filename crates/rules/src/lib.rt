@@ -44,6 +44,9 @@ pub struct State {
     pub messages: [Message; 64],
 }
 
+// "the clock is at most 4,000,000,000"
+pub const LAST_CLOCK: u32 = 4000000000;
+
 // Why a call is refused. specs/Numbers.antt gives the number that the cab prints for each.
 pub enum Refusal {
     NoStream,
@@ -101,6 +104,24 @@ pub enum UnitAnswer {
 
 pub struct UnitResult {
     pub answer: UnitAnswer,
+    pub state: State,
+}
+
+// A call: a post to a stream, or a unit, with done or without.
+pub enum Call {
+    // stream
+    Posts(usize),
+    // done
+    Units(bool),
+}
+
+pub enum CallAnswer {
+    ToPost(PostAnswer),
+    ToUnit(UnitAnswer),
+}
+
+pub struct CallResult {
+    pub answer: CallAnswer,
     pub state: State,
 }
 

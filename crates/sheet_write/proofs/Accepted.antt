@@ -24,7 +24,7 @@ use Rattle.rules.specs.declared.Refusal.the-variants.{BitsMissing, OutOfRule}
 use Rattle.rules.specs.declared.ReadResult.{ReadResult}
 use Rattle.rules.specs.Streams.{FourTuples, Placed, cycleOk, noStream, noTuple, offset, offsetAt, streamOk, streamTests, streamUnused, streamsOf, tupleOk, tupleUnused, tuplesOk, valid}
 use Rattle.rules.specs.Sheet.{field, inRule, isZero, noSet, placeBits, readBits, readEnd, readStream, readStreams, readTuples, setOf, sheetBits, streamBits, streamOf, tupleBits, tupleOf}
-use Rattle.rules.proofs.Valid.{ValidCycle, ValidPlace}
+use Rattle.rules.specs.Valid.{ValidCycle, ValidPlace}
 use Rattle.sheet_read.proofs.Filled.{cond-elim}
 use Rattle.sheet_write.proofs.Back.{Chain, costNext, countNext, cycleNext, deadlineNext, offsetNext, taskNext, tuplesNext, versionNext}
 

@@ -24,7 +24,8 @@ use Rattle.rules.specs.declared.ReadResult.{ReadResult}
 use Rattle.rules.specs.declared.ReadAnswer.the-variants.{Read}
 use Rattle.rules.specs.Streams.{FourTuples, Placed, cycleOk, noTuple, offset, offsetAt, streamsOf, tupleOk, tuplesOf, tuplesOk, valid}
 use Rattle.rules.specs.Sheet.{field, inRule, isZero, noSet, placeBits, readBits, readEnd, readOf, readStream, readStreams, readTuples, setOf, sheetBits, sheetOf, streamBits, streamOf, tupleBits, tupleOf}
-use Rattle.rules.proofs.Valid.{FirstZero, ValidCycle, ValidPlace, ValidSet, ValidStream, valid-place, valid-set}
+use Rattle.rules.specs.Valid.{FirstZero, ValidCycle, ValidPlace, ValidSet, ValidStream}
+use Rattle.rules.proofs.Valid.{valid-place, valid-set}
 use Rattle.sheet_write.proofs.Whole.{set-holds, stream-holds, whole-set, whole-stream}
 
 -- a field that was written is read: one law for every width

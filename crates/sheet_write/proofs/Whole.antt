@@ -19,7 +19,7 @@ use Rattle.rules.specs.declared.Stream.{Stream}
 use Rattle.rules.specs.declared.Set.{Set}
 use Rattle.rules.specs.Streams.{FourTuples, Placed, isOnceAtZero, noStream, noTuple, streamUnused, streamsOf, tupleUnused, tuplesOf}
 use Rattle.rules.specs.Sheet.{setOf, streamOf}
-use Rattle.rules.proofs.Valid.{ValidSet, ValidStream}
+use Rattle.rules.specs.Valid.{ValidSet, ValidStream}
 use Rattle.sheet_read.specs.Kept.{Holds}
 
 -- the places behind those in use hold nothing

@@ -27,7 +27,8 @@ use Rattle.rules.specs.declared.WriteAnswer.{WriteAnswer}
 use Rattle.rules.specs.declared.WriteAnswer.the-variants.{Wrote, Refused as NotWritten}
 use Rattle.rules.specs.Streams.{noStream, offset, streamsOf, tuplesOf, valid}
 use Rattle.rules.specs.Sheet.{bufferBy, bufferOf, placeBits, sheetBits, sheetOf, streamBits, tupleBits, writeOf}
-use Rattle.rules.proofs.Valid.{ValidSet, ValidStream, valid-set}
+use Rattle.rules.specs.Valid.{ValidSet, ValidStream}
+use Rattle.rules.proofs.Valid.{valid-set}
 use Rattle.sheet_write.specs.Writer.{Written, WrittenSet, cycleOf}
 use Rattle.sheet_write.proofs.Back.{sheet-bits}
 use Rattle.sheet_write.proofs.Rounds.{sheet-length, stream-length, tuples-length}

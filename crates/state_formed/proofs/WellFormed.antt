@@ -19,7 +19,8 @@ use Rattle.rules.specs.declared.State.{State}
 use Rattle.rules.specs.Streams.{streamAt, noStream, valid}
 use Rattle.rules.specs.States.{noMessage, pending, taskOf, postedAt, messageOk, messagesOk, startedOnce, messageUnused, lastClock, stateTests, wellFormed}
 use Rattle.rules.specs.Steps.{messageAt}
-use Rattle.rules.proofs.Valid.{ValidStream, ValidSet, valid-set}
+use Rattle.rules.specs.Valid.{ValidStream, ValidSet}
+use Rattle.rules.proofs.Valid.{valid-set}
 use Rattle.state_formed.specs.Sound.{Sound, restFormed}
 use Rattle.state_formed.proofs.Standing.{Standing, standing}
 

@@ -16,7 +16,8 @@ use Rattle.rules.specs.declared.Tuple.the-variants.{Once, Every}
 use Rattle.rules.specs.declared.TuplePlace.{TuplePlace}
 use Rattle.rules.specs.declared.Stream.{Stream}
 use Rattle.rules.specs.Streams.{offset, tuplesOf, streamOk}
-use Rattle.rules.proofs.Valid.{Between, ValidCycle, ValidPlace, ValidStream, valid-stream}
+use Rattle.rules.specs.Valid.{Between, ValidCycle, ValidPlace, ValidStream}
+use Rattle.rules.proofs.Valid.{valid-stream}
 use Rattle.line.specs.Decimal.{letters, digitsOf, decimalOf}
 use Rattle.text_line.specs.Lines.{tupleText, placeText, streamText}
 

@@ -7,7 +7,7 @@ use lib.ListN.{length, getD, take}
 use Rattle.laws.proofs.Parts.{sized}
 use Rattle.laws.proofs.Sums.{all-take-at}
 use Rattle.rules.specs.Streams.{noTuple}
-use Rattle.rules.proofs.Valid.{ValidPlace}
+use Rattle.rules.specs.Valid.{ValidPlace}
 use Rattle.load_check.specs.Dues.{Grows}
 use Rattle.load_check.proofs.RowLaws.{frontDue, front-start, front-more, front-end}
 use Rattle.load_check.proofs.dues.put_stream.Statement.{statement}

@@ -6,7 +6,7 @@ use mathlib.Core.Path.{subst}
 use Rattle.load_check.proofs.RowLaws.{grows-as, every-row, once-row}
 use Rattle.rules.specs.declared.Tuple.{Tuple}
 use Rattle.rules.specs.Streams.{offset}
-use Rattle.rules.proofs.Valid.{ValidCycle}
+use Rattle.rules.specs.Valid.{ValidCycle}
 use Rattle.load_check.proofs.dues.put_tuple.Statement.{statement}
 use Rattle.load_check.proofs.dues.put_tuple.Tie as tie
 

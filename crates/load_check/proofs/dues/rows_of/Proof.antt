@@ -6,7 +6,7 @@ use mathlib.Core.Path.{_≡_, subst}
 use lib.ListN.{length, take}
 use Rattle.laws.proofs.Parts.{sized}
 use Rattle.laws.proofs.Sums.{all-take-at}
-use Rattle.rules.proofs.Valid.{ValidStream}
+use Rattle.rules.specs.Valid.{ValidStream}
 use Rattle.load_check.specs.Dues.{RowsOf}
 use Rattle.load_cycles.proofs.Bounds.{blank}
 use Rattle.load_check.proofs.RowLaws.{rows-start, rows-more}

@@ -7,7 +7,7 @@ use lib.ListN.{length, take}
 use Rattle.laws.proofs.Parts.{sized}
 use Rattle.laws.specs.Lists.{top}
 use Rattle.laws.proofs.Sums.{top-none, top-take}
-use Rattle.rules.proofs.Finite.{deadlineOf, greatestDeadline}
+use Rattle.rules.specs.Load.{deadlineOf, greatestDeadline}
 use Rattle.load_cycles.proofs.Bounds.{blank}
 use Rattle.load_cycles.proofs.ends.greatest_deadline.Statement.{statement}
 use Rattle.load_cycles.proofs.ends.greatest_deadline.Tie as tie

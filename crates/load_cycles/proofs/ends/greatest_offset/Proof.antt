@@ -7,8 +7,8 @@ use lib.ListN.{length, take}
 use Rattle.laws.proofs.Parts.{sized}
 use Rattle.laws.specs.Lists.{top}
 use Rattle.laws.proofs.Sums.{top-none, top-take, all-take-at}
-use Rattle.rules.proofs.Valid.{ValidStream}
-use Rattle.rules.proofs.Finite.{streamOffset, greatestOffset}
+use Rattle.rules.specs.Valid.{ValidStream}
+use Rattle.rules.specs.Load.{streamOffset, greatestOffset}
 use Rattle.load_cycles.proofs.Bounds.{blank}
 use Rattle.load_cycles.proofs.ends.greatest_offset.Statement.{statement}
 use Rattle.load_cycles.proofs.ends.greatest_offset.Tie as tie

@@ -8,7 +8,7 @@ use Rattle.laws.proofs.Parts.{sized}
 use Rattle.laws.specs.Lists.{top}
 use Rattle.laws.proofs.Sums.{top-none, top-take}
 use Rattle.rules.specs.Streams.{offsetAt, noTuple}
-use Rattle.rules.proofs.Finite.{streamOffset}
+use Rattle.rules.specs.Load.{streamOffset}
 use Rattle.load_cycles.proofs.ends.stream_offset.Statement.{statement}
 use Rattle.load_cycles.proofs.ends.stream_offset.Tie as tie
 

@@ -8,7 +8,7 @@ use lib.Dec.{lit≤}
 use Rattle.laws.proofs.Parts.{sized}
 use Rattle.laws.proofs.Sums.{all-take-at}
 use Rattle.rules.specs.Load.{CyclesIn}
-use Rattle.rules.proofs.Valid.{ValidStream}
+use Rattle.rules.specs.Valid.{ValidStream}
 use Rattle.rules.proofs.Cycles.{cycles-up}
 use Rattle.load_cycles.specs.Cycles.{CyclesOf, JoinedBy}
 use Rattle.load_cycles.proofs.Bounds.{blank}

@@ -8,7 +8,7 @@ use Rattle.laws.proofs.Parts.{sized}
 use Rattle.laws.proofs.Sums.{all-take-at}
 use Rattle.rules.specs.Streams.{noTuple}
 use Rattle.rules.specs.Load.{PlaceIn}
-use Rattle.rules.proofs.Valid.{ValidPlace}
+use Rattle.rules.specs.Valid.{ValidPlace}
 use Rattle.rules.proofs.Cycles.{place-up}
 use Rattle.load_cycles.specs.Cycles.{CycleOf, JoinedBy}
 use Rattle.load_cycles.proofs.Cycling.{SoFar, so-far, so-far-more, so-far-above, so-far-end}

@@ -2,7 +2,7 @@
 use borrow.Author.Needs.{needs}
 use Prim.Native.Nat.{_-_}
 use mathlib.Core.Path.{subst}
-use Rattle.rules.proofs.Valid.{ValidCycle}
+use Rattle.rules.specs.Valid.{ValidCycle}
 use Rattle.load_cycles.proofs.Cycling.{once-is}
 use Rattle.load_cycles.proofs.joins.join_tuple.Statement.{statement}
 use Rattle.load_cycles.proofs.joins.join_tuple.Tie as tie

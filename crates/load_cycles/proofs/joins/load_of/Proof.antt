@@ -8,7 +8,7 @@ use Rattle.laws.proofs.Parts.{sized}
 use Rattle.laws.specs.Lists.{sum}
 use Rattle.laws.proofs.Sums.{sum-none, sum-take, all-take-at}
 use Rattle.rules.specs.Load.{streamLoad, load}
-use Rattle.rules.proofs.Valid.{ValidStream}
+use Rattle.rules.specs.Valid.{ValidStream}
 use Rattle.load_cycles.proofs.Bounds.{blank, stream-load-fits}
 use Rattle.load_cycles.proofs.joins.load_of.Statement.{statement}
 use Rattle.load_cycles.proofs.joins.load_of.Tie as tie

@@ -9,7 +9,7 @@ use Rattle.laws.specs.Lists.{sum}
 use Rattle.laws.proofs.Sums.{sum-none, sum-take, all-take-at}
 use Rattle.rules.specs.Streams.{noTuple}
 use Rattle.rules.specs.Load.{rate, streamLoad}
-use Rattle.rules.proofs.Valid.{ValidPlace}
+use Rattle.rules.specs.Valid.{ValidPlace}
 use Rattle.load_cycles.proofs.Bounds.{rate-fits}
 use Rattle.load_cycles.proofs.joins.stream_load.Statement.{statement}
 use Rattle.load_cycles.proofs.joins.stream_load.Tie as tie

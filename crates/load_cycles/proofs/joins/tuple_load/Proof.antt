@@ -4,7 +4,7 @@ use borrow.Author.Needs.{needs}
 use Prim.Native.Nat.{_-_, _*_}
 use mathlib.Core.Path.{ap₂, subst, sym}
 use native.Mathlib.Nat.{mul-zero, div-le-self}
-use Rattle.rules.proofs.Valid.{ValidCycle}
+use Rattle.rules.specs.Valid.{ValidCycle}
 use Rattle.load_cycles.proofs.Bounds.{product-fits}
 use Rattle.load_cycles.proofs.joins.tuple_load.Statement.{statement}
 use Rattle.load_cycles.proofs.joins.tuple_load.Tie as tie
