@@ -11,16 +11,16 @@ use lib.ListN.{getD}
 use Rattle.laws.specs.Lists.{below, any, top, All}
 use Rattle.laws.proofs.Sums.{all-map, all-each, all-below, length-below, sum-le, top-le, cond-le}
 use Rattle.rules.specs.declared.Stream.{Stream}
-use Rattle.rules.specs.Load.{urgent, held, blocking}
+use Rattle.rules.specs.Load.{urgent, blocksFor, blocks, blocking}
+use Rattle.rules.proofs.Stages.{blocks-for}
 use Rattle.rules.specs.Valid.{ValidStream}
 use Rattle.load_check.specs.Dues.{rowDue, dueAt, duesBelow, Sound}
-use Rattle.load_check.specs.Held.{blockingsOf}
+use Rattle.load_check.specs.Blocked.{blockingsOf}
 
 -- ---- blocking
 
-held-fits : (t i : ℕ) (s : Stream) → ValidStream s → held t i s ≤ 65535
-held-fits t i s v =
-    cond-le (eqb (s .task) t) (cond (leb (s .deadline) i) 0 (s .cost - 1)) 65535 (other (leb (s .deadline) i) (s .cost - 1) (omega (arith, v .cost .high)))
+blocks-fit : (t i : ℕ) (s : Stream) → ValidStream s → blocks t i s ≤ 65535
+blocks-fit t i s v = other (leb (s .deadline) i) (blocksFor t s) (rw (blocks-for t s) (cond-le (eqb (s .task) t) (s .cost - 1) 65535 (omega (arith, v .cost .high))))
   where
     other : (b : Bool) (n : ℕ) → n ≤ 65535 → cond b 0 n ≤ 65535
     other true n h = omega arith
@@ -29,7 +29,7 @@ held-fits t i s v =
 pub blocking-fits : (ss : List Stream) (i t : ℕ) → All ValidStream ss → blocking ss i t ≤ 65535
 unfolding blocking
 blocking-fits ss i t v =
-    cond-le (any (urgent t i) ss) (top (held t i) ss) 65535 (top-le (held t i) 65535 ss (all-map ValidStream (λ s. held t i s ≤ 65535) ss (held-fits t i) v))
+    cond-le (any (urgent t i) ss) (top (blocks t i) ss) 65535 (top-le (blocks t i) 65535 ss (all-map ValidStream (λ s. blocks t i s ≤ 65535) ss (blocks-fit t i) v))
 
 pub blockings-fit : (ss : List Stream) (i n : ℕ) → n ≡ blockingsOf ss i → All ValidStream ss → n ≤ 1048560
 unfolding blockingsOf

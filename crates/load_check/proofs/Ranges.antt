@@ -13,7 +13,7 @@ use Rattle.load_check.specs.declared.Rows.{Rows}
 use Rattle.load_check.specs.declared.Tested.{Tested}
 use Rattle.load_check.specs.declared.Tested.the-variants.{Clear, Late as FoundLate}
 use Rattle.load_check.specs.Dues.{RowsOf}
-use Rattle.load_check.specs.Held.{blockingsOf, NextDeadline}
+use Rattle.load_check.specs.Blocked.{blockingsOf, NextDeadline}
 use Rattle.load_check.specs.Lengths.{NoneLate, FirstLate, TestedBy, rowsWith, Spanned, Ranged}
 use Rattle.load_check.proofs.Steady.{same-demand}
 

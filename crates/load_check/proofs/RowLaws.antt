@@ -18,6 +18,7 @@ use Rattle.rules.specs.declared.TuplePlace.{TuplePlace}
 use Rattle.rules.specs.declared.Stream.{Stream}
 use Rattle.rules.specs.Streams.{tuplesOf, events, limit}
 use Rattle.rules.specs.Load.{due}
+use Rattle.rules.proofs.Stages.{due-by-cost}
 use Rattle.load_check.specs.declared.Rows.{Rows}
 use Rattle.load_check.specs.Dues.{rowDue, dueAt, duesBelow, rowsDue, tupleDue, streamDue, Sound, Grows, RowsOf}
 
@@ -154,8 +155,8 @@ unfolding tupleDue
 place-before c d i p y = simp (lt-leb d i y)
 
 due-sum : (s : Stream) (i : ℕ) → frontDue (s .cost) (s .deadline) (tuplesOf s) i ≡ due i s
-unfolding frontDue due limit
-due-sum s i = elim (decLe (s .deadline) i) [ yes y ↦ on y | no f ↦ before (omega arith) ]
+unfolding frontDue limit
+due-sum s i = rw (due-by-cost i s) (elim (decLe (s .deadline) i) [ yes y ↦ on y | no f ↦ before (omega arith) ])
   where
     on : s .deadline ≤ i → sum (placeDue (s .cost) (s .deadline) i) (tuplesOf s) ≡ cond (leb (s .deadline) i) (s .cost * sum (events (i - s .deadline)) (tuplesOf s)) 0
     on y =

@@ -16,10 +16,10 @@ use Rattle.rules.specs.declared.Set.{Set}
 use Rattle.rules.specs.declared.Refusal.the-variants.{OutOfRule}
 use Rattle.rules.specs.declared.CountAnswer.the-variants.{Number, Refused}
 use Rattle.rules.specs.Streams.{streamsOf, valid}
-use Rattle.rules.specs.Load.{urgent, held, blocking, demand, demandOf}
+use Rattle.rules.specs.Load.{has, urgent, blocks, blocking, demand, demandOf}
 use Rattle.load_check.specs.declared.Rows.{Rows}
 use Rattle.load_check.specs.Dues.{rowsDue, RowsOf}
-use Rattle.load_check.specs.Held.{blockingsOf, Apart, ApartFrom, Nearer}
+use Rattle.load_check.specs.Blocked.{blockingsOf, Apart, ApartFrom, Nearer}
 use Rattle.load_check.specs.Lengths.{rowsWith}
 
 -- ---- looking for the next deadline
@@ -38,7 +38,7 @@ apart-more i r u ss k e h a n =
 
 -- ---- the blocking of a task, from a pass over the streams
 
-pub blocking-by : (ss : List Stream) (i t n k most : ℕ) (b : Bool) → k ≡ n → b ≡ any (urgent t i) (take k ss) → most ≡ top (held t i) (take k ss)
+pub blocking-by : (ss : List Stream) (i t n k most : ℕ) (b : Bool) → k ≡ n → b ≡ any (urgent t i) (take k ss) → most ≡ top (blocks t i) (take k ss)
     → cond b most 0 ≡ blocking (take n ss) i t
 unfolding blocking
 blocking-by ss i t n k most b e p q = ap₂ (λ (x : Bool) (m : ℕ). cond x m 0) p q ∙ ap (λ (m : ℕ). blocking (take m ss) i t) e
@@ -51,17 +51,17 @@ module _ (i j r : ℕ) (low : i ≤ j) (high : j < r) where
   same-test s (inr b) = lt-leb (s .deadline) j (omega arith) ∙ sym (lt-leb (s .deadline) i (omega arith))
 
   same-urgent : (t : ℕ) (s : Stream) → ApartFrom i r s → urgent t j s ≡ urgent t i s
-  same-urgent t s a = ap (λ (b : Bool). eqb (s .task) t && b) (same-test s a)
+  same-urgent t s a = ap (λ (b : Bool). has t s && b) (same-test s a)
 
-  same-held : (t : ℕ) (s : Stream) → ApartFrom i r s → held t j s ≡ held t i s
-  same-held t s a = rw (same-test s a)
+  same-blocks : (t : ℕ) (s : Stream) → ApartFrom i r s → blocks t j s ≡ blocks t i s
+  same-blocks t s a = rw (same-test s a)
 
   same-blocking : (ss : List Stream) → All (ApartFrom i r) ss → (t : ℕ) → blocking ss j t ≡ blocking ss i t
   unfolding blocking
   same-blocking ss a t =
       ap₂ (λ (b : Bool) (n : ℕ). cond b n 0)
       (any-eq (urgent t j) (urgent t i) ss (all-map (ApartFrom i r) _ ss (same-urgent t) a))
-      (top-eq (held t j) (held t i) ss (all-map (ApartFrom i r) _ ss (same-held t) a))
+      (top-eq (blocks t j) (blocks t i) ss (all-map (ApartFrom i r) _ ss (same-blocks t) a))
 
   same-blockings : (ss : List Stream) → All (ApartFrom i r) ss → blockingsOf ss j ≡ blockingsOf ss i
   unfolding blockingsOf

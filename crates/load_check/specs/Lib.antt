@@ -1,3 +1,3 @@
 pub mod Dues
-pub mod Held
+pub mod Blocked
 pub mod Lengths

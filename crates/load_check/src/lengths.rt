@@ -7,8 +7,8 @@ ghost use Rattle.load_check.specs.Dues.{Sound};
 ghost use Rattle.load_check.specs.Lengths.{Spanned, Ranged};
 use crate::Rows;
 use crate::Tested;
+use crate::blocked;
 use crate::dues;
-use crate::held;
 use crate::wide;
 use rules::Set;
 
@@ -46,8 +46,8 @@ pub(crate) fn test_range(x: Set, from: u32, end: u32) -> Tested
     let t = dues::rows_of(x);
     let mut i = from;
     while i < end {
-        let stop = held::next_deadline(x, i, end);
-        let found = test_span(t, held::blockings(x, i), i, stop);
+        let stop = blocked::next_deadline(x, i, end);
+        let found = test_span(t, blocked::blockings(x, i), i, stop);
         match found {
             Tested::Late(at, w) => {
                 return Tested::Late(at, w);

@@ -1,6 +1,6 @@
 // The load check: demand and the verdict of a set, which speaks of every length.
 mod dues; // dues.rt: a set's tuples laid out in rows, and what is due by a length
-mod held; // held.rt: the blocking of each task
+mod blocked; // blocked.rt: the blocking of each task
 mod lengths; // lengths.rt: the testing of a range of lengths
 
 ghost use mathlib.Core.Path.{_≡_};
@@ -44,7 +44,7 @@ pub fn demand(x: Set, i: u32) -> CountAnswer
 {
     if stream_valid::is_valid(x) {
         let t = dues::rows_of(x);
-        CountAnswer::Number(dues::rows_due(t, i) + held::blockings(x, i))
+        CountAnswer::Number(dues::rows_due(t, i) + blocked::blockings(x, i))
     } else {
         CountAnswer::Refused(Refusal::OutOfRule)
     }

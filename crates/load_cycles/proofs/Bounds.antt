@@ -14,6 +14,7 @@ use Rattle.rules.specs.declared.TuplePlace.{TuplePlace}
 use Rattle.rules.specs.declared.Stream.{Stream}
 use Rattle.rules.specs.Streams.{tuplesOf, offsetAt}
 use Rattle.rules.specs.Load.{rateOf, rate, streamLoad, deadlineOf, greatestDeadline, streamOffset, greatestOffset}
+use Rattle.rules.proofs.Stages.{load-by-cost}
 use Rattle.rules.specs.Valid.{ValidPlace, ValidStream}
 
 -- what stands at a place past the end of the streams
@@ -34,10 +35,10 @@ pub rate-fits : (c h : ℕ) (p : TuplePlace) → c ≤ 65535 → h ≤ 1000000 �
 rate-fits c h p x y = le-trans (mul-le-mul {n₂ = 65535} {m₂ = 1000000} x (le-trans (rate-le h (p .tuple)) y)) (lit≤ tt)
 
 pub stream-load-fits : (s : Stream) (h : ℕ) → ValidStream s → h ≤ 1000000 → streamLoad h s ≤ 262140000000
-unfolding streamLoad
 stream-load-fits s h v y =
     omega (
       arith,
+      load-by-cost h s,
       v .count,
       length-take (s .count) (s .tuples),
       sum-le (rate h (s .cost)) 65535000000 (tuplesOf s) (all-each (λ p. rate h (s .cost) p ≤ 65535000000) (tuplesOf s) (λ p. rate-fits (s .cost) h p (v .cost .high) y)),

@@ -17,7 +17,7 @@ use Rattle.rules.specs.declared.State.{State}
 use Rattle.rules.specs.declared.PostAnswer.the-variants.{Posted}
 use Rattle.rules.specs.States.{noMessage, pending, taskOf, startedOf, wellFormed}
 use Rattle.rules.specs.Steps.{newMessage, added, postOf, messageAt, placeOf, departed, laxityOf, unitOf}
-use Rattle.state_formed.proofs.WellFormed.{well-formed, sound, task-in}
+use Rattle.state_formed.proofs.WellFormed.{well-formed, in-range, task-in}
 use Rattle.state_choosing.specs.Words.{at, Served}
 use Rattle.state_choosing.proofs.Choice.{choice, place-in, all-pending, pending-at}
 use Rattle.promise_steps.proofs.Started.{once}
@@ -54,7 +54,7 @@ module _ (s : State) (h : Formed s) (some : s .count ≡ 0 → ⊥) (j : ℕ) (q
   passes i r e u = rw (here i r, lt-ltb 0 (messageAt s i .used) u, eq-eqb (taskOf (s .set) (messageAt s i)) (taskOf (s .set) (messageAt s j)) e)
 
   one : count (startedOf (s .set) (taskOf (s .set) (messageAt s j))) (pending s) ≤ 1
-  one = once (s .set) (pending s) (well-formed s (h .formed) .once) (taskOf (s .set) (messageAt s j)) (task-in s (sound s (h .formed)) ms j q ss)
+  one = once (s .set) (pending s) (well-formed s (h .formed) .once) (taskOf (s .set) (messageAt s j)) (task-in s (in-range s (h .formed)) ms j q ss)
 
   apart : (a b : ℕ) → a < b → b < s .count → startedOf (s .set) (taskOf (s .set) (messageAt s j)) (at (pending s) a) ≡ true → startedOf (s .set) (taskOf (s .set) (messageAt s j)) (at (pending s) b) ≡ true → ⊥
   apart a b l r e f = omega (arith, one, count-two (startedOf (s .set) (taskOf (s .set) (messageAt s j))) (pending s) noMessage a b l (listed b r) e f)

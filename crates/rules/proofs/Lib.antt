@@ -2,6 +2,7 @@
 pub mod Examples
 pub mod Valid
 pub mod Stages
+pub mod Ahead
 pub mod Finite
 pub mod Cycles
 pub mod Judge

@@ -1,3 +1,4 @@
 pub mod Signed
 pub mod Ways
 pub mod Serving
+pub mod Calls

@@ -19,10 +19,10 @@ use Rattle.rules.specs.declared.UnitAnswer.{UnitAnswer}
 use Rattle.rules.specs.declared.UnitAnswer.the-variants.{Ran, Finished, Cut, Idle, Refused as UnitRefused}
 use Rattle.rules.specs.States.{noMessage, taskOf, costOf, lastClock, wellFormed}
 use Rattle.rules.specs.Steps.{messageAt, placeOf, ticked, stayed, departed, laxityOf, answered, servedOf, emptyUnit, unitOf}
-use Rattle.state_formed.proofs.WellFormed.{well-formed, sound, unused-zero, stands, message-stream}
-use Rattle.state_choosing.specs.declared.Found.{Found}
-use Rattle.state_choosing.specs.declared.Found.the-variants.{IllFormed as NotFormed, Nothing as Nowhere, At}
-use Rattle.state_choosing.specs.Found.{foundOf}
+use Rattle.state_formed.proofs.WellFormed.{well-formed, in-range, unused-zero, stands, message-stream}
+use Rattle.state_choosing.specs.declared.ToServe.{ToServe}
+use Rattle.state_choosing.specs.declared.ToServe.the-variants.{IllFormed as NotFormed, Nothing as Nowhere, At}
+use Rattle.state_choosing.specs.ToServe.{serveOf}
 use Rattle.state_choosing.proofs.Looking.{serves, place-count, place-lt}
 use Rattle.scheduler.specs.declared.Work.{Work}
 use Rattle.scheduler.specs.declared.Work.the-variants.{Refused as Refuse, Idle as Rest, Serve}
@@ -116,18 +116,18 @@ unit-if s i task cost true true false d e = rw e
 unit-if s i task cost true false true d e = rw e
 unit-if s i task cost true false false d e = rw e
 
-module _ (s : State) (done : Bool) (f : Found) (w : Work) (e : f ≡ foundOf s) (q : w ≡ workOf f (s .clock) done) where
+module _ (s : State) (done : Bool) (f : ToServe) (w : Work) (e : f ≡ serveOf s) (q : w ≡ workOf f (s .clock) done) where
   pub unit-by : unitBy w s done ≡ unitOf s done
-  unfolding foundOf unitOf
+  unfolding serveOf unitOf
   unit-by = rw (q, e) (unit-if s (placeOf s) _ _ (wellFormed s) (eqb (s .count) 0) _ done refl)
 
 -- what follows of what was found and of the clock
-abbrev Told : Work → Found → ℕ → Type 0
+abbrev Told : Work → ToServe → ℕ → Type 0
 Told (Refuse why) f clock = Unit {0}
 Told Rest f clock = clock < lastClock
 Told (Serve i task cost) f clock = (clock < lastClock) × (f ≡ At i task cost)
 
-told-if : (f : Found) (clock : ℕ) (l d : Bool) → ltb clock lastClock ≡ l → Told (workOf f clock d) f clock
+told-if : (f : ToServe) (clock : ℕ) (l d : Bool) → ltb clock lastClock ≡ l → Told (workOf f clock d) f clock
 unfolding workOf
 told-if NotFormed clock l d e = tt
 told-if Nowhere clock true true e = rw e tt
@@ -136,7 +136,7 @@ told-if Nowhere clock false d e = rw e tt
 told-if (At i task cost) clock true d e = rw e (ltb-true clock lastClock e, refl)
 told-if (At i task cost) clock false d e = rw e tt
 
-pub told : (w : Work) (f : Found) (clock : ℕ) (done : Bool) → w ≡ workOf f clock done → Told w f clock
+pub told : (w : Work) (f : ToServe) (clock : ℕ) (done : Bool) → w ≡ workOf f clock done → Told w f clock
 told w f clock done q = rw q (told-if f clock _ done refl)
 
 -- what a unit of the message at i relies on
@@ -151,12 +151,12 @@ pub record Serving (s : State) (i t c : ℕ) : Type 0 where
   pub task : t ≡ taskOf (s .set) (messageAt s i)
   pub cost : c ≡ costOf (s .set) (messageAt s i)
 
-module _ (s : State) (done : Bool) (f : Found) (w : Work) (i t c : ℕ) (e : f ≡ foundOf s) (q : w ≡ workOf f (s .clock) done) (r : w ≡ Serve i t c) where
+module _ (s : State) (done : Bool) (f : ToServe) (w : Work) (i t c : ℕ) (e : f ≡ serveOf s) (q : w ≡ workOf f (s .clock) done) (r : w ≡ Serve i t c) where
   pub serving : length (s .messages) ≡ 64 → length (s .set .streams) ≡ 16 → Serving s i t c
   serving ms ss =
       let at = told (Serve i t c) f (s .clock) done (sym r ∙ q) in
       let h = serves s f e i t c (at .1) in
-      let formed = sound s (h .chosen .formed) in
+      let formed = in-range s (h .chosen .formed) in
       let well = well-formed s (h .chosen .formed) in
       let in-count = place-count s i (h .chosen) ms ss in
       record {

@@ -3,8 +3,8 @@
 use Prim.Native.Nat.{ℕ}
 use mathlib.Core.Bool.{Bool, cond}
 use lib.Dec.{ltb}
-use Rattle.state_choosing.specs.declared.Found.{Found}
-use Rattle.state_choosing.specs.declared.Found.the-variants.{IllFormed as NotFormed, Nothing, At}
+use Rattle.state_choosing.specs.declared.ToServe.{ToServe}
+use Rattle.state_choosing.specs.declared.ToServe.the-variants.{IllFormed as NotFormed, Nothing, At}
 use Rattle.rules.specs.declared.Message.{Message}
 use Rattle.rules.specs.declared.Refusal.the-variants.{LastClock, NothingPending, IllFormed}
 use Rattle.rules.specs.declared.UnitAnswer.{UnitAnswer}
@@ -15,7 +15,7 @@ use Rattle.scheduler.specs.declared.Work.{Work}
 use Rattle.scheduler.specs.declared.Work.the-variants.{Refused, Idle, Serve}
 
 -- "Unit 12, 3, 4."
-unfoldable pub workOf : Found → ℕ → Bool → Work
+unfoldable pub workOf : ToServe → ℕ → Bool → Work
 workOf NotFormed clock done = Refused IllFormed
 workOf Nothing clock done = cond (ltb clock lastClock) (cond done (Refused NothingPending) Idle) (Refused LastClock)
 workOf (At i task cost) clock done = cond (ltb clock lastClock) (Serve i task cost) (Refused LastClock)

@@ -1,7 +1,10 @@
 // The steps of the scheduler: start, post, choose and unit.
 ghost use mathlib.Core.Path.{_≡_};
-ghost use Rattle.rules.specs.Steps.{fresh, startOf, postOf, chooseOf, laxityOf, unitOf};
+ghost use Rattle.rules.specs.Steps.{fresh, startOf, postOf, chooseOf, laxityOf, unitOf, callOf};
 ghost use Rattle.scheduler.specs.Serving.{workOf, servedAnswer};
+use rules::Call;
+use rules::CallAnswer;
+use rules::CallResult;
 use rules::ChooseAnswer;
 use rules::Message;
 use rules::PostAnswer;
@@ -13,7 +16,7 @@ use rules::StartResult;
 use rules::State;
 use rules::UnitAnswer;
 use rules::UnitResult;
-use state_choosing::Found;
+use state_choosing::ToServe;
 
 // ---- start
 
@@ -91,9 +94,9 @@ pub fn choose(s: State) -> ChooseAnswer
 {
     let found = state_choosing::look(s);
     match found {
-        Found::IllFormed => ChooseAnswer::Refused(Refusal::IllFormed),
-        Found::Nothing => ChooseAnswer::Nothing,
-        Found::At(i, task, _) => {
+        ToServe::IllFormed => ChooseAnswer::Refused(Refusal::IllFormed),
+        ToServe::Nothing => ChooseAnswer::Nothing,
+        ToServe::At(i, task, _) => {
             let m = s.messages[i];
             ChooseAnswer::Runs(task, m.stream)
         }
@@ -110,13 +113,13 @@ enum Work {
 }
 
 // In the order 12, 3, 4.
-fn decide(found: Found, clock: u32, done: bool) -> Work
+fn decide(found: ToServe, clock: u32, done: bool) -> Work
     ensures { λ r. ⌜ r ≡ workOf found clock done ⌝ }
 {
     match found {
-        Found::IllFormed => Work::Refused(Refusal::IllFormed),
-        Found::Nothing => {
-            if 4000000000 <= clock {
+        ToServe::IllFormed => Work::Refused(Refusal::IllFormed),
+        ToServe::Nothing => {
+            if rules::LAST_CLOCK <= clock {
                 return Work::Refused(Refusal::LastClock);
             }
             if done {
@@ -124,8 +127,8 @@ fn decide(found: Found, clock: u32, done: bool) -> Work
             }
             Work::Idle
         }
-        Found::At(i, task, cost) => {
-            if clock < 4000000000 {
+        ToServe::At(i, task, cost) => {
+            if clock < rules::LAST_CLOCK {
                 return Work::Serve(i, task, cost);
             }
             Work::Refused(Refusal::LastClock)
@@ -194,5 +197,29 @@ pub fn unit(s: State, done: bool) -> UnitResult
     UnitResult {
         answer: a,
         state: next,
+    }
+}
+
+// ---- a call
+
+// A post or a unit.
+pub fn call(s: State, c: Call) -> CallResult
+    ensures { λ r. ⌜ r ≡ callOf s c ⌝ }
+{
+    match c {
+        Call::Posts(k) => {
+            let r = post(s, k);
+            let said = r.answer;
+            let answer = CallAnswer::ToPost(said);
+            let state = r.state;
+            CallResult { answer, state }
+        }
+        Call::Units(done) => {
+            let r = unit(s, done);
+            let said = r.answer;
+            let answer = CallAnswer::ToUnit(said);
+            let state = r.state;
+            CallResult { answer, state }
+        }
     }
 }

@@ -18,7 +18,7 @@ use Rattle.rules.specs.declared.Message.{Message}
 use Rattle.rules.specs.declared.State.{State}
 use Rattle.rules.specs.States.{noMessage, taskOf, wellFormed}
 use Rattle.rules.specs.Steps.{taskDeadline, startedAt, urgentAt, messageAt}
-use Rattle.state_formed.proofs.WellFormed.{blank, well-formed, sound, stream-place, stream-read, task-read}
+use Rattle.state_formed.proofs.WellFormed.{blank, well-formed, in-range, stream-place, stream-read, task-read}
 use Rattle.state_choosing.specs.Table.{Table, Tables, at}
 use Rattle.state_choosing.proofs.Front.{deadline-own, deadline-other, deadline-later, urgent-own, urgent-other, urgent-later, started-own, started-other, started-not}
 
@@ -92,13 +92,13 @@ module _ {s : State} {j : ℕ} {deadlines due started : List ℕ} (k : ℕ) (inv
   message-in = omega (arith, inv .inside, well-formed s (inv .formed) .few)
 
   pub stream-in : messageAt s k .stream < 16
-  stream-in = stream-place s (sound s (inv .formed)) (inv .places) k inside
+  stream-in = stream-place s (in-range s (inv .formed)) (inv .places) k inside
 
   pub task-in : taskRead s k < 16
-  task-in = task-read s (sound s (inv .formed)) (inv .places) k inside (inv .streams)
+  task-in = task-read s (in-range s (inv .formed)) (inv .places) k inside (inv .streams)
 
   his : taskRead s k ≡ taskOf (s .set) (messageAt s k)
-  his = ap (λ (x : Stream). x .task) (stream-read s (sound s (inv .formed)) (inv .places) k inside (inv .streams))
+  his = ap (λ (x : Stream). x .task) (stream-read s (in-range s (inv .formed)) (inv .places) k inside (inv .streams))
 
   tables : Tables (s .set) (part (k + 1) (s .count) (s .messages)) (k + 1) deadlines due started
   tables = rw back at (inv .tables)

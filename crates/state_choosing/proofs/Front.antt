@@ -1,7 +1,7 @@
 -- One message more in front of others: what it changes for each task, its deadline and the places of its messages that can be served.
 -- Assumes nothing.
 use Prim.Native.Nat.{ℕ, _+_, _≤_, _<_}
-use mathlib.Core.Bool.{Bool, true, false, _&&_}
+use mathlib.Core.Bool.{Bool, true, false, not, _&&_}
 use mathlib.Core.List.{List, _∷_}
 use mathlib.Core.Path.{_≡_, refl}
 use native.Mathlib.Omega.{arith}
@@ -41,7 +41,7 @@ module _ (x : Set) (l : List Message) (k : ℕ) (m : Message) (t : ℕ) (e : t �
   deadline-other u f = deadline-kept u (rw (not-his u f))
 
   pub urgent-other : (u : ℕ) → (t ≡ u → ⊥) → k + 1 + urgentAt x l u ≡ k + urgentAt x (m ∷ l) u
-  urgent-other u f = urgent-kept u (deadline-other u f) (both-no (eqb (m .deadline) (taskDeadline x l u)) (eqb (taskOf x m) u) (not-his u f))
+  urgent-other u f = urgent-kept u (deadline-other u f) (both-no (not (ltb (taskDeadline x l u) (m .deadline))) (eqb (taskOf x m) u) (not-his u f))
 
   pub started-other : (u : ℕ) → (t ≡ u → ⊥) → k + 1 + startedAt x l u ≡ k + startedAt x (m ∷ l) u
   started-other u f = started-kept u (both-no (ltb 0 (m .used)) (eqb (taskOf x m) u) (not-his u f))
@@ -56,7 +56,7 @@ module _ (x : Set) (l : List Message) (k : ℕ) (m : Message) (t : ℕ) (e : t �
 
     pub urgent-own : k ≡ k + urgentAt x (m ∷ l) t
     unfolding urgentAt find
-    urgent-own = rw (← deadline-own, eq-eqb (m .deadline) (m .deadline) refl, ← e, eq-eqb t t refl) (omega arith)
+    urgent-own = rw (← deadline-own, le-ltb (m .deadline) (m .deadline) (omega arith), ← e, eq-eqb t t refl) (omega arith)
 
   -- where one is, its task keeps them too
   module _ (h : taskDeadline x l t < m .deadline) where
@@ -69,7 +69,7 @@ module _ (x : Set) (l : List Message) (k : ℕ) (m : Message) (t : ℕ) (e : t �
     pub urgent-later : (u : ℕ) → k + 1 + urgentAt x l u ≡ k + urgentAt x (m ∷ l) u
     urgent-later u =
         by-test (eqb t u)
-        (λ q. urgent-kept u (deadline-later u) (rw (← eqb-true t u q, ne-eqb (m .deadline) (taskDeadline x l t) (λ z. omega arith))))
+        (λ q. urgent-kept u (deadline-later u) (rw (← eqb-true t u q, lt-ltb (taskDeadline x l t) (m .deadline) h)))
         (λ q. urgent-other u (eqb-false t u q))
 
   -- a started message, and one that is not

@@ -11,10 +11,10 @@ use Rattle.rules.specs.declared.Stream.{Stream}
 use Rattle.rules.specs.declared.State.{State}
 use Rattle.rules.specs.States.{taskOf, costOf, wellFormed}
 use Rattle.rules.specs.Steps.{placeOf, messageAt}
-use Rattle.state_formed.proofs.WellFormed.{blank, well-formed, sound, stream-place, stream-read}
-use Rattle.state_choosing.specs.declared.Found.{Found}
-use Rattle.state_choosing.specs.declared.Found.the-variants.{IllFormed, Nothing, At}
-use Rattle.state_choosing.specs.Found.{foundOf}
+use Rattle.state_formed.proofs.WellFormed.{blank, well-formed, in-range, stream-place, stream-read}
+use Rattle.state_choosing.specs.declared.ToServe.{ToServe}
+use Rattle.state_choosing.specs.declared.ToServe.the-variants.{IllFormed, Nothing, At}
+use Rattle.state_choosing.specs.ToServe.{serveOf}
 use Rattle.state_choosing.proofs.Choice.{place-in}
 
 -- i is the place of the choice, in a well formed state with something pending
@@ -49,7 +49,7 @@ module _ (j t c : ℕ) where
   is-ill true false e = absurd (let q : _≡_ {A = ℕ} 0 1 = cc in omega arith)
   is-ill false z e = refl
 
-module _ (s : State) (f : Found) (e : f ≡ foundOf s) where
+module _ (s : State) (f : ToServe) (e : f ≡ serveOf s) where
   abbrev task : ℕ
   task = taskOf (s .set) (messageAt s (placeOf s))
 
@@ -57,19 +57,19 @@ module _ (s : State) (f : Found) (e : f ≡ foundOf s) where
   cost = costOf (s .set) (messageAt s (placeOf s))
 
   pub serves : (i t c : ℕ) → f ≡ At i t c → Serves s i t c
-  unfolding foundOf
+  unfolding serveOf
   serves i t c q =
       let r = is-at (placeOf s) task cost (wellFormed s) (eqb (s .count) 0) i t c (sym q ∙ e) in
       record { chosen = record { formed = r .0; some = eqb-false (s .count) 0 (r .1); place = r .2 }; task = rw (r .2) (r .3); cost = rw (r .2) (r .4) }
 
   pub rests : f ≡ Nothing → Rests s
-  unfolding foundOf
+  unfolding serveOf
   rests q =
       let r = is-nothing (placeOf s) task cost (wellFormed s) (eqb (s .count) 0) (sym q ∙ e) in
       record { formed = r .0; none = eqb-true (s .count) 0 (r .1) }
 
   pub ill : f ≡ IllFormed → wellFormed s ≡ false
-  unfolding foundOf
+  unfolding serveOf
   ill q = is-ill (placeOf s) task cost (wellFormed s) (eqb (s .count) 0) (sym q ∙ e)
 
 -- ---- the message that is served
@@ -82,12 +82,12 @@ module _ (s : State) (i : ℕ) (h : Chosen s i) (ms : length (s .messages) ≡ 6
   place-lt = omega (arith, place-count, well-formed s (h .formed) .few)
 
   pub stream-lt : messageAt s i .stream < 16
-  stream-lt = stream-place s (sound s (h .formed)) ms i place-count
+  stream-lt = stream-place s (in-range s (h .formed)) ms i place-count
 
   -- its stream, as the code reads it
   abbrev stream : Stream
   stream = getD (s .set .streams) (messageAt s i .stream) blank
 
-  pub found : At i (stream .task) (stream .cost) ≡ foundOf s
-  unfolding foundOf
-  found = rw (stream-read s (sound s (h .formed)) ms i place-count ss, h .formed, ne-eqb _ _ (h .some), ← h .place)
+  pub found : At i (stream .task) (stream .cost) ≡ serveOf s
+  unfolding serveOf
+  found = rw (stream-read s (in-range s (h .formed)) ms i place-count ss, h .formed, ne-eqb _ _ (h .some), ← h .place)

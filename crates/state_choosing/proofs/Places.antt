@@ -7,23 +7,24 @@ use native.Mathlib.Omega.{arith}
 use borrow.Author.Tests.{lt-ltb, le-ltb}
 use lib.ListN.{length}
 use lib.Seq.{length-take-le}
-use Rattle.laws.specs.Lists.{firstLeast}
-use Rattle.laws.proofs.Parts.{part-all, first-least-same}
+use Rattle.laws.specs.Lists.{firstBy}
+use Rattle.laws.proofs.Parts.{part-all, first-by-same}
 use Rattle.rules.specs.declared.State.{State}
 use Rattle.rules.specs.States.{pending}
-use Rattle.rules.specs.Steps.{taskDeadline, runningTask, startedAt, urgentAt, servedAt, placeOf}
+use Rattle.rules.specs.Steps.{taskDeadline, ahead, noTurn, runningTask, turnOf, startedAt, urgentAt, servedAt, placeOf}
 use Rattle.state_formed.proofs.WellFormed.{well-formed}
 use Rattle.state_choosing.specs.Table.{Tables, at}
 use Rattle.state_choosing.proofs.Filling.{Filled}
 
 module _ {s : State} {k : ℕ} {deadlines due started : List ℕ} (t : ℕ) (inv : Filled s k deadlines due started) (end : k ≤ 0)
-    (e : t ≡ firstLeast (at deadlines) 16) (t-in : t < 16) where
+    (e : t ≡ firstBy (ahead (at deadlines) noTurn) 16) (t-in : t < 16) where
   tables : Tables (s .set) (pending s) 0 deadlines due started
   tables = rw (let z : k ≡ 0 = omega arith in z, part-all) at (inv .tables)
 
-  runs : t ≡ runningTask (s .set) (pending s)
-  unfolding runningTask
-  runs = e ∙ first-least-same (at deadlines) (taskDeadline (s .set) (pending s)) 16 (tables .deadline .holds)
+  runs : t ≡ runningTask (turnOf s) (s .set) (pending s)
+  unfolding runningTask ahead
+  runs = e ∙ first-by-same (ahead (at deadlines) noTurn) (ahead (taskDeadline (s .set) (pending s)) noTurn) 16
+      (λ j i p q. rw (tables .deadline .holds j p, tables .deadline .holds i q))
 
   all-pending : length (pending s) ≡ s .count
   all-pending = length-take-le (s .count) (s .messages) (omega (arith, well-formed s (inv .formed) .few, inv .places))

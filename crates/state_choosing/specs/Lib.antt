@@ -1,3 +1,3 @@
 pub mod Table
-pub mod Found
+pub mod ToServe
 pub mod Words

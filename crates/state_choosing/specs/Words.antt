@@ -20,15 +20,16 @@ pub record DeadlineOf (x : Set) (l : List Message) (t v : ℕ) : Type 0 where
   pub that : at l who .deadline ≡ v
   pub least : (j : ℕ) → j < length l → taskOf x (at l j) ≡ t → v ≤ at l j .deadline
 
--- the message at k is served
-pub record Served (x : Set) (l : List Message) (k : ℕ) : Type 0 where
+-- the message at k is served, where the tasks have these turns
+pub record Served (turn : ℕ → ℕ) (x : Set) (l : List Message) (k : ℕ) : Type 0 where
   pub inside : k < length l
   pub v : ℕ
   pub own : DeadlineOf x l (taskOf x (at l k)) v
   -- "The task with the least deadline runs"
   pub first : (t w : ℕ) → DeadlineOf x l t w → v ≤ w
-  -- "on a tie, the lowest task number"
-  pub tie : (t w : ℕ) → DeadlineOf x l t w → w ≡ v → taskOf x (at l k) ≤ t
+  -- on a tie the least turn; "on a tie, the lowest task number"
+  pub turned : (t w : ℕ) → DeadlineOf x l t w → w ≡ v → turn (taskOf x (at l k)) ≤ turn t
+  pub tie : (t w : ℕ) → DeadlineOf x l t w → w ≡ v → turn (taskOf x (at l k)) ≡ turn t → taskOf x (at l k) ≤ t
   -- "It serves its started message if there is one"
   pub started : (j : ℕ) → j < length l → taskOf x (at l j) ≡ taskOf x (at l k) → 0 < at l j .used → 0 < at l k .used
   -- "else its message of least deadline"

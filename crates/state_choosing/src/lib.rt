@@ -2,15 +2,15 @@
 ghost use mathlib.Core.Path.{_≡_};
 ghost use mathlib.Core.Bool.{cond};
 ghost use Prim.Native.Nat.{_<_};
-ghost use Rattle.laws.specs.Lists.{firstLeast};
-ghost use Rattle.rules.specs.Steps.{sooner};
+ghost use Rattle.laws.specs.Lists.{firstBy};
+ghost use Rattle.rules.specs.Steps.{sooner, ahead, noTurn};
 ghost use Rattle.state_choosing.specs.Table.{at};
-ghost use Rattle.state_choosing.specs.Found.{foundOf};
+ghost use Rattle.state_choosing.specs.ToServe.{serveOf};
 use rules::State;
 
 // What there is to serve in a state: nothing where it is not well formed, nothing pending, or the message at a place, with its
 // task and its cost c.
-pub enum Found {
+pub enum ToServe {
     IllFormed,
     Nothing,
     At(usize, usize, u32),
@@ -25,7 +25,7 @@ fn better(a: u64, b: u64, t: usize, best: usize) -> usize
 
 // The first place of a table where it is least: of tasks with the same deadline the lowest.
 fn least_task(table: [u64; 16]) -> usize
-    ensures { λ r. ⌜ (r < 16) × (r ≡ firstLeast (at table) 16) ⌝ }
+    ensures { λ r. ⌜ (r < 16) × (r ≡ firstBy (ahead (at table) noTurn) 16) ⌝ }
 {
     let mut best: usize = 0;
     let mut t: usize = 0;
@@ -38,20 +38,20 @@ fn least_task(table: [u64; 16]) -> usize
 
 // What there is to serve. The state is tested here, once for a call. From the last message to the first three things are kept for
 // each task: its deadline, the place of its message that is due then, and the place of its started one.
-pub fn look(s: State) -> Found
-    ensures { λ r. ⌜ r ≡ foundOf s ⌝ }
+pub fn look(s: State) -> ToServe
+    ensures { λ r. ⌜ r ≡ serveOf s ⌝ }
 {
     if !stream_valid::is_valid(s.set) {
-        return Found::IllFormed;
+        return ToServe::IllFormed;
     }
-    let messages = s.messages;
-    if !state_formed::formed(s.set, messages, s.clock, s.count) {
-        return Found::IllFormed;
+    if !state_formed::formed(s) {
+        return ToServe::IllFormed;
     }
     let n = s.count;
     if n == 0 {
-        return Found::Nothing;
+        return ToServe::Nothing;
     }
+    let messages = s.messages;
     let streams = s.set.streams;
     let mut deadlines = [4294967296u64; 16];
     let mut due = [n; 16];
@@ -80,5 +80,5 @@ pub fn look(s: State) -> Found
     let m = messages[place];
     let j = m.stream;
     let x = streams[j];
-    Found::At(place, x.task, x.cost)
+    ToServe::At(place, x.task, x.cost)
 }

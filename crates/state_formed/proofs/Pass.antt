@@ -17,7 +17,7 @@ use Rattle.rules.specs.declared.Stream.{Stream}
 use Rattle.rules.specs.declared.State.{State}
 use Rattle.rules.specs.Streams.{streamAt, noStream}
 use Rattle.rules.specs.States.{noMessage, pending, taskOf, postedAt, messageOk, messagesOk, startedOnce, messageUnused}
-use Rattle.state_formed.specs.Sound.{restFormed}
+use Rattle.state_formed.specs.InRange.{restFormed}
 use Rattle.state_formed.proofs.Standing.{message-out, message-beyond, message-by}
 use Rattle.state_formed.proofs.Tally.{Tally, tally-start, tally-past, tally-go, tally-no, tally-end}
 use Rattle.state_formed.proofs.WellFormed.{blank, no-test}

@@ -21,7 +21,7 @@ use Rattle.rules.specs.States.{noMessage, pending, taskOf, postedAt, messageOk,
 use Rattle.rules.specs.Steps.{messageAt}
 use Rattle.rules.specs.Valid.{ValidStream, ValidSet}
 use Rattle.rules.proofs.Valid.{valid-set}
-use Rattle.state_formed.specs.Sound.{Sound, restFormed}
+use Rattle.state_formed.specs.InRange.{InRange, restFormed}
 use Rattle.state_formed.proofs.Standing.{Standing, standing}
 
 -- the default of a place that the machine reads within an array
@@ -46,8 +46,8 @@ pub well-formed-back : (s : State) → WellFormed s → wellFormed s ≡ true
 unfolding wellFormed
 well-formed-back s h = rw (h .set, le-leb (s .count) 64 (h .few), le-leb (s .clock) 4000000000 (h .clock), h .each, h .once, h .unused)
 
-pub sound : (s : State) → wellFormed s ≡ true → Sound s
-sound s e = let h = well-formed s e in record { set = h .set; few = h .few; each = h .each }
+pub in-range : (s : State) → wellFormed s ≡ true → InRange s
+in-range s e = let h = well-formed s e in record { set = h .set; few = h .few; each = h .each }
 
 -- the places behind the messages
 pub unused-zero : (s : State) → WellFormed s → (j : ℕ) → s .count ≤ j → messageAt s j ≡ noMessage
@@ -70,7 +70,7 @@ stream-valid x k e l h =
     let v = valid-set x e in
     all-take-at ValidStream (x .streams) (x .count) k noStream h (omega (arith, v .count)) (v .streams)
 
-module _ (s : State) (h : Sound s) (ms : length (s .messages) ≡ 64) (k : ℕ) (q : k < s .count) where
+module _ (s : State) (h : InRange s) (ms : length (s .messages) ≡ 64) (k : ℕ) (q : k < s .count) where
   -- a pending message stands behind what was posted before it
   pub stands : (b : ℕ) × Standing (s .set) (s .clock) b (messageAt s k)
   unfolding messagesOk

@@ -1,9 +1,8 @@
 // Is a state well formed? And the readers that the steps use.
 ghost use mathlib.Core.Path.{_≡_};
 ghost use Rattle.rules.specs.States.{noMessage, messageUnused, wellFormed};
-ghost use Rattle.state_formed.specs.Sound.{stateOf, restFormed};
+ghost use Rattle.state_formed.specs.InRange.{restFormed};
 use rules::Message;
-use rules::Set;
 use rules::State;
 
 pub fn no_message() -> Message
@@ -22,22 +21,24 @@ fn message_unused(m: Message) -> bool
     (m.stream == 0) & ((m.deadline == 0) & (m.used == 0))
 }
 
-// The tests of a state of these parts but for the first, that its set is valid. A first pass over the pending messages: each names a stream of the set, has
+// The tests of a state but for the first, that its set is valid. A first pass over the pending messages: each names a stream of the set, has
 // used less than c, was posted by now and not before the one in front of it, and is its task's only started one. A second over the places behind: they
 // are zero. Both passes stand here, since what is handed to another function is copied.
-pub fn formed(set: Set, messages: [Message; 64], clock: u32, count: usize) -> bool
-    ensures { λ r. ⌜ r ≡ restFormed (stateOf set clock count messages) ⌝ }
+pub fn formed(s: State) -> bool
+    ensures { λ r. ⌜ r ≡ restFormed s ⌝ }
 {
-    if 64 < count {
+    if 64 < s.count {
         return false;
     }
-    if 4000000000 < clock {
+    if rules::LAST_CLOCK < s.clock {
         return false;
     }
+    let set = s.set;
+    let messages = s.messages;
     let mut counts = [0u32; 16];
     let mut before: u32 = 0;
     let mut k: usize = 0;
-    while k < count {
+    while k < s.count {
         let m = messages[k];
         let i = m.stream;
         if !((i < set.count) & (i < 16)) {
@@ -47,7 +48,7 @@ pub fn formed(set: Set, messages: [Message; 64], clock: u32, count: usize) -> bo
         let t = x.task;
         let at = stream_valid::less(m.deadline, x.deadline);
         let ok = (m.used < x.cost)
-            & (((x.deadline <= m.deadline) & (at <= clock)) & (before <= at));
+            & (((x.deadline <= m.deadline) & (at <= s.clock)) & (before <= at));
         if !ok {
             return false;
         }
@@ -77,6 +78,5 @@ pub fn well_formed(s: State) -> bool
     if !stream_valid::is_valid(s.set) {
         return false;
     }
-    let messages = s.messages;
-    formed(s.set, messages, s.clock, s.count)
+    formed(s)
 }

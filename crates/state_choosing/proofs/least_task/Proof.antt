@@ -6,14 +6,13 @@ use Prim.Native.Nat.{ℕ, _+_, _-_, _≤_, _<_}
 use lib.ListN.{length, getD}
 use lib.Dec.{ltb}
 use Rattle.laws.proofs.Parts.{sized}
-use Rattle.laws.specs.Lists.{firstLeast}
 use Rattle.state_choosing.specs.Table.{at}
-use Rattle.state_choosing.proofs.Least.{least-start, least-go, least-in}
+use Rattle.state_choosing.proofs.Least.{leastBy, least-start, least-go, least-in}
 use Rattle.state_choosing.proofs.least_task.Statement.{statement}
 use Rattle.state_choosing.proofs.least_task.Tie as tie
 
 abbrev Inv-loop : tie.InvT-loop
-Inv-loop table best₀ t₀ best t = (length table ≡ 16) × (best < 16) × (t ≤ 16) × (best ≡ firstLeast (at table) t)
+Inv-loop table best₀ t₀ best t = (length table ≡ 16) × (best < 16) × (t ≤ 16) × (best ≡ leastBy (at table) t)
 
 abbrev μ-loop : tie.MeasureT-loop
 μ-loop table best₀ t₀ best t = 16 - t
@@ -52,7 +51,7 @@ returns : tie.Need-returns Inv-loop μ-loop
 returns c =
     let start = c .before .before in
     let loop = c .before .loop in
-    (loop .inv .1, loop .inv .3 ∙ ap (firstLeast (at (start .args .t1))) (let z : loop .t ≡ 16 = omega (arith, c .loop-test .left, loop .inv .2) in z))
+    (loop .inv .1, loop .inv .3 ∙ ap (leastBy (at (start .args .t1))) (let z : loop .t ≡ 16 = omega (arith, c .loop-test .left, loop .inv .2) in z))
 
 pub least-task-spec : {M : Type 1} → statement M
 least-task-spec =

@@ -9,7 +9,7 @@ use mathlib.Core.Path.{_≡_, sym, _∙_}
 use Rattle.laws.proofs.Parts.{sized}
 use Rattle.rules.specs.States.{wellFormed}
 use Rattle.state_formed.proofs.WellFormed.{set-fails, rest-tells}
-use Rattle.state_choosing.specs.Found.{foundOf}
+use Rattle.state_choosing.specs.ToServe.{serveOf}
 use Rattle.state_choosing.proofs.Filling.{Filled, filled-start, filled-go, message-in, stream-in, task-in, due-now, due-later, started-now, started-later}
 use Rattle.state_choosing.proofs.Places.{place-started, place-due}
 use Rattle.state_choosing.proofs.Looking.{Chosen, place-lt, stream-lt, found}
@@ -26,28 +26,28 @@ is-valid-requires : tie.Need-is-valid-requires Inv-loop μ-loop
 is-valid-requires c κs = search needs
 
 returns : tie.Need-returns Inv-loop μ-loop
-unfolding foundOf
+unfolding serveOf
 returns c = simp (sym (set-fails (c .before .before .args .s) (sym (c .before .is-valid .ensures) ∙ not-true _ (c .if1 .taken))))
 
 formed-requires : tie.Need-formed-requires Inv-loop μ-loop
 formed-requires c κs = search needs
 
 -- both tests together are that of a well formed state
-tested : (c : tie.After-formed Inv-loop μ-loop) → c .formed .result ≡ wellFormed (c .before .before .before .before .args .s)
-tested c = rest-tells _ _ (sym (c .before .before .before .is-valid .ensures) ∙ not-false _ (c .before .before .if1 .left)) (c .formed .ensures)
+tested : (c : tie.After-formed Inv-loop μ-loop) → c .formed .result ≡ wellFormed (c .before .before .before .args .s)
+tested c = rest-tells _ _ (sym (c .before .before .is-valid .ensures) ∙ not-false _ (c .before .if1 .left)) (c .formed .ensures)
 
 returns-2 : tie.Need-returns-2 Inv-loop μ-loop
-unfolding foundOf
+unfolding serveOf
 returns-2 c = simp (sym (tested (c .before)) ∙ not-true _ (c .if2 .taken))
 
 returns-3 : tie.Need-returns-3 Inv-loop μ-loop
-unfolding foundOf
+unfolding serveOf
 returns-3 c = simp ((sym (tested (c .before .before)) ∙ not-false _ (c .before .if2 .left)), eq-eqb _ _ (c .if3 .taken))
 
 loop-holds : tie.Need-loop-holds Inv-loop μ-loop
 loop-holds c =
     let start = c .before .before .before .before .before .before .before in
-    let w : wellFormed (start .args .s) ≡ true = sym (tested (c .before .before .before)) ∙ not-false _ (c .before .before .if2 .left) in
+    let w : wellFormed (start .args .s) ≡ true = sym (tested (c .before .before .before .before)) ∙ not-false _ (c .before .before .before .if2 .left) in
     filled-start (start .args .s) w (sized _ (start .args .s .messages) 64 (start .good .0 .1 .1 .1 .1 .1 .0 .1 .0 .1)) (sized _ (start .args .s .set .streams) 16 (start .good .0 .1 .1 .0 .1 .1 .1 .0 .1 .0 .1))
 
 sub-k : tie.Need-sub-k Inv-loop μ-loop
@@ -171,7 +171,7 @@ chosen c =
     let end = c .before .before .before .loop-test .left in
     record {
       formed = loop .inv .formed;
-      some = c .before .before .before .before .before .before .if3 .left;
+      some = c .before .before .before .before .before .before .before .if3 .left;
       place = ⊎-elim
           (λ w. w .1 ∙ place-due _ (loop .inv) end (least .ensures .1) (least .ensures .0) (w .0 .taken))
           (λ w. w .1 ∙ place-started _ (loop .inv) end (least .ensures .1) (least .ensures .0) (w .0 .left))

@@ -11,24 +11,23 @@ use Rattle.laws.specs.Lists.{all}
 use Rattle.laws.proofs.Parts.{sized}
 use Rattle.laws.proofs.Fits.{and-go, and-end}
 use Rattle.rules.specs.States.{noMessage, messageUnused}
-use Rattle.state_formed.specs.Sound.{stateOf}
 use Rattle.state_formed.proofs.WellFormed.{no-test}
 use Rattle.state_formed.proofs.Pass.{Opened, Pass, pass-start, pass-out, pass-stream, pass-no, pass-past, pass-task, pass-twice, pass-go, Passed, pass-end, last-test}
 use Rattle.state_formed.proofs.formed.Statement.{statement}
 use Rattle.state_formed.proofs.formed.Tie as tie
 
 abbrev Inv-loop : tie.InvT-loop
-Inv-loop clock count set messages counts₀ before₀ k₀ counts before k = Pass (stateOf set clock count messages) k before counts
+Inv-loop s set messages counts₀ before₀ k₀ counts before k = Pass s k before counts
 
 abbrev μ-loop : tie.MeasureT-loop
-μ-loop clock count set messages counts₀ before₀ k₀ counts before k = count - k
+μ-loop s set messages counts₀ before₀ k₀ counts before k = s .count - k
 
 abbrev Inv-loop2 : tie.InvT-loop2
-Inv-loop2 clock count messages before k₀ unused₀ k unused =
-    (length messages ≡ 64) × ((unused && all messageUnused (drop k messages)) ≡ all messageUnused (drop count messages))
+Inv-loop2 messages before k₀ unused₀ k unused =
+    (length messages ≡ 64) × ((unused && all messageUnused (drop k messages)) ≡ all messageUnused (drop k₀ messages))
 
 abbrev μ-loop2 : tie.MeasureT-loop2
-μ-loop2 clock count messages before k₀ unused₀ k unused = 64 - k
+μ-loop2 messages before k₀ unused₀ k unused = 64 - k
 
 returns : tie.Need-returns Inv-loop μ-loop Inv-loop2 μ-loop2
 returns c = no-test _ 0 (lt-leb _ 64 (c .if1 .taken))
@@ -38,73 +37,73 @@ returns-2 c = no-test _ 1 (lt-leb _ 4000000000 (c .if2 .taken))
 
 loop-holds : tie.Need-loop-holds Inv-loop μ-loop Inv-loop2 μ-loop2
 loop-holds c =
-    let start = c .before .before in
-    pass-start (stateOf (start .args .t1) (start .args .clock) (start .args .count) (start .args .t2)) (record {
-      few = c .before .if1 .left;
-      clock = c .if2 .left;
-      places = start .good .1 .0 .1 .0 .1;
-      streams = sized _ (start .args .t1 .streams) 16 (start .good .0 .1 .1 .1 .0 .1 .0 .1);
+    let start = c .before .before .before .before .before .before in
+    pass-start (start .args .s) (record {
+      few = c .before .before .before .before .if1 .left;
+      clock = c .before .before .if2 .left;
+      places = sized _ (start .args .s .messages) 64 (start .good .0 .1 .1 .1 .1 .1 .0 .1 .0 .1);
+      streams = sized _ (start .args .s .set .streams) 16 (start .good .0 .1 .1 .0 .1 .1 .1 .0 .1 .0 .1);
     })
 
 mul-m : tie.Need-mul-m Inv-loop μ-loop Inv-loop2 μ-loop2
-mul-m c = omega (arith, c .loop-test .taken, c .before .loop .inv .opened .few)
+mul-m c = omega (arith, c .if3 .taken, c .before .before .loop .inv .opened .few)
 
 array-copy-out-m : tie.Need-array-copy-out-m Inv-loop μ-loop Inv-loop2 μ-loop2
-array-copy-out-m c = omega (arith, c .loop-test .taken, c .before .loop .inv .opened .few)
+array-copy-out-m c = omega (arith, c .if3 .taken, c .before .before .loop .inv .opened .few)
 
 returns-3 : tie.Need-returns-3 Inv-loop μ-loop Inv-loop2 μ-loop2
 returns-3 c =
-    let loop = c .before .before .before .loop in
-    pass-out _ (loop .k) _ _ (loop .inv) (c .before .before .loop-test .taken) (not-true _ (c .if3 .taken))
+    let loop = c .before .before .before .before .loop in
+    pass-out _ (loop .k) _ _ (loop .inv) (c .before .before .if3 .taken) (not-true _ (c .if4 .taken))
 
 mul-x : tie.Need-mul-x Inv-loop μ-loop Inv-loop2 μ-loop2
 mul-x c =
-    let loop = c .before .before .before .loop in
-    omega (arith, pass-stream _ (loop .k) _ _ (loop .inv) (c .before .before .loop-test .taken) (not-false _ (c .if3 .left)))
+    let loop = c .before .before .before .before .loop in
+    omega (arith, pass-stream _ (loop .k) _ _ (loop .inv) (c .before .before .if3 .taken) (not-false _ (c .if4 .left)))
 
 element-copy-out-x : tie.Need-element-copy-out-x Inv-loop μ-loop Inv-loop2 μ-loop2
 element-copy-out-x c =
-    let loop = c .before .before .before .loop in
-    pass-stream _ (loop .k) _ _ (loop .inv) (c .before .before .loop-test .taken) (not-false _ (c .if3 .left))
+    let loop = c .before .before .before .before .loop in
+    pass-stream _ (loop .k) _ _ (loop .inv) (c .before .before .if3 .taken) (not-false _ (c .if4 .left))
 
 less-requires : tie.Need-less-requires Inv-loop μ-loop Inv-loop2 μ-loop2
 less-requires c κs = search needs
 
 returns-4 : tie.Need-returns-4 Inv-loop μ-loop Inv-loop2 μ-loop2
 returns-4 c =
-    let loop = c .before .before .before .before .before .before .before .before .before .before .loop in
-    let less = c .before .before .before .before .before .less in
-    pass-no _ (loop .k) _ _ (loop .inv) (c .before .before .before .before .before .before .before .before .before .loop-test .taken) (not-false _ (c .before .before .before .before .before .before .before .if3 .left)) (less .result) (less .ensures) (not-true _ (c .if4 .taken))
-
-mul-if6 : tie.Need-mul-if6 Inv-loop μ-loop Inv-loop2 μ-loop2
-mul-if6 c =
     let loop = c .before .before .before .before .before .before .before .before .before .before .before .before .loop in
-    let less = c .before .before .before .before .before .before .before .less in
-    omega (arith, pass-task _ (loop .k) _ _ (loop .inv) (c .before .before .before .before .before .before .before .before .before .before .before .loop-test .taken) (not-false _ (c .before .before .before .before .before .before .before .before .before .if3 .left)) (less .result) (less .ensures) (not-false _ (c .before .before .if4 .left)) (c .if5 .taken))
+    let less = c .before .before .before .before .before .before .less in
+    pass-no _ (loop .k) _ _ (loop .inv) (c .before .before .before .before .before .before .before .before .before .before .if3 .taken) (not-false _ (c .before .before .before .before .before .before .before .before .if4 .left)) (less .result) (less .ensures) (not-true _ (c .if5 .taken))
 
-array-read-if6 : tie.Need-array-read-if6 Inv-loop μ-loop Inv-loop2 μ-loop2
-array-read-if6 c =
-    let loop = c .before .before .before .before .before .before .before .before .before .before .before .before .loop in
-    let less = c .before .before .before .before .before .before .before .less in
-    (pass-task _ (loop .k) _ _ (loop .inv) (c .before .before .before .before .before .before .before .before .before .before .before .loop-test .taken) (not-false _ (c .before .before .before .before .before .before .before .before .before .if3 .left)) (less .result) (less .ensures) (not-false _ (c .before .before .if4 .left)) (c .if5 .taken))
+mul-if7 : tie.Need-mul-if7 Inv-loop μ-loop Inv-loop2 μ-loop2
+mul-if7 c =
+    let loop = c .before .before .before .before .before .before .before .before .before .before .before .before .before .before .loop in
+    let less = c .before .before .before .before .before .before .before .before .less in
+    omega (arith, pass-task _ (loop .k) _ _ (loop .inv) (c .before .before .before .before .before .before .before .before .before .before .before .before .if3 .taken) (not-false _ (c .before .before .before .before .before .before .before .before .before .before .if4 .left)) (less .result) (less .ensures) (not-false _ (c .before .before .if5 .left)) (c .if6 .taken))
+
+array-read-if7 : tie.Need-array-read-if7 Inv-loop μ-loop Inv-loop2 μ-loop2
+array-read-if7 c =
+    let loop = c .before .before .before .before .before .before .before .before .before .before .before .before .before .before .loop in
+    let less = c .before .before .before .before .before .before .before .before .less in
+    pass-task _ (loop .k) _ _ (loop .inv) (c .before .before .before .before .before .before .before .before .before .before .before .before .if3 .taken) (not-false _ (c .before .before .before .before .before .before .before .before .before .before .if4 .left)) (less .result) (less .ensures) (not-false _ (c .before .before .if5 .left)) (c .if6 .taken)
 
 returns-5 : tie.Need-returns-5 Inv-loop μ-loop Inv-loop2 μ-loop2
 returns-5 c =
-    let loop = c .before .before .before .before .before .before .before .before .before .before .before .before .before .loop in
-    let less = c .before .before .before .before .before .before .before .before .less in
-    pass-twice _ (loop .k) _ _ (loop .inv) (c .before .before .before .before .before .before .before .before .before .before .before .before .loop-test .taken) (not-false _ (c .before .before .before .before .before .before .before .before .before .before .if3 .left)) (less .result) (less .ensures) (not-false _ (c .before .before .before .if4 .left)) (c .before .if5 .taken) (c .if6 .taken)
+    let loop = c .before .before .before .before .before .before .before .before .before .before .before .before .before .before .before .loop in
+    let less = c .before .before .before .before .before .before .before .before .before .less in
+    pass-twice _ (loop .k) _ _ (loop .inv) (c .before .before .before .before .before .before .before .before .before .before .before .before .before .if3 .taken) (not-false _ (c .before .before .before .before .before .before .before .before .before .before .before .if4 .left)) (less .result) (less .ensures) (not-false _ (c .before .before .before .if5 .left)) (c .before .if6 .taken) (c .if7 .taken)
 
 mul-counts : tie.Need-mul-counts Inv-loop μ-loop Inv-loop2 μ-loop2
 mul-counts c =
-    let loop = c .before .before .before .before .before .before .before .before .before .before .before .before .before .loop in
-    let less = c .before .before .before .before .before .before .before .before .less in
-    omega (arith, pass-task _ (loop .k) _ _ (loop .inv) (c .before .before .before .before .before .before .before .before .before .before .before .before .loop-test .taken) (not-false _ (c .before .before .before .before .before .before .before .before .before .before .if3 .left)) (less .result) (less .ensures) (not-false _ (c .before .before .before .if4 .left)) (c .before .if5 .taken))
+    let loop = c .before .before .before .before .before .before .before .before .before .before .before .before .before .before .before .loop in
+    let less = c .before .before .before .before .before .before .before .before .before .less in
+    omega (arith, pass-task _ (loop .k) _ _ (loop .inv) (c .before .before .before .before .before .before .before .before .before .before .before .before .before .if3 .taken) (not-false _ (c .before .before .before .before .before .before .before .before .before .before .before .if4 .left)) (less .result) (less .ensures) (not-false _ (c .before .before .before .if5 .left)) (c .before .if6 .taken))
 
 array-write-counts : tie.Need-array-write-counts Inv-loop μ-loop Inv-loop2 μ-loop2
 array-write-counts c =
-    let loop = c .before .before .before .before .before .before .before .before .before .before .before .before .before .loop in
-    let less = c .before .before .before .before .before .before .before .before .less in
-    (pass-task _ (loop .k) _ _ (loop .inv) (c .before .before .before .before .before .before .before .before .before .before .before .before .loop-test .taken) (not-false _ (c .before .before .before .before .before .before .before .before .before .before .if3 .left)) (less .result) (less .ensures) (not-false _ (c .before .before .before .if4 .left)) (c .before .if5 .taken))
+    let loop = c .before .before .before .before .before .before .before .before .before .before .before .before .before .before .before .loop in
+    let less = c .before .before .before .before .before .before .before .before .before .less in
+    pass-task _ (loop .k) _ _ (loop .inv) (c .before .before .before .before .before .before .before .before .before .before .before .before .before .if3 .taken) (not-false _ (c .before .before .before .before .before .before .before .before .before .before .before .if4 .left)) (less .result) (less .ensures) (not-false _ (c .before .before .before .if5 .left)) (c .before .if6 .taken)
 
 add-k : tie.Need-add-k Inv-loop μ-loop Inv-loop2 μ-loop2
 add-k c = search needs
@@ -114,24 +113,19 @@ loop-less c = search needs
 
 loop-again : tie.Need-loop-again Inv-loop μ-loop Inv-loop2 μ-loop2
 loop-again c =
-    let loop = c .before .before .before .before .before .before .before .before .before .before .before .before .loop in
-    let less = c .before .before .before .before .before .before .before .less in
+    let loop = c .before .before .before .before .before .before .before .before .before .before .before .before .before .before .loop in
+    let less = c .before .before .before .before .before .before .before .before .less in
     ⊎-elim
     (λ w.
     rw (w .2)
-    (pass-go _ (loop .k) _ _ (loop .inv) (c .before .before .before .before .before .before .before .before .before .before .before .loop-test .taken) (not-false _ (c .before .before .before .before .before .before .before .before .before .if3 .left)) (less .result) (less .ensures) (not-false _ (c .before .before .if4 .left)) (w .0 .taken) (w .1 .left)))
+    (pass-go _ (loop .k) _ _ (loop .inv) (c .before .before .before .before .before .before .before .before .before .before .before .before .if3 .taken) (not-false _ (c .before .before .before .before .before .before .before .before .before .before .if4 .left)) (less .result) (less .ensures) (not-false _ (c .before .before .if5 .left)) (w .0 .taken) (w .1 .left)))
     (λ w.
     rw (w .1)
-    (pass-past _ (loop .k) _ _ (loop .inv) (c .before .before .before .before .before .before .before .before .before .before .before .loop-test .taken) (not-false _ (c .before .before .before .before .before .before .before .before .before .if3 .left)) (less .result) (less .ensures) (not-false _ (c .before .before .if4 .left)) (w .0 .left)))
-    (c .if5 .came)
+    (pass-past _ (loop .k) _ _ (loop .inv) (c .before .before .before .before .before .before .before .before .before .before .before .before .if3 .taken) (not-false _ (c .before .before .before .before .before .before .before .before .before .before .if4 .left)) (less .result) (less .ensures) (not-false _ (c .before .before .if5 .left)) (w .0 .left)))
+    (c .if6 .came)
 
 loop2-holds : tie.Need-loop2-holds Inv-loop μ-loop Inv-loop2 μ-loop2
-loop2-holds c =
-    let start = c .before .before .before .before in
-    let loop = c .before .loop in (
-      loop .inv .opened .places,
-      ap (λ (k : ℕ). all messageUnused (drop k (start .args .t2))) (let e : loop .k ≡ start .args .count = omega (arith, loop .inv .here, c .loop-test .left) in e),
-    )
+loop2-holds c = (c .before .before .loop .inv .opened .places, refl)
 
 mul-m-2 : tie.Need-mul-m-2 Inv-loop μ-loop Inv-loop2 μ-loop2
 mul-m-2 c = search needs
@@ -150,16 +144,16 @@ loop2-less c = search needs
 
 loop2-again : tie.Need-loop2-again Inv-loop μ-loop Inv-loop2 μ-loop2
 loop2-again c =
-    let start = c .before .before .before .before .before .before .before .before in
     let loop = c .before .before .before .loop2 in
-    (loop .inv .0, and-go messageUnused (start .args .t2) (loop .k) (loop .unused) _ _ noMessage _ (loop .inv .1) refl (c .message-unused .ensures) (omega (arith, c .before .before .loop2-test .taken, loop .inv .0)))
+    (loop .inv .0, and-go messageUnused (c .before .before .before .before .before .before .before .before .before .before .before .before .before .args .s .messages) (loop .k) (loop .unused) _ _ noMessage _ (loop .inv .1) refl (c .message-unused .ensures) (omega (arith, c .before .before .loop2-test .taken, loop .inv .0)))
 
 returns-6 : tie.Need-returns-6 Inv-loop μ-loop Inv-loop2 μ-loop2
 returns-6 c =
-    let start = c .before .before .before .before .before .before in
+    let s = c .before .before .before .before .before .before .before .before .before .before .before .args .s in
     let loop = c .before .loop2 in
-    last-test _ _ (pass-end _ _ _ _ (c .before .before .before .loop .inv) (c .before .before .loop-test .left))
-    (and-end messageUnused (start .args .t2) (loop .k) _ _ (loop .inv .1) (omega (arith, c .loop2-test .left, loop .inv .0)))
+    let end : c .before .before .before .before .loop .k ≡ s .count = omega (arith, c .before .before .before .before .loop .inv .here, c .before .before .if3 .left) in
+    last-test _ _ (pass-end _ _ _ _ (c .before .before .before .before .loop .inv) (c .before .before .if3 .left))
+    (and-end messageUnused (s .messages) (loop .k) _ _ (loop .inv .1) (omega (arith, c .loop2-test .left, loop .inv .0)) ∙ ap (λ (k : ℕ). all messageUnused (drop k (s .messages))) end)
 
 pub formed-spec : {M : Type 1} → statement M
 formed-spec =
@@ -179,8 +173,8 @@ formed-spec =
     element-copy-out-x
     less-requires
     returns-4
-    mul-if6
-    array-read-if6
+    mul-if7
+    array-read-if7
     returns-5
     mul-counts
     array-write-counts

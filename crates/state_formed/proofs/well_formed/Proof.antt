@@ -16,7 +16,7 @@ formed-requires : tie.Need-formed-requires
 formed-requires c κs = search needs
 
 returns-2 : tie.Need-returns-2
-returns-2 c = rest-tells _ _ (sym (c .before .before .before .is-valid .ensures) ∙ not-false _ (c .before .before .if1 .left)) (c .formed .ensures)
+returns-2 c = rest-tells _ _ (sym (c .before .before .is-valid .ensures) ∙ not-false _ (c .before .if1 .left)) (c .formed .ensures)
 
 pub well-formed-spec : {M : Type 1} → statement M
 well-formed-spec = tie.close (tie.spec is-valid-requires returns formed-requires returns-2)

@@ -11,6 +11,7 @@ use Rattle.rules.specs.Streams.{noTuple}
 use Rattle.rules.specs.Load.{rate, streamLoad}
 use Rattle.rules.specs.Valid.{ValidPlace}
 use Rattle.load_cycles.proofs.Bounds.{rate-fits}
+use Rattle.rules.proofs.Stages.{load-by-cost}
 use Rattle.load_cycles.proofs.joins.stream_load.Statement.{statement}
 use Rattle.load_cycles.proofs.joins.stream_load.Tie as tie
 
@@ -52,8 +53,8 @@ loop-again c = (
 )
 
 returns : tie.Need-returns Inv-loop μ-loop
-unfolding streamLoad
 returns c =
+    rw (load-by-cost _ _)
     let e : c .before .loop .j ≡ c .before .before .args .t1 .count = omega arith in
     c .before .loop .inv .2 ∙ ap (λ (n : ℕ). sum (rate (c .before .before .args .h) (c .before .before .args .t1 .cost)) (take n (c .before .before .args .t1 .tuples))) e
 

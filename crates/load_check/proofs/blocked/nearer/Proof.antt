@@ -1,8 +1,8 @@
--- `load_check::held::nearer` meets its contract. Assumes nothing.
+-- `load_check::blocked::nearer` meets its contract. Assumes nothing.
 use native.Mathlib.Omega.{arith}
 use mathlib.Core.Logic.{inl, inr}
-use Rattle.load_check.proofs.held.nearer.Statement.{statement}
-use Rattle.load_check.proofs.held.nearer.Tie as tie
+use Rattle.load_check.proofs.blocked.nearer.Statement.{statement}
+use Rattle.load_check.proofs.blocked.nearer.Tie as tie
 
 returns : tie.Need-returns
 returns c = record { after = λ h. omega arith; near = omega arith; apart = inr (omega arith) }

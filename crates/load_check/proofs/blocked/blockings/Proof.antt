@@ -1,4 +1,4 @@
--- `load_check::held::blockings` meets its contract. Assumes nothing.
+-- `load_check::blocked::blockings` meets its contract. Assumes nothing.
 use native.Mathlib.Omega.{arith}
 use Prim.Native.Nat.{ℕ, _-_, _*_, _≤_}
 use mathlib.Core.Path.{_≡_, ap, sym, _∙_}
@@ -6,10 +6,10 @@ use Rattle.laws.specs.Lists.{below, sum}
 use Rattle.laws.proofs.Sums.{sum-none, sum-below}
 use Rattle.rules.specs.Streams.{streamsOf}
 use Rattle.rules.specs.Load.{blocking}
-use Rattle.load_check.specs.Held.{blockingsOf}
+use Rattle.load_check.specs.Blocked.{blockingsOf}
 use Rattle.load_check.proofs.Bounds.{blocking-fits}
-use Rattle.load_check.proofs.held.blockings.Statement.{statement}
-use Rattle.load_check.proofs.held.blockings.Tie as tie
+use Rattle.load_check.proofs.blocked.blockings.Statement.{statement}
+use Rattle.load_check.proofs.blocked.blockings.Tie as tie
 
 abbrev Inv-loop : tie.InvT-loop
 Inv-loop x i acc₀ t₀ acc t = (t ≤ 16) × (acc ≡ sum (blocking (streamsOf x) i) (below t)) × (acc ≤ t * 65535)

@@ -1,4 +1,4 @@
--- `load_check::held::task_blocking` meets its contract. Assumes nothing.
+-- `load_check::blocked::task_blocking` meets its contract. Assumes nothing.
 use native.Mathlib.Omega.{arith}
 use borrow.Author.Needs.{needs}
 use Prim.Native.Nat.{_-_, _≤_}
@@ -8,14 +8,14 @@ use mathlib.Core.Bool.{true, false, _||_}
 use Rattle.laws.proofs.Parts.{sized}
 use Rattle.laws.specs.Lists.{any as some, top}
 use Rattle.laws.proofs.Sums.{top-none, top-take, any-take}
-use Rattle.rules.specs.Load.{urgent, held}
+use Rattle.rules.specs.Load.{urgent, blocks}
 use Rattle.load_cycles.proofs.Bounds.{blank}
 use Rattle.load_check.proofs.Steady.{blocking-by}
-use Rattle.load_check.proofs.held.task_blocking.Statement.{statement}
-use Rattle.load_check.proofs.held.task_blocking.Tie as tie
+use Rattle.load_check.proofs.blocked.task_blocking.Statement.{statement}
+use Rattle.load_check.proofs.blocked.task_blocking.Tie as tie
 
 abbrev Inv-loop : tie.InvT-loop
-Inv-loop i t x n any₀ most₀ k₀ any most k = (length (x .streams) ≡ 16) × (k ≤ n) × (any ≡ some (urgent t i) (take k (x .streams))) × (most ≡ top (held t i) (take k (x .streams)))
+Inv-loop i t x n any₀ most₀ k₀ any most k = (length (x .streams) ≡ 16) × (k ≤ n) × (any ≡ some (urgent t i) (take k (x .streams))) × (most ≡ top (blocks t i) (take k (x .streams)))
 
 abbrev μ-loop : tie.MeasureT-loop
 μ-loop i t x n any₀ most₀ k₀ any most k = n - k
@@ -33,8 +33,8 @@ element-copy-out-s c = omega (arith, c .before .before .pre .count)
 is-urgent-requires : tie.Need-is-urgent-requires Inv-loop μ-loop
 is-urgent-requires c κs = search needs
 
-held-by-requires : tie.Need-held-by-requires Inv-loop μ-loop
-held-by-requires c κs = search needs
+blocks-of-requires : tie.Need-blocks-of-requires Inv-loop μ-loop
+blocks-of-requires c κs = search needs
 
 larger-requires : tie.Need-larger-requires Inv-loop μ-loop
 larger-requires c κs = search needs
@@ -50,7 +50,7 @@ loop-again c = (
   c .before .before .before .before .before .loop .inv .0,
   omega arith,
   ap₂ _||_ (c .before .before .before .before .before .loop .inv .2) (c .before .before .is-urgent .ensures) ∙ sym (any-take (urgent (c .before .before .before .before .before .before .args .t) (c .before .before .before .before .before .before .args .i)) (c .before .before .before .before .before .before .args .t1 .streams) (c .before .before .before .before .before .loop .k) blank (omega (arith, c .before .before .before .before .before .before .pre .count))),
-  omega (arith, c .larger .ensures, c .before .held-by .ensures, top-take (held (c .before .before .before .before .before .before .args .t) (c .before .before .before .before .before .before .args .i)) (c .before .before .before .before .before .before .args .t1 .streams) (c .before .before .before .before .before .loop .k) blank (omega (arith, c .before .before .before .before .before .before .pre .count))),
+  omega (arith, c .larger .ensures, c .before .blocks-of .ensures, top-take (blocks (c .before .before .before .before .before .before .args .t) (c .before .before .before .before .before .before .args .i)) (c .before .before .before .before .before .before .args .t1 .streams) (c .before .before .before .before .before .loop .k) blank (omega (arith, c .before .before .before .before .before .before .pre .count))),
 )
 
 returns : tie.Need-returns Inv-loop μ-loop
@@ -73,7 +73,7 @@ task-blocking-spec =
     mul-s
     element-copy-out-s
     is-urgent-requires
-    held-by-requires
+    blocks-of-requires
     larger-requires
     add-k
     loop-less

@@ -3,8 +3,8 @@ ghost use mathlib.Core.Path.{_≡_};
 ghost use Prim.Native.Nat.{_+_, _≤_, _<_};
 ghost use Rattle.rules.specs.Valid.{ValidSet};
 ghost use Rattle.rules.specs.Streams.{streamsOf};
-ghost use Rattle.rules.specs.Load.{urgent, held, blocking};
-ghost use Rattle.load_check.specs.Held.{blockingsOf, Nearer, NextDeadline};
+ghost use Rattle.rules.specs.Load.{urgent, blocks, blocking};
+ghost use Rattle.load_check.specs.Blocked.{blockingsOf, Nearer, NextDeadline};
 use crate::larger;
 use crate::wide;
 use rules::Set;
@@ -16,17 +16,17 @@ fn is_urgent(s: Stream, i: u32, t: usize) -> bool
     (s.task == t) & (s.deadline <= i)
 }
 
-fn held_by(s: Stream, i: u32, t: usize) -> u32
-    ensures { λ r. ⌜ r ≡ held t i s ⌝ }
+fn blocks_of(s: Stream, i: u32, t: usize) -> u32
+    ensures { λ r. ⌜ r ≡ blocks t i s ⌝ }
 {
-    if s.task == t {
-        if s.deadline <= i {
-            0
-        } else {
-            stream_valid::less(s.cost, 1)
-        }
-    } else {
+    if s.deadline <= i {
         0
+    } else {
+        if s.task == t {
+            stream_valid::less(s.cost, 1)
+        } else {
+            0
+        }
     }
 }
 
@@ -41,7 +41,7 @@ fn task_blocking(x: Set, i: u32, t: usize) -> u32
     while k < n {
         let s = x.streams[k];
         any = any | is_urgent(s, i, t);
-        most = larger(most, held_by(s, i, t));
+        most = larger(most, blocks_of(s, i, t));
         k = k + 1;
     }
     if any { most } else { 0 }

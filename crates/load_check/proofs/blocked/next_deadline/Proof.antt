@@ -1,4 +1,4 @@
--- `load_check::held::next_deadline` meets its contract: no deadline passed lies after i and before the nearest so far. Assumes nothing.
+-- `load_check::blocked::next_deadline` meets its contract: no deadline passed lies after i and before the nearest so far. Assumes nothing.
 use native.Mathlib.Omega.{arith}
 use borrow.Author.Needs.{needs}
 use Prim.Native.Nat.{ℕ, _-_, _≤_, _<_}
@@ -6,10 +6,10 @@ use mathlib.Core.Path.{_≡_, subst}
 use lib.ListN.{length, take}
 use Rattle.laws.proofs.Parts.{sized}
 use Rattle.laws.specs.Lists.{All}
-use Rattle.load_check.specs.Held.{ApartFrom}
+use Rattle.load_check.specs.Blocked.{ApartFrom}
 use Rattle.load_check.proofs.Steady.{apart-more}
-use Rattle.load_check.proofs.held.next_deadline.Statement.{statement}
-use Rattle.load_check.proofs.held.next_deadline.Tie as tie
+use Rattle.load_check.proofs.blocked.next_deadline.Statement.{statement}
+use Rattle.load_check.proofs.blocked.next_deadline.Tie as tie
 
 abbrev Inv-loop : tie.InvT-loop
 Inv-loop i end x n nearest₀ k₀ nearest k = (length (x .streams) ≡ 16) × (k ≤ n) × (i < nearest) × (nearest ≤ end) × All (ApartFrom i nearest) (take k (x .streams))
