@@ -127,12 +127,12 @@ module _ (𝓜 : Model) where
     stays : {y : Msg} → Stays x y → After t x (y ∷ []) []
 
   -- the clock, the pending messages in posting order, the accepted posts and the departures that calls from a start can leave. A refused call changes nothing.
-  pub data Run : ℕ → List Msg → List Post → List Departure → Type 0 where
-    start : Run 0 [] [] []
-    post : {t : ℕ} {l : List Msg} {h : List Post} {ds : List Departure} → Run t l h ds → (p : Post) (m : Msg) → New t h p m → Run t (l ++ (m ∷ [])) (h ++ (p ∷ [])) ds
+  pub data Reaches : ℕ → List Msg → List Post → List Departure → Type 0 where
+    start : Reaches 0 [] [] []
+    post : {t : ℕ} {l : List Msg} {h : List Post} {ds : List Departure} → Reaches t l h ds → (p : Post) (m : Msg) → New t h p m → Reaches t (l ++ (m ∷ [])) (h ++ (p ∷ [])) ds
     unit : {t : ℕ} {h : List Post} {ds : List Departure} (xs : List Msg) (x : Msg) (ys r : List Msg) (e : List Departure)
-        → Run t (xs ++ (x ∷ ys)) h ds → Choice (xs ++ (x ∷ ys)) x → After t x r e → Run (suc t) (xs ++ (r ++ ys)) h (ds ++ e)
-    idle : {t : ℕ} {h : List Post} {ds : List Departure} → Run t [] h ds → Run (suc t) [] h ds
+        → Reaches t (xs ++ (x ∷ ys)) h ds → Choice (xs ++ (x ∷ ys)) x → After t x r e → Reaches (suc t) (xs ++ (r ++ ys)) h (ds ++ e)
+    idle : {t : ℕ} {h : List Post} {ds : List Departure} → Reaches t [] h ds → Reaches (suc t) [] h ds
 
   -- ---- what is promised
 
