@@ -1,0 +1,19 @@
+-- What is promised of a set that is judged and run.
+-- Assumes nothing.
+use mathlib.Core.Bool.{false}
+use mathlib.Core.List.{List}
+use mathlib.Core.Path.{_≡_}
+use Rattle.rules.specs.declared.Call.{Call}
+use Rattle.rules.specs.declared.Set.{Set}
+use Rattle.rules.specs.declared.Verdict.the-variants.{Accept}
+use Rattle.rules.specs.Load.{VerdictOf}
+use Rattle.rules.specs.Runs.{accepted, runOf, KeepsLimits, missedIn}
+use Rattle.promise_code.specs.declared.JudgedRun.{JudgedRun}
+
+-- "If the check accepts a set, then from a fresh start, under any calls whose accepted posts keep every stream's event limit in every window", no accepted message is
+-- pending when the clock is at its deadline, at any moment
+pub record Promised (x : Set) (calls : List Call) (r : JudgedRun) : Type 0 where
+  pub verdict : VerdictOf x (r .verdict)
+  pub state : r .state ≡ runOf x calls .state
+  pub missed : r .missed ≡ missedIn x calls
+  pub in-time : r .verdict ≡ Accept → KeepsLimits x (accepted (runOf x calls)) → r .missed ≡ false
