@@ -35,11 +35,11 @@ readTold r k = halves (answerNumber (r .answer)) (streamAt (r .set) k .deadline)
 
 -- ---- the verdict
 
--- 0 accept, 13 late, 14 overload, else the refusal's number
+-- 0 accept, 256 late, 257 overload, which no refusal has, else the refusal's number
 abbrev pub kindOf : Verdict → ℕ
 kindOf Accept = 0
-kindOf (Late i w) = 13
-kindOf Overload = 14
+kindOf (Late i w) = 256
+kindOf Overload = 257
 kindOf (Refused why) = number why
 
 -- the least late length, 0 where there is none

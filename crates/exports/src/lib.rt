@@ -1,10 +1,8 @@
 // Questions about a sheet for a caller in another language: bytes come in, one number goes out.
 ghost use mathlib.Core.Path.{_≡_};
-ghost use Rattle.rules.specs.Numbers.{number};
 ghost use Rattle.rules.specs.Sheet.{readOf};
 ghost use Rattle.exports.specs.Told.{halves, answerNumber, readTold, kindOf, lengthOf, verdictTold, SheetVerdict, VerdictOfSheet, calledOf, afterOf, stateTold, runTold};
 use rules::ReadAnswer;
-use rules::Refusal;
 use rules::Set;
 use rules::State;
 use rules::Verdict;
@@ -16,25 +14,6 @@ fn in_halves(upper: u64, lower: u64) -> u64
     upper % 4294967296 * 4294967296 + lower % 4294967296
 }
 
-fn number_of(why: Refusal) -> u64
-    ensures { λ r. ⌜ r ≡ number why ⌝ }
-{
-    match why {
-        Refusal::NoStream => 1,
-        Refusal::Full => 2,
-        Refusal::LastClock => 3,
-        Refusal::NothingPending => 4,
-        Refusal::BitsMissing => 5,
-        Refusal::BadVersion => 6,
-        Refusal::OutOfRule => 7,
-        Refusal::LongCycles => 8,
-        Refusal::BadByte => 9,
-        Refusal::Leftover => 10,
-        Refusal::ShortBuffer => 11,
-        Refusal::IllFormed => 12,
-    }
-}
-
 // ---- reading
 
 fn answer_number(a: ReadAnswer) -> u64
@@ -42,7 +21,7 @@ fn answer_number(a: ReadAnswer) -> u64
 {
     match a {
         ReadAnswer::Read => 0,
-        ReadAnswer::Refused(why) => number_of(why),
+        ReadAnswer::Refused(why) => answer_numbers::refusal_number(why),
     }
 }
 
@@ -65,9 +44,9 @@ fn kind_of(v: Verdict) -> u64
 {
     match v {
         Verdict::Accept => 0,
-        Verdict::Late(_, _) => 13,
-        Verdict::Overload => 14,
-        Verdict::Refused(why) => number_of(why),
+        Verdict::Late(_, _) => 256,
+        Verdict::Overload => 257,
+        Verdict::Refused(why) => answer_numbers::refusal_number(why),
     }
 }
 
@@ -91,7 +70,7 @@ fn verdict_by(a: ReadAnswer, x: Set) -> Verdict
     }
 }
 
-// The verdict of the sheet: 0 accept, 13 late, 14 overload or the refusal's number, and the late length.
+// The verdict of the sheet: 0 accept, 256 late, 257 overload or the refusal's number, and the late length.
 #[no_mangle]
 pub extern "C" fn sheet_verdict(bytes: &[u8]) -> u64
     ensures { λ r. ⌜ VerdictOfSheet (readOf (now (bytes .entry))) r ⌝ }

@@ -28,7 +28,8 @@ use Rattle.rules.specs.declared.WriteAnswer.the-variants.{Wrote, Refused as Not
 use Rattle.rules.specs.Streams.{FourTuples, Placed, emptySet, noStream, streamsOf, tuplesOf, valid}
 use Rattle.rules.specs.Sheet.{bufferBy, bufferOf, isZero, noSet, placeBits, readBits, readEnd, readOf, setOf, sheetBits, sheetOf, streamBits, tupleBits, writeOf}
 use Rattle.rules.specs.Numbers.{Says, number, readSays, refused, writeSays, wrote}
-use Rattle.rules.proofs.Valid.{ValidSet, ValidStream, streams-few, valid-set}
+use Rattle.rules.specs.Valid.{ValidSet, ValidStream}
+use Rattle.rules.proofs.Valid.{streams-few, valid-set}
 use Rattle.sheet_read.proofs.Filled.{cond-elim}
 use Rattle.sheet_write.specs.Answers.{Begins, ReadPlaced, ReadRefusals, SixExactly, TenExactly, WriteElevenExactly, WriteSevenExactly, WroteExactly, readingSays}
 use Rattle.sheet_write.specs.Long.{SheetAtMost, longestSheet}

@@ -3,7 +3,7 @@
 use Prim.Native.Nat.{ℕ}
 use mathlib.Core.Path.{_≡_, refl, sym, ap, _∙_}
 use mathlib.Core.Bool.{Bool, true, false}
-use Rattle.line.specs.Hex.{isHex, hexOf}
+use Rattle.ascii.specs.Hex.{isHex, hexOf}
 use Rattle.trace_bytes.specs.declared.Heard.{Heard}
 use Rattle.trace_bytes.specs.declared.Heard.the-variants.{Post, Bad}
 use Rattle.trace_bytes.specs.Steps.{afterP}

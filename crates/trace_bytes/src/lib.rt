@@ -34,8 +34,8 @@ fn between_steps(b: u8) -> Heard
 fn after_p(b: u8) -> Heard
     ensures { λ r. ⌜ r ≡ afterP b ⌝ }
 {
-    if line::is_hex(b) {
-        Heard::Post(line::hex_of(b) as usize)
+    if ascii::is_hex(b) {
+        Heard::Post(ascii::hex_of(b) as usize)
     } else {
         Heard::Bad
     }

@@ -6,12 +6,12 @@ use rules::ReadAnswer;
 use rules::ReadResult;
 use rules::Set;
 use rules::Verdict;
-use trace_steps::Run;
+use trace_steps::Tracing;
 
-fn started(x: Set, live: bool) -> Run {
+fn started(x: Set, live: bool) -> Tracing {
     let r = scheduler::start(x);
     let state = r.state;
-    Run {
+    Tracing {
         state,
         waiting: false,
         live,
@@ -19,7 +19,7 @@ fn started(x: Set, live: bool) -> Run {
 }
 
 // The first line, and the run that follows a sheet that was read.
-fn begin(r: ReadResult) -> Run {
+fn begin(r: ReadResult) -> Tracing {
     let answer = r.answer;
     let set = r.set;
     match answer {
@@ -34,14 +34,14 @@ fn begin(r: ReadResult) -> Run {
     }
 }
 
-fn stopped(r: Run) -> Run {
+fn stopped(r: Tracing) -> Tracing {
     let mut last = r;
     last.live = false;
     last
 }
 
 // Writes what a piece of the trace prints. An output that takes nothing more ends the run.
-fn told(r: Run, piece: &[u8]) -> Run {
+fn told(r: Tracing, piece: &[u8]) -> Tracing {
     let mut out = io::large_buffer();
     let fed = trace_steps::take_piece(r, piece, &mut out);
     let next = fed.run;
@@ -54,7 +54,7 @@ fn told(r: Run, piece: &[u8]) -> Run {
 }
 
 // Reads once, and writes what the bytes that came print.
-fn go_on(r: Run) -> Run {
+fn go_on(r: Tracing) -> Tracing {
     let mut bytes = [0u8; 512];
     let got = libc::read(STDIN_FILENO, &mut bytes);
     let n = io::count(got, &bytes);
@@ -118,7 +118,7 @@ fn sheet_of(fd: i32, n: usize) -> ReadResult {
 }
 
 // The last `n` bytes of a case's trace, fewer than 64, and its end.
-fn rest_of(fd: i32, run: Run, n: usize) -> bool {
+fn rest_of(fd: i32, run: Tracing, n: usize) -> bool {
     let mut piece = [0u8; 64];
     let mut i = 0;
     while i < 64 {
@@ -132,7 +132,7 @@ fn rest_of(fd: i32, run: Run, n: usize) -> bool {
 }
 
 // The trace of a case, of `n` bytes. Answers whether the output goes on.
-fn trace_of(fd: i32, run: Run, n: u64) -> bool {
+fn trace_of(fd: i32, run: Tracing, n: u64) -> bool {
     let mut r = run;
     let mut left = n;
     while 63 < left {

@@ -15,9 +15,9 @@ use Rattle.rules.specs.declared.Refusal.the-variants.{BadByte}
 use Rattle.rules.specs.Numbers.{Says, number, refused, postSays, unitSays}
 use Rattle.rules.specs.Steps.{postOf, unitOf}
 use Rattle.line.specs.declared.Line.{Line}
-use Rattle.line.specs.Decimal.{decimalOf, spaced}
-use Rattle.line.specs.Held.{holding}
-use Rattle.line.proofs.Puts.{digits-short}
+use Rattle.ascii.specs.Decimal.{decimalOf, spaced}
+use Rattle.line.specs.Line.{holding}
+use Rattle.ascii.proofs.Digits.{digits-short}
 use Rattle.answer_words.specs.Words.{says, lineOf, stepLine}
 use Rattle.answer_words.proofs.Lengths.{says-short}
 use Rattle.trace_bytes.specs.declared.Heard.{Heard}
@@ -25,12 +25,12 @@ use Rattle.trace_bytes.specs.declared.Heard.the-variants.{Skip, More, Post, Uni
 use Rattle.trace_bytes.specs.Steps.{heardOf, endOf as atEnd}
 use Rattle.page.specs.Pages.{appended, endOf}
 use Rattle.page.proofs.Rooms.{end-at, holds-then, same-size, rest-stays}
-use Rattle.trace_steps.specs.declared.Run.{Run}
+use Rattle.trace_steps.specs.declared.Tracing.{Tracing}
 use Rattle.trace_steps.specs.declared.Turn.{Turn}
 use Rattle.trace_steps.specs.Turns.{nextRun, nextText, runAfter, textAfter, runOn, textOn, textEnd}
 
 -- a run that goes on at a state
-abbrev going : State → Run
+abbrev going : State → Tracing
 going s = record { state = s; waiting = false; live = true }
 
 -- a post and a unit, from the scheduler's answer and its line
@@ -45,13 +45,13 @@ pub unit-turn : (s : State) (d : Bool) (x : UnitResult) (l : Line) (t : Turn) �
 unit-turn s d x l t e f g = g ∙ rw (f, e)
 
 -- a byte for a run that goes on, and for one that has stopped
-pub alive : (r : Run) (b : ℕ) (h : Heard) (t : Turn) → r .live ≡ true → h ≡ heardOf (r .waiting) b
+pub alive : (r : Tracing) (b : ℕ) (h : Heard) (t : Turn) → r .live ≡ true → h ≡ heardOf (r .waiting) b
     → t ≡ record { run = nextRun (r .state) h; line = holding (nextText (r .state) h) }
     → t ≡ record { run = runAfter r b; line = holding (textAfter r b) }
 unfolding runAfter textAfter
 alive r b h t a e f = rw (a, ← e) f
 
-pub stopped : (r : Run) (b : ℕ) (l : Line) → r .live ≡ false → l ≡ holding []
+pub stopped : (r : Tracing) (b : ℕ) (l : Line) → r .live ≡ false → l ≡ holding []
     → _≡_ {A = Turn} (record { run = r; line = l }) (record { run = runAfter r b; line = holding (textAfter r b) })
 unfolding runAfter textAfter
 stopped r b l a e = rw (a, e)
@@ -77,7 +77,7 @@ heard-short s Done = step-short (s .clock) (unitSays (unitOf s true .answer))
 heard-short s Bad =
     omega (arith, length-append (says (refused (number BadByte))) (10 ∷ []), says-short (refused (number BadByte)))
 
-text-short : (r : Run) (b : ℕ) → length (textAfter r b) ≤ 128
+text-short : (r : Tracing) (b : ℕ) → length (textAfter r b) ≤ 128
 unfolding textAfter
 text-short r b = go (r .live) (heard-short (r .state) (heardOf (r .waiting) b))
   where
@@ -87,7 +87,7 @@ text-short r b = go (r .live) (heard-short (r .state) (heardOf (r .waiting) b))
     go false h = omega arith
 
 -- a turn of the loop over a piece: the run goes on by one byte, and the page holds what has been printed
-module _ (r₀ r : Run) (piece out : List ℕ) (i at : ℕ) (t : Turn) (h : i < length piece)
+module _ (r₀ r : Tracing) (piece out : List ℕ) (i at : ℕ) (t : Turn) (h : i < length piece)
     (e : t ≡ record { run = runAfter r (getD piece i 0); line = holding (textAfter r (getD piece i 0)) }) where
   pub run-turn : runOn r (drop i piece) ≡ runOn r₀ piece → runOn (t .run) (drop (i + 1) piece) ≡ runOn r₀ piece
   unfolding runOn
@@ -117,11 +117,11 @@ module _ (r₀ r : Run) (piece out : List ℕ) (i at : ℕ) (t : Turn) (h : i < 
           add-one i,
         )
 
-pub run-end : (r₀ r : Run) (piece : List ℕ) (i : ℕ) → length piece ≤ i → runOn r (drop i piece) ≡ runOn r₀ piece → r ≡ runOn r₀ piece
+pub run-end : (r₀ r : Tracing) (piece : List ℕ) (i : ℕ) → length piece ≤ i → runOn r (drop i piece) ≡ runOn r₀ piece → r ≡ runOn r₀ piece
 unfolding runOn
 run-end r₀ r piece i h f = rw (drop-of-length-le piece h) at f
 
-pub text-end : (r₀ r : Run) (piece w : List ℕ) (i : ℕ) → length piece ≤ i → w ++ textOn r (drop i piece) ≡ textOn r₀ piece → w ≡ textOn r₀ piece
+pub text-end : (r₀ r : Tracing) (piece w : List ℕ) (i : ℕ) → length piece ≤ i → w ++ textOn r (drop i piece) ≡ textOn r₀ piece → w ≡ textOn r₀ piece
 unfolding textOn
 text-end r₀ r piece w i h f = sym (append-nil w) ∙ (rw (drop-of-length-le piece h) at f)
 
@@ -132,7 +132,7 @@ rest-turn out out₀ w at h g e =
     rest-stays out w at h g ∙ sym (drop-drop (length w) at out) ∙ ap (λ (l : List ℕ). drop (length w) l) e ∙ drop-drop (length w) at out₀
 
 -- the whole of it: what holds at the head of the loop holds again
-pub record Going (r₀ r : Run) (piece out₀ out : List ℕ) (i at : ℕ) : Type 0 where
+pub record Going (r₀ r : Tracing) (piece out₀ out : List ℕ) (i at : ℕ) : Type 0 where
   pub inside : i ≤ length piece
   pub size : length out ≡ length out₀
   pub low : at ≤ i * 128
@@ -140,7 +140,7 @@ pub record Going (r₀ r : Run) (piece out₀ out : List ℕ) (i at : ℕ) : Typ
   pub text : take at out ++ textOn r (drop i piece) ≡ textOn r₀ piece
   pub rest : drop at out ≡ drop at out₀
 
-pub feed-turn : (r₀ r : Run) (piece out₀ out o : List ℕ) (i at a : ℕ) (t : Turn) → i < length piece
+pub feed-turn : (r₀ r : Tracing) (piece out₀ out o : List ℕ) (i at a : ℕ) (t : Turn) → i < length piece
     → t ≡ record { run = runAfter r (getD piece i 0); line = holding (textAfter r (getD piece i 0)) } → length piece * 128 ≤ length out₀
     → Going r₀ r piece out₀ out i at → a ≡ endOf out at (t .line) → o ≡ appended out at (t .line)
     → Going r₀ (t .run) piece out₀ o (i + 1) a
@@ -160,7 +160,7 @@ feed-turn r₀ r piece out₀ out o i at a t h e m g x y =
     }
 
 -- behind the last byte: the run, and the page with what was printed at its front
-pub feed-end : (r₀ r : Run) (piece out₀ out : List ℕ) (i at : ℕ) → length piece ≤ i → length piece * 128 ≤ length out₀
+pub feed-end : (r₀ r : Tracing) (piece out₀ out : List ℕ) (i at : ℕ) → length piece ≤ i → length piece * 128 ≤ length out₀
     → Going r₀ r piece out₀ out i at
     → (r ≡ runOn r₀ piece) × ((at ≡ length (textOn r₀ piece)) × (out ≡ textOn r₀ piece ++ drop (length (textOn r₀ piece)) out₀))
 feed-end r₀ r piece out₀ out i at h m g =
@@ -182,6 +182,6 @@ ends s true true = refl
 ends s true false = refl
 ends s false u = refl
 
-pub end-is : (r : Run) (l : Line) (t : Bool) → (r .live && r .waiting) ≡ t → l ≡ holding (cond t (nextText (r .state) Bad) []) → l ≡ holding (textEnd r)
+pub end-is : (r : Tracing) (l : Line) (t : Bool) → (r .live && r .waiting) ≡ t → l ≡ holding (cond t (nextText (r .state) Bad) []) → l ≡ holding (textEnd r)
 unfolding textEnd
 end-is r l t e f = rw (ends (r .state) (r .live) (r .waiting), e) f

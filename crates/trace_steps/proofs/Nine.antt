@@ -4,14 +4,14 @@ use mathlib.Core.Bool.{Bool, true, false}
 use mathlib.Core.List.{List, [], _∷_}
 use mathlib.Core.Path.{_≡_, refl}
 use Rattle.rules.specs.declared.State.{State}
-use Rattle.line.specs.Decimal.{letters, digitsOf}
+use Rattle.ascii.specs.Decimal.{letters, digitsOf}
 use Rattle.answer_words.specs.Words.{says}
 use Rattle.trace_bytes.specs.Steps.{betweenSteps, afterP}
-use Rattle.trace_steps.specs.declared.Run.{Run}
+use Rattle.trace_steps.specs.declared.Tracing.{Tracing}
 use Rattle.trace_steps.specs.Turns.{runAfter, textAfter, textEnd}
 
 -- a run that goes on, between steps or after p
-abbrev going : State → Bool → Run
+abbrev going : State → Bool → Tracing
 going s waiting = record { state = s; waiting = waiting; live = true }
 
 -- `x`, `p` and then a space, `p` at the end

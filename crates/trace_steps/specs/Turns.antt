@@ -13,13 +13,13 @@ use Rattle.answer_words.specs.Words.{says, lineOf, stepLine}
 use Rattle.trace_bytes.specs.declared.Heard.{Heard}
 use Rattle.trace_bytes.specs.declared.Heard.the-variants.{Skip, More, Post, Unit, Done, Bad}
 use Rattle.trace_bytes.specs.Steps.{heardOf, endOf}
-use Rattle.trace_steps.specs.declared.Run.{Run}
+use Rattle.trace_steps.specs.declared.Tracing.{Tracing}
 
 -- the run after a step, and after a byte that is refused
-abbrev at : State → Run
+abbrev at : State → Tracing
 at s = record { state = s; waiting = false; live = true }
 
-abbrev pub nextRun : State → Heard → Run
+abbrev pub nextRun : State → Heard → Tracing
 nextRun s Skip = at s
 nextRun s More = record { state = s; waiting = true; live = true }
 nextRun s (Post k) = at (postOf s k .state)
@@ -37,29 +37,29 @@ nextText s Done = stepLine (s .clock) (unitSays (unitOf s true .answer))
 nextText s Bad = lineOf (says (refused (number BadByte)))
 
 -- a byte; a run that has stopped takes no more
-unfoldable pub runAfter : Run → ℕ → Run
+unfoldable pub runAfter : Tracing → ℕ → Tracing
 runAfter r b = cond (r .live) (nextRun (r .state) (heardOf (r .waiting) b)) r
 
-unfoldable pub textAfter : Run → ℕ → List ℕ
+unfoldable pub textAfter : Tracing → ℕ → List ℕ
 textAfter r b = cond (r .live) (nextText (r .state) (heardOf (r .waiting) b)) []
 
 -- bytes one after the other
-unfoldable pub runOn : Run → List ℕ → Run
+unfoldable pub runOn : Tracing → List ℕ → Tracing
 runOn r [] = r
 runOn r (b ∷ l) = runOn (runAfter r b) l
 
-unfoldable pub textOn : Run → List ℕ → List ℕ
+unfoldable pub textOn : Tracing → List ℕ → List ℕ
 textOn r [] = []
 textOn r (b ∷ l) = textAfter r b ++ textOn (runAfter r b) l
 
 -- the end of the trace: a p without its digit
-unfoldable pub textEnd : Run → List ℕ
+unfoldable pub textEnd : Tracing → List ℕ
 textEnd r = cond (r .live) (nextText (r .state) (endOf (r .waiting))) []
 
 -- a piece of the trace that is taken: the run after it, and the page with what it prints at its
 -- front and the rest as it was. With less than 128 bytes
 -- of the page for each byte of the piece nothing is taken.
-pub record Taken (r : Run) (piece out : List ℕ) (s : Run) (len : ℕ) (page : List ℕ) : Type 0 where
+pub record PieceTraced (r : Tracing) (piece out : List ℕ) (s : Tracing) (len : ℕ) (page : List ℕ) : Type 0 where
   pub room : length piece * 128 ≤ length out
       → (s ≡ runOn r piece) × ((len ≡ length (textOn r piece)) × (page ≡ textOn r piece ++ drop (length (textOn r piece)) out))
   pub none : length out < length piece * 128 → (s ≡ r) × ((len ≡ 0) × (page ≡ out))

@@ -4,8 +4,8 @@ ghost use mathlib.Core.Bool.{true, false};
 ghost use mathlib.Core.List.{_++_, []};
 ghost use Prim.Native.Nat.{_+_, _*_, _≤_};
 ghost use lib.ListN.{length, drop};
-ghost use Rattle.line.specs.Held.{holding};
-ghost use Rattle.trace_steps.specs.Turns.{nextRun, nextText, runAfter, textAfter, runOn, textOn, textEnd, Taken};
+ghost use Rattle.line.specs.Line.{holding};
+ghost use Rattle.trace_steps.specs.Turns.{nextRun, nextText, runAfter, textAfter, runOn, textOn, textEnd, PieceTraced};
 use line::Line;
 use rules::Refusal;
 use rules::State;
@@ -13,7 +13,7 @@ use rules::Verdict;
 use trace_bytes::Heard;
 
 // A run: the scheduler's state, whether a p waits for its digit, and whether the run goes on.
-pub struct Run {
+pub struct Tracing {
     pub state: State,
     pub waiting: bool,
     pub live: bool,
@@ -21,14 +21,14 @@ pub struct Run {
 
 // A run after a byte, and the line that the byte prints.
 pub struct Turn {
-    pub run: Run,
+    pub run: Tracing,
     pub line: Line,
 }
 
 fn turn_at(state: State, line: Line) -> Turn
     ensures { λ r. ⌜ r ≡ record { run = record { state = state; waiting = false; live = true }; line = line } ⌝ }
 {
-    let run = Run {
+    let run = Tracing {
         state,
         waiting: false,
         live: true,
@@ -69,7 +69,7 @@ fn done(s: State) -> Turn
 fn refused(s: State) -> Turn
     ensures { λ r. ⌜ r ≡ record { run = nextRun s Heard.Bad; line = holding (nextText s Heard.Bad) } ⌝ }
 {
-    let run = Run {
+    let run = Tracing {
         state: s,
         waiting: false,
         live: false,
@@ -81,7 +81,7 @@ fn refused(s: State) -> Turn
 fn skipped(s: State, waiting: bool) -> Turn
     ensures { λ r. ⌜ r ≡ record { run = record { state = s; waiting = waiting; live = true }; line = holding [] } ⌝ }
 {
-    let run = Run {
+    let run = Tracing {
         state: s,
         waiting,
         live: true,
@@ -104,7 +104,7 @@ fn heard(s: State, h: Heard) -> Turn
 }
 
 // A run after one more byte.
-pub fn take_byte(r: Run, b: u8) -> Turn
+pub fn take_byte(r: Tracing, b: u8) -> Turn
     ensures { λ t. ⌜ t ≡ record { run = runAfter r b; line = holding (textAfter r b) } ⌝ }
 {
     let live = r.live;
@@ -120,12 +120,12 @@ pub fn take_byte(r: Run, b: u8) -> Turn
 
 // A run after a piece of the trace, and how many bytes of the page it has filled.
 pub struct Fed {
-    pub run: Run,
+    pub run: Tracing,
     pub len: usize,
 }
 
 // The bytes of a piece one after the other, their lines on the page: 128 bytes of it for each are enough.
-fn feed(run: Run, piece: &[u8], out: &mut [u8]) -> Fed
+fn feed(run: Tracing, piece: &[u8], out: &mut [u8]) -> Fed
     requires { ⌜ length (now piece) * 128 ≤ length (now out) ⌝ }
     ensures { λ r. ⌜ (r .run ≡ runOn run (now (piece .entry))) × ((r .len ≡ length (textOn run (now (piece .entry)))) × (now (out .exit) ≡ textOn run (now (piece .entry)) ++ drop (length (textOn run (now (piece .entry)))) (now (out .entry)))) ⌝ }
 {
@@ -144,8 +144,8 @@ fn feed(run: Run, piece: &[u8], out: &mut [u8]) -> Fed
 }
 
 // A piece of the trace, where the page has room for whatever it may print; else nothing is taken.
-pub fn take_piece(run: Run, piece: &[u8], out: &mut [u8]) -> Fed
-    ensures { λ r. ⌜ Taken run (now (piece .entry)) (now (out .entry)) (r .run) (r .len) (now (out .exit)) ⌝ }
+pub fn take_piece(run: Tracing, piece: &[u8], out: &mut [u8]) -> Fed
+    ensures { λ r. ⌜ PieceTraced run (now (piece .entry)) (now (out .entry)) (r .run) (r .len) (now (out .exit)) ⌝ }
 {
     if piece.len() <= out.len() / 128 {
         feed(run, piece, out)
@@ -155,7 +155,7 @@ pub fn take_piece(run: Run, piece: &[u8], out: &mut [u8]) -> Fed
 }
 
 // What the end of the trace prints: a line where a p still waits for its digit.
-pub fn end_line(r: Run) -> Line
+pub fn end_line(r: Tracing) -> Line
     ensures { λ l. ⌜ l ≡ holding (textEnd r) ⌝ }
 {
     let live = r.live;

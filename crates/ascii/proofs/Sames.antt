@@ -10,7 +10,7 @@ use lib.ListN.{length, getD, drop, drop-of-length-le}
 use lib.Seq.{drop-cons}
 use lib.Dec.{eqb}
 use borrow.Author.Tests.{eq-eqb, ne-eqb}
-use Rattle.console_names.specs.Rows.{same}
+use Rattle.ascii.specs.Same.{same}
 
 -- words of different lengths are not the same
 pub other-length : (v w : List ℕ) → (length v ≡ length w → ⊥) → same v w ≡ false

@@ -1,13 +1,13 @@
--- `console_names::same` meets its contract.
+-- `ascii::same` meets its contract.
 -- Assumes nothing.
 use Prim.Native.Nat.{_-_}
 use mathlib.Core.Path.{_≡_, refl, sym, _∙_}
 use lib.ListN.{length, drop}
-use Rattle.console_names.specs.Rows.{same}
-use Rattle.console_names.proofs.Sames.{other-length, go-on, differ, all-same}
+use Rattle.ascii.specs.Same.{same}
+use Rattle.ascii.proofs.Sames.{other-length, go-on, differ, all-same}
 use native.Mathlib.Omega.{arith}
-use Rattle.console_names.proofs.same.Statement.{statement}
-use Rattle.console_names.proofs.same.Tie as tie
+use Rattle.ascii.proofs.same.Statement.{statement}
+use Rattle.ascii.proofs.same.Tie as tie
 
 abbrev Inv-loop : tie.InvT-loop
 Inv-loop v w i₀ i = (length v ≡ length w) × (same (drop i v) (drop i w) ≡ same v w)

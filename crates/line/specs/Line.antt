@@ -8,13 +8,17 @@ use lib.Dec.{ltb}
 use Rattle.laws.specs.Bits.{zeros}
 use Rattle.line.specs.declared.Line.{Line}
 
--- the line that holds these bytes, of which there are at most 128, and zeros behind them
+-- how many bytes a line has room for
+abbrev pub lineRoom : ℕ
+lineRoom = 128
+
+-- the line that holds these bytes, of which it has room for all, and zeros behind them
 unfoldable pub holding : List ℕ → Line
-holding w = record { bytes = w ++ zeros (128 - length w); len = length w }
+holding w = record { bytes = w ++ zeros (lineRoom - length w); len = length w }
 
 -- one byte more; a full line stays as it is
 unfoldable pub putOf : Line → ℕ → Line
-putOf l b = cond (ltb (l .len) 128) (record { bytes = set (l .bytes) (l .len) b; len = l .len + 1 }) l
+putOf l b = cond (ltb (l .len) lineRoom) (record { bytes = set (l .bytes) (l .len) b; len = l .len + 1 }) l
 
 -- these bytes more, one after the other
 unfoldable pub puts : Line → List ℕ → Line

@@ -1,10 +1,10 @@
--- `line::hex_of` meets its contract.
+-- `ascii::hex_of` meets its contract.
 -- Assumes nothing.
 use mathlib.Core.Path.{refl}
-use Rattle.line.proofs.Nibbles.{low, high}
+use Rattle.ascii.proofs.Nibbles.{low, high}
 use native.Mathlib.Omega.{arith}
-use Rattle.line.proofs.hex_of.Statement.{statement}
-use Rattle.line.proofs.hex_of.Tie as tie
+use Rattle.ascii.proofs.hex_of.Statement.{statement}
+use Rattle.ascii.proofs.hex_of.Tie as tie
 
 returns : tie.Need-returns
 returns c = low (c .before .args .b) 0 (omega arith) (omega arith)

@@ -3,10 +3,11 @@
 use Prim.Native.Nat.{ℕ, zero, suc, _+_, _-_, _*_, _/_, _%_}
 use Prim.Native.Char.{code}
 use Prim.Native.String.{String, [] as end, _∷_ as _then_}
-use mathlib.Core.Bool.{cond}
+use mathlib.Core.Bool.{Bool, cond}
 use mathlib.Core.List.{List, [], _∷_, _++_}
 use lib.Dec.{ltb}
 use lib.IntN.{ℤ, pos, negsuc}
+use Rattle.laws.specs.Lists.{within}
 
 -- the bytes of a word: a letter's byte is its code
 abbrev pub letters : String → List ℕ
@@ -38,3 +39,6 @@ newline = letters "\n"
 unfoldable pub readOn : ℕ → List ℕ → ℕ
 readOn a [] = a
 readOn a (b ∷ w) = readOn (a * 10 + (b - 48)) w
+
+abbrev pub isDigit : ℕ → Bool
+isDigit b = within (code "0") b (code "9")
