@@ -1,10 +1,8 @@
 -- What a caller in another language is told: one number for each question about a sheet.
 -- Assumes nothing.
 use Prim.Native.Nat.{ℕ, _+_, _*_, _%_}
-use mathlib.Core.Bool.{Bool, cond, not}
-use mathlib.Core.List.{List, [], _∷_}
+use mathlib.Core.List.{List}
 use mathlib.Core.Path.{_≡_}
-use lib.Dec.{ltb, eqb}
 use Rattle.rules.specs.declared.Set.{Set}
 use Rattle.rules.specs.declared.State.{State}
 use Rattle.rules.specs.declared.ReadAnswer.{ReadAnswer}
@@ -13,7 +11,8 @@ use Rattle.rules.specs.declared.ReadResult.{ReadResult}
 use Rattle.rules.specs.declared.Verdict.{Verdict}
 use Rattle.rules.specs.declared.Verdict.the-variants.{Accept, Late, Overload, Refused}
 use Rattle.rules.specs.Streams.{streamAt}
-use Rattle.rules.specs.Steps.{startOf, postOf, unitOf}
+use Rattle.rules.specs.Runs.{runOf}
+use Rattle.scheduler_run.specs.Calls.{callsOf}
 use Rattle.rules.specs.Load.{VerdictOf}
 use Rattle.rules.specs.Sheet.{readOf}
 use Rattle.rules.specs.Numbers.{number}
@@ -64,19 +63,10 @@ pub record VerdictOfSheet (r : ReadResult) (n : ℕ) : Type 0 where
 
 -- ---- calls
 
--- a byte below 16 posts to that stream, 16 is a unit, any other a unit with done
-unfoldable pub calledOf : State → ℕ → State
-calledOf s b = cond (ltb b 16) (postOf s b .state) (unitOf s (not (eqb b 16)) .state)
-
--- the calls one after the other, the first first
-unfoldable pub afterOf : State → List ℕ → State
-afterOf s [] = s
-afterOf s (b ∷ bs) = afterOf (calledOf s b) bs
-
 -- how many messages are pending, and the clock
 unfoldable pub stateTold : State → ℕ
 stateTold s = halves (s .count) (s .clock)
 
 -- the state after the calls, from the start of the set that the sheet reads as
 unfoldable pub runTold : List ℕ → List ℕ → ℕ
-runTold sheet calls = stateTold (afterOf (startOf (readOf sheet .set) .state) calls)
+runTold sheet calls = stateTold (runOf (readOf sheet .set) (callsOf calls) .state)

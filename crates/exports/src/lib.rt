@@ -1,10 +1,9 @@
 // Questions about a sheet for a caller in another language: bytes come in, one number goes out.
 ghost use mathlib.Core.Path.{_≡_};
 ghost use Rattle.rules.specs.Sheet.{readOf};
-ghost use Rattle.exports.specs.Told.{halves, answerNumber, readTold, kindOf, lengthOf, verdictTold, SheetVerdict, VerdictOfSheet, calledOf, afterOf, stateTold, runTold};
+ghost use Rattle.exports.specs.Told.{halves, answerNumber, readTold, kindOf, lengthOf, verdictTold, SheetVerdict, VerdictOfSheet, runTold};
 use rules::ReadAnswer;
 use rules::Set;
-use rules::State;
 use rules::Verdict;
 
 // Two numbers in one, each by its lowest 32 bits.
@@ -84,36 +83,6 @@ pub extern "C" fn sheet_verdict(bytes: &[u8]) -> u64
 
 // ---- calls
 
-fn wide(b: u8) -> usize
-    ensures { λ r. ⌜ r ≡ b ⌝ }
-{
-    b as usize
-}
-
-// One call: a byte below 16 posts to that stream, 16 is a unit, any other a unit with done.
-fn called(s: State, b: u8) -> State
-    ensures { λ r. ⌜ r ≡ calledOf s b ⌝ }
-{
-    if b < 16 {
-        let p = scheduler::post(s, wide(b));
-        return p.state;
-    }
-    let u = scheduler::unit(s, !(b == 16));
-    u.state
-}
-
-fn after(s: State, calls: &[u8]) -> State
-    ensures { λ r. ⌜ r ≡ afterOf s (now (calls .entry)) ⌝ }
-{
-    let mut next = s;
-    let mut k: usize = 0;
-    while k < calls.len() {
-        next = called(next, calls[k]);
-        k = k + 1;
-    }
-    next
-}
-
 // The state after the calls, from the start of the set that the bytes read as: how many are pending, and the clock.
 #[no_mangle]
 pub extern "C" fn sheet_run(bytes: &[u8], calls: &[u8]) -> u64
@@ -121,8 +90,6 @@ pub extern "C" fn sheet_run(bytes: &[u8], calls: &[u8]) -> u64
 {
     let r = sheet_read::read(bytes);
     let set = r.set;
-    let begun = scheduler::start(set);
-    let first = begun.state;
-    let last = after(first, calls);
+    let last = scheduler_run::last_state(set, calls);
     in_halves(last.count as u64, last.clock as u64)
 }

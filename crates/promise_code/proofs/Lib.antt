@@ -1,2 +1,4 @@
--- Assumes nothing.
+-- Demand 3 of the code. Assumes nothing.
 pub mod Places
+pub mod Once
+pub mod OfSheet

@@ -18,13 +18,15 @@ use Rattle.rules.specs.declared.Call.{Call}
 use Rattle.rules.specs.declared.Call.the-variants.{Posts, Units}
 use Rattle.rules.specs.declared.Set.{Set}
 use Rattle.rules.specs.declared.StartResult.{StartResult}
+use Rattle.rules.specs.declared.PostResult.{PostResult}
+use Rattle.rules.specs.declared.UnitResult.{UnitResult}
 use Rattle.rules.specs.declared.PostAnswer.{PostAnswer}
 use Rattle.rules.specs.declared.PostAnswer.the-variants.{Posted, Refused as PostRefused}
 use Rattle.rules.specs.declared.UnitAnswer.{UnitAnswer}
 use Rattle.rules.specs.declared.UnitAnswer.the-variants.{Ran, Finished, Cut, Idle, Refused as UnitRefused}
 use Rattle.rules.specs.States.{noMessage, pending}
 use Rattle.rules.specs.Steps.{sooner, startOf, postOf, unitOf, callOf}
-use Rattle.rules.specs.Runs.{Run, afterPost, afterUnit, stepOf, begin, runFrom, runOf, overdue, missedNow, missedFrom, missedIn}
+use Rattle.rules.specs.Runs.{Run, afterPost, afterUnit, stepOf, startAt, begin, runFrom, runOf, overdue, missedNow, missedFrom, missedIn}
 use Rattle.scheduler_run.specs.Calls.{callByte, callsOf, EndOf}
 
 -- ---- a call leaves the state that the step of the run has
@@ -67,14 +69,10 @@ map-last : (l : List ℕ) (b : ℕ) → callsOf (l ++ (b ∷ [])) ≡ callsOf l 
 map-last [] b = refl
 map-last (a ∷ l) b = ap (λ (cs : List Call). callByte a ∷ cs) (map-last l b)
 
--- the run that begins at a state
-abbrev at : State → Run
-at s = record { state = s; time = 0; names = []; events = [] }
-
 -- after k of the bytes, from the state s₀
 pub record After (s₀ : State) (bytes : List ℕ) (k : ℕ) (s : State) (missed : Bool) : Type 0 where
-  pub state : s ≡ runFrom (at s₀) (callsOf (take k bytes)) .state
-  pub missed-is : missed ≡ missedFrom (at s₀) (callsOf (take k bytes))
+  pub state : s ≡ runFrom (startAt s₀) (callsOf (take k bytes)) .state
+  pub missed-is : missed ≡ missedFrom (startAt s₀) (callsOf (take k bytes))
 
 pub after-none : (s₀ : State) (bytes : List ℕ) (missed : Bool) → missed ≡ missedNow s₀ → After s₀ bytes 0 s₀ missed
 unfolding runFrom missedFrom
@@ -84,19 +82,23 @@ module _ (s₀ : State) (bytes : List ℕ) (k : ℕ) (inside : k < length bytes)
   more : callsOf (take (k + 1) bytes) ≡ callsOf (take k bytes) ++ (callByte (getD bytes k 0) ∷ [])
   more = ap (λ (n : ℕ). callsOf (take n bytes)) (add-one k) ∙ ap callsOf (take-suc bytes k 0 inside) ∙ map-last (take k bytes) (getD bytes k 0)
 
-  run-more : runFrom (at s₀) (callsOf (take (k + 1) bytes)) ≡ stepOf (runFrom (at s₀) (callsOf (take k bytes))) (callByte (getD bytes k 0))
-  run-more = ap (runFrom (at s₀)) more ∙ run-last (at s₀) (callsOf (take k bytes)) (callByte (getD bytes k 0))
+  run-more : runFrom (startAt s₀) (callsOf (take (k + 1) bytes)) ≡ stepOf (runFrom (startAt s₀) (callsOf (take k bytes))) (callByte (getD bytes k 0))
+  run-more = ap (runFrom (startAt s₀)) more ∙ run-last (startAt s₀) (callsOf (take k bytes)) (callByte (getD bytes k 0))
 
   pub after-more : (s next : State) (missed late : Bool) → After s₀ bytes k s missed → next ≡ callOf s (callByte (getD bytes k 0)) .state → late ≡ missedNow next → After s₀ bytes (k + 1) next (missed || late)
   after-more s next missed late a e f = record { state = here; missed-is = told }
     where
-      here : next ≡ runFrom (at s₀) (callsOf (take (k + 1) bytes)) .state
+      here : next ≡ runFrom (startAt s₀) (callsOf (take (k + 1) bytes)) .state
       here = e ∙ ap (λ (s : State). callOf s (callByte (getD bytes k 0)) .state) (a .state)
-          ∙ sym (step-state (runFrom (at s₀) (callsOf (take k bytes))) (callByte (getD bytes k 0))) ∙ ap (λ (r : Run). r .state) (sym run-more)
+          ∙ sym (step-state (runFrom (startAt s₀) (callsOf (take k bytes))) (callByte (getD bytes k 0))) ∙ ap (λ (r : Run). r .state) (sym run-more)
 
-      told : (missed || late) ≡ missedFrom (at s₀) (callsOf (take (k + 1) bytes))
+      told : (missed || late) ≡ missedFrom (startAt s₀) (callsOf (take (k + 1) bytes))
       told = ap₂ _||_ (a .missed-is) (f ∙ ap missedNow (here ∙ ap (λ (r : Run). r .state) run-more))
-          ∙ sym (ap (missedFrom (at s₀)) more ∙ missed-last (at s₀) (callsOf (take k bytes)) (callByte (getD bytes k 0)))
+          ∙ sym (ap (missedFrom (startAt s₀)) more ∙ missed-last (startAt s₀) (callsOf (take k bytes)) (callByte (getD bytes k 0)))
+
+  -- the state alone
+  pub state-more : (s next : State) → s ≡ runFrom (startAt s₀) (callsOf (take k bytes)) .state → next ≡ callOf s (callByte (getD bytes k 0)) .state → next ≡ runFrom (startAt s₀) (callsOf (take (k + 1) bytes)) .state
+  state-more s next a e = after-more s next (missedFrom (startAt s₀) (callsOf (take k bytes))) (missedNow next) (record { state = a; missed-is = refl }) e refl .state
 
 -- all the bytes, from the start of a set
 pub after-all : (x : Set) (q : StartResult) (bytes : List ℕ) (k : ℕ) (s : State) (missed : Bool) → q ≡ startOf x → After (q .state) bytes k s missed → length bytes ≤ k
@@ -107,8 +109,17 @@ after-all x q bytes k s missed e a h = record {
   missed = a .missed-is ∙ ap₂ (λ (r : Run) (l : List ℕ). missedFrom r (callsOf l)) begins (take-all k bytes h);
 }
   where
-    begins : at (q .state) ≡ begin x
-    begins = ap (λ (q : StartResult). at (q .state)) e
+    begins : startAt (q .state) ≡ begin x
+    begins = ap (λ (q : StartResult). startAt (q .state)) e
+
+-- the same of the state alone
+pub state-none : (s₀ : State) (bytes : List ℕ) → s₀ ≡ runFrom (startAt s₀) (callsOf (take 0 bytes)) .state
+unfolding runFrom
+state-none s₀ bytes = refl
+
+pub state-all : (x : Set) (q : StartResult) (bytes : List ℕ) (k : ℕ) (s : State) → q ≡ startOf x → s ≡ runFrom (startAt (q .state)) (callsOf (take k bytes)) .state → length bytes ≤ k
+    → s ≡ runOf x (callsOf bytes) .state
+state-all x q bytes k s e a h = after-all x q bytes k s (missedFrom (startAt (q .state)) (callsOf (take k bytes))) e (record { state = a; missed-is = refl }) h .state
 
 -- ---- is a message pending at its deadline? As a pass over the places finds it
 
@@ -145,10 +156,10 @@ overdue-full s k found o h =
 
 -- ---- the call of a byte
 
-pub posts-of : (b : ℕ) → b < 16 → Posts b ≡ callByte b
-unfolding callByte
-posts-of b h = rw (lt-ltb b 16 h)
+pub posts-of : (s : State) (b k : ℕ) (p : PostResult) → b < 16 → p ≡ postOf s k → k ≡ b → p .state ≡ callOf s (callByte b) .state
+unfolding callByte callOf
+posts-of s b k p h e f = rw (lt-ltb b 16 h, e, f)
 
-pub units-of : (b : ℕ) → 16 ≤ b → Units (not (eqb b 16)) ≡ callByte b
-unfolding callByte
-units-of b h = rw (le-ltb b 16 h)
+pub units-of : (s : State) (b : ℕ) (u : UnitResult) → 16 ≤ b → u ≡ unitOf s (not (eqb b 16)) → u .state ≡ callOf s (callByte b) .state
+unfolding callByte callOf
+units-of s b u h e = rw (le-ltb b 16 h, e)

@@ -1,8 +1,8 @@
 // A run of the scheduler from a fresh start: calls from a lent slice, one byte each.
 ghost use mathlib.Core.Path.{_≡_};
-ghost use Rattle.rules.specs.Runs.{missedNow};
-ghost use Rattle.scheduler_run.specs.Calls.{callByte, EndOf};
-use rules::Call;
+ghost use Rattle.rules.specs.Steps.{callOf};
+ghost use Rattle.rules.specs.Runs.{runOf, missedNow};
+ghost use Rattle.scheduler_run.specs.Calls.{callByte, callsOf, EndOf};
 use rules::Set;
 use rules::State;
 
@@ -18,14 +18,30 @@ fn wide(b: u8) -> usize
     b as usize
 }
 
-// The call of a byte: below 16 a post to that stream, 16 a unit, any other a unit with done.
-pub fn call_of(b: u8) -> Call
-    ensures { λ r. ⌜ r ≡ callByte b ⌝ }
+// The state after the call of a byte: below 16 a post to that stream, 16 a unit, any other a unit with done.
+fn called(s: State, b: u8) -> State
+    ensures { λ r. ⌜ r ≡ callOf s (callByte b) .state ⌝ }
 {
     if b < 16 {
-        return Call::Posts(wide(b));
+        let p = scheduler::post(s, wide(b));
+        return p.state;
     }
-    Call::Units(!(b == 16))
+    let u = scheduler::unit(s, !(b == 16));
+    u.state
+}
+
+// The state after the calls, one after the other, from the start of the set.
+pub fn last_state(x: Set, calls: &[u8]) -> State
+    ensures { λ r. ⌜ r ≡ runOf x (callsOf (now (calls .entry))) .state ⌝ }
+{
+    let begun = scheduler::start(x);
+    let mut s = begun.state;
+    let mut k: usize = 0;
+    while k < calls.len() {
+        s = called(s, calls[k]);
+        k = k + 1;
+    }
+    s
 }
 
 // Has the clock reached the deadline of a pending message?
@@ -45,7 +61,7 @@ pub fn missed_now(s: State) -> bool
     any
 }
 
-// The start of the set, and the calls one after the other.
+// The same run, and whether a message was pending at its deadline, at the start or after any call.
 pub fn run(x: Set, calls: &[u8]) -> Ended
     ensures { λ r. ⌜ EndOf x (now (calls .entry)) r ⌝ }
 {
@@ -54,9 +70,7 @@ pub fn run(x: Set, calls: &[u8]) -> Ended
     let mut missed = missed_now(s);
     let mut k: usize = 0;
     while k < calls.len() {
-        let r = scheduler::call(s, call_of(calls[k]));
-        let next = r.state;
-        s = next;
+        s = called(s, calls[k]);
         let late = missed_now(s);
         missed = missed | late;
         k = k + 1;

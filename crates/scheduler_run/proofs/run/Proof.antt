@@ -1,13 +1,8 @@
 -- `scheduler_run::run` meets its contract: after k bytes the state and the misses are those of their calls. Assumes nothing.
 use Prim.Native.Nat.{_-_}
 use native.Mathlib.Omega.{arith}
-use mathlib.Core.Path.{_≡_, ap, sym, _∙_}
 use borrow.Author.Needs.{needs}
 use lib.ListN.{length}
-use Rattle.rules.specs.declared.State.{State}
-use Rattle.rules.specs.declared.CallResult.{CallResult}
-use Rattle.rules.specs.declared.Call.{Call}
-use Rattle.rules.specs.Steps.{callOf}
 use Rattle.scheduler_run.proofs.Moments.{After, after-none, after-more, after-all}
 use Rattle.scheduler_run.proofs.run.Statement.{statement}
 use Rattle.scheduler_run.proofs.run.Tie as tie
@@ -27,14 +22,11 @@ missed-now-requires c κs = search needs
 loop-holds : tie.Need-loop-holds Inv-loop μ-loop
 loop-holds c = after-none _ _ _ (c .missed-now .ensures)
 
-shared-slice-read-call-of : tie.Need-shared-slice-read-call-of Inv-loop μ-loop
-shared-slice-read-call-of c = search needs
+shared-slice-read-called : tie.Need-shared-slice-read-called Inv-loop μ-loop
+shared-slice-read-called c = search needs
 
-call-of-requires : tie.Need-call-of-requires Inv-loop μ-loop
-call-of-requires c κs = search needs
-
-call-requires : tie.Need-call-requires Inv-loop μ-loop
-call-requires c κs = search needs
+called-requires : tie.Need-called-requires Inv-loop μ-loop
+called-requires c κs = search needs
 
 missed-now-requires-2 : tie.Need-missed-now-requires-2 Inv-loop μ-loop
 missed-now-requires-2 c κs = search needs
@@ -47,10 +39,8 @@ loop-less c = search needs
 
 loop-again : tie.Need-loop-again Inv-loop μ-loop
 loop-again c =
-    let loop = c .before .before .before .before .before .before .loop in
-    after-more _ _ (loop .k) (c .before .before .before .before .before .loop-test .taken) (loop .s) _ (loop .missed) _ (loop .inv)
-    (ap (λ (r : CallResult). r .state) (c .before .before .call .ensures) ∙ ap (λ (d : Call). callOf (loop .s) d .state) (c .before .before .before .call-of .ensures))
-    (c .missed-now2 .ensures)
+    let loop = c .before .before .before .before .loop in
+    after-more _ _ (loop .k) (c .before .before .before .loop-test .taken) (loop .s) _ (loop .missed) _ (loop .inv) (c .before .called .ensures) (c .missed-now2 .ensures)
 
 returns : tie.Need-returns Inv-loop μ-loop
 returns c = after-all _ _ _ _ _ _ (c .before .before .before .before .start .ensures) (c .before .loop .inv) (c .loop-test .left)
@@ -64,9 +54,8 @@ run-spec =
     start-requires
     missed-now-requires
     loop-holds
-    shared-slice-read-call-of
-    call-of-requires
-    call-requires
+    shared-slice-read-called
+    called-requires
     missed-now-requires-2
     add-k
     loop-less
