@@ -13,19 +13,19 @@ use Rattle.rules.specs.Runs.{runOf}
 use Rattle.rules.specs.Sheet.{readOf}
 use Rattle.rules.proofs.Verdicts.{verdict-unique}
 use Rattle.scheduler_run.specs.Calls.{callsOf}
-use Rattle.exports.specs.Told.{halves, stateTold, runTold, verdictTold, SheetVerdict, VerdictOfSheet}
+use Rattle.exports.specs.Codes.{halves, stateCode, runCode, verdictCode, SheetVerdict, VerdictOfSheet}
 
 -- the calls, from the start of the set that was read
-pub run-told : (sheet calls : List ℕ) (x : ReadResult) (s : State) (n : ℕ)
-    → x ≡ readOf sheet → s ≡ runOf (x .set) (callsOf calls) .state → n ≡ halves (s .count) (s .clock) → n ≡ runTold sheet calls
-unfolding runTold stateTold
-run-told sheet calls x s n read made told = told ∙ ap stateTold (made ∙ ap (λ (y : ReadResult). runOf (y .set) (callsOf calls) .state) read)
+pub run-code : (sheet calls : List ℕ) (x : ReadResult) (s : State) (n : ℕ)
+    → x ≡ readOf sheet → s ≡ runOf (x .set) (callsOf calls) .state → n ≡ halves (s .count) (s .clock) → n ≡ runCode sheet calls
+unfolding runCode stateCode
+run-code sheet calls x s n read made code = code ∙ ap stateCode (made ∙ ap (λ (y : ReadResult). runOf (y .set) (callsOf calls) .state) read)
 
 one-verdict : (a : ReadAnswer) (x : Set) (v w : Verdict) → SheetVerdict a x v → SheetVerdict a x w → v ≡ w
 one-verdict Read x v w p q = verdict-unique x v w p q
 one-verdict (Refused why) x v w p q = p ∙ sym q
 
 -- two numbers allowed to be told of one sheet's verdict are the same
-pub told-once : (r : ReadResult) (m n : ℕ) → VerdictOfSheet r m → VerdictOfSheet r n → m ≡ n
-told-once r m n p q =
-    p .told ∙ ap verdictTold (one-verdict (r .answer) (r .set) (p .given) (q .given) (p .is-verdict) (q .is-verdict)) ∙ sym (q .told)
+pub code-once : (r : ReadResult) (m n : ℕ) → VerdictOfSheet r m → VerdictOfSheet r n → m ≡ n
+code-once r m n p q =
+    p .code ∙ ap verdictCode (one-verdict (r .answer) (r .set) (p .given) (q .given) (p .is-verdict) (q .is-verdict)) ∙ sym (q .code)

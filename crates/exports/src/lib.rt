@@ -1,7 +1,7 @@
 // Questions about a sheet for a caller in another language: bytes come in, one number goes out.
 ghost use mathlib.Core.Path.{_≡_};
 ghost use Rattle.rules.specs.Sheet.{readOf};
-ghost use Rattle.exports.specs.Told.{halves, answerNumber, readTold, kindOf, lengthOf, verdictTold, SheetVerdict, VerdictOfSheet, runTold};
+ghost use Rattle.exports.specs.Codes.{halves, answerNumber, readCode, kindOf, lengthOf, verdictCode, SheetVerdict, VerdictOfSheet, runCode};
 use rules::ReadAnswer;
 use rules::Set;
 use rules::Verdict;
@@ -27,7 +27,7 @@ fn answer_number(a: ReadAnswer) -> u64
 // What the bytes read as: the answer's number, and the deadline of stream k, 0 where there is none.
 #[no_mangle]
 pub extern "C" fn sheet_read(bytes: &[u8], k: usize) -> u64
-    ensures { λ r. ⌜ r ≡ readTold (readOf (now (bytes .entry))) k ⌝ }
+    ensures { λ r. ⌜ r ≡ readCode (readOf (now (bytes .entry))) k ⌝ }
 {
     let r = sheet_read::read(bytes);
     let a = r.answer;
@@ -86,7 +86,7 @@ pub extern "C" fn sheet_verdict(bytes: &[u8]) -> u64
 // The state after the calls, from the start of the set that the bytes read as: how many are pending, and the clock.
 #[no_mangle]
 pub extern "C" fn sheet_run(bytes: &[u8], calls: &[u8]) -> u64
-    ensures { λ r. ⌜ r ≡ runTold (now (bytes .entry)) (now (calls .entry)) ⌝ }
+    ensures { λ r. ⌜ r ≡ runCode (now (bytes .entry)) (now (calls .entry)) ⌝ }
 {
     let r = sheet_read::read(bytes);
     let set = r.set;

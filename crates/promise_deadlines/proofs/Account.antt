@@ -15,7 +15,7 @@ use Rattle.promise_deadlines.specs.Model.{Model, inWindow, Keeps, due, b
 use Rattle.promise_deadlines.proofs.Formed.{after-each, after-sum, started, started-same, Soon, Formed, formed}
 
 module _ (𝓜 : Model) where
-  open Model 𝓜 using (Msg, stream, task, deadline, rest, hold, Post, postStream, postClock, Departure, streams, tasks, cost, span, limit, cap, Urgent, blocking-urgent, live, task-in, held, urges)
+  open Model 𝓜 using (Msg, stream, task, deadline, rest, hold, Post, postStream, postClock, Departure, streams, tasks, cost, span, limit, cap, Urgent, blocking-urgent, live, task-in, capped, urges)
 
   -- ---- the account for a time D: it is kept while the clock is at most D
 
@@ -105,7 +105,7 @@ module _ (𝓜 : Model) where
             arith,
             debt-le D k m,
             ap (λ (n : ℕ). cap k (D - suc t) * n) (started-same 𝓜 k m q (omega arith)),
-            subst (λ (n : ℕ). hold m ≤ cap n (D - suc t)) q (held m (w .fine m i) (D - suc t) (omega (arith, late m i, soon m i))),
+            subst (λ (n : ℕ). hold m ≤ cap n (D - suc t)) q (capped m (w .fine m i) (D - suc t) (omega (arith, late m i, soon m i))),
           ))
           (λ (q : task m ≢ k). omega (arith, debt-other D k m q))
           (eq-or-ne (task m) k))

@@ -46,7 +46,7 @@ pub record Model : Type 1 where
   -- what the argument uses of a message that keeps the rules
   pub live : (m : Msg) → Fine m → 0 < rest m
   pub task-in : (m : Msg) → Fine m → task m < tasks
-  pub held : (m : Msg) → Fine m → (i : ℕ) → i < span (stream m) → hold m ≤ cap (task m) i
+  pub capped : (m : Msg) → Fine m → (i : ℕ) → i < span (stream m) → hold m ≤ cap (task m) i
   pub urges : (m : Msg) → Fine m → (i : ℕ) → span (stream m) ≤ i → Urgent (task m) i
 
 module _ (𝓜 : Model) where

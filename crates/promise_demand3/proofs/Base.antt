@@ -43,8 +43,8 @@ module _ (S : Set) where
 
   module _ (placed : Placed S) (ok : valid S ≡ true) where
     -- a started message is one of those that the load check counts as blocking
-    pub held-of : (m : Named) → Fine S m → (i : ℕ) → i < spanOf S (m .message) → holdOf S m ≤ capOf S (taskOf S (m .message)) i
-    held-of m f i h = omega (
+    pub capped-of : (m : Named) → Fine S m → (i : ℕ) → i < spanOf S (m .message) → holdOf S m ≤ capOf S (taskOf S (m .message)) i
+    capped-of m f i h = omega (
       arith,
       hold-le m,
       top-member (blocks (taskOf S (m .message)) i) (stream-member S placed ok (m .message .stream) (f .stream-in)),
@@ -90,7 +90,7 @@ module _ (S : Set) where
       blocking-urgent = blocking-of;
       live = λ m f. omega (arith, f .used-in);
       task-in = λ m f. omega (arith, stream-valid S placed ok (m .message .stream) (f .stream-in) .task);
-      held = held-of;
+      capped = capped-of;
       urges = urges-of;
     }
 

@@ -1,6 +1,6 @@
 -- `exports::sheet_run` meets its contract. Assumes nothing.
 use borrow.Author.Needs.{needs}
-use Rattle.exports.proofs.Calls.{run-told}
+use Rattle.exports.proofs.Calls.{run-code}
 use Rattle.exports.proofs.sheet_run.Statement.{statement}
 use Rattle.exports.proofs.sheet_run.Tie as tie
 
@@ -17,7 +17,7 @@ in-halves-requires : tie.Need-in-halves-requires
 in-halves-requires c κs = search needs
 
 returns : tie.Need-returns
-returns c = run-told _ _ _ _ _ (c .before .before .before .before .read .ensures) (c .before .before .last-state .ensures) (c .in-halves .ensures)
+returns c = run-code _ _ _ _ _ (c .before .before .before .before .read .ensures) (c .before .before .last-state .ensures) (c .in-halves .ensures)
 
 pub sheet-run-spec : {M : Type 1} → statement M
 sheet-run-spec =

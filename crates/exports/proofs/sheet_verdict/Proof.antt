@@ -2,7 +2,7 @@
 use borrow.Author.Needs.{needs}
 use mathlib.Core.Path.{ap, ap₂, subst, _∙_}
 use Rattle.rules.specs.declared.ReadResult.{ReadResult}
-use Rattle.exports.specs.Told.{halves, verdictTold, SheetVerdict}
+use Rattle.exports.specs.Codes.{halves, verdictCode, SheetVerdict}
 use Rattle.exports.proofs.sheet_verdict.Statement.{statement}
 use Rattle.exports.proofs.sheet_verdict.Tie as tie
 
@@ -22,12 +22,12 @@ in-halves-requires : tie.Need-in-halves-requires
 in-halves-requires c κs = search needs
 
 returns : tie.Need-returns
-unfolding verdictTold
+unfolding verdictCode
 returns c =
     record {
       given = c .before .before .before .verdict-by .result;
       is-verdict = subst (λ (r : ReadResult). SheetVerdict (r .answer) (r .set) (c .before .before .before .verdict-by .result)) (c .before .before .before .before .before .read .ensures) (c .before .before .before .verdict-by .ensures);
-      told = c .in-halves .ensures ∙ ap₂ halves (c .before .before .kind-of .ensures) (c .before .length-of .ensures);
+      code = c .in-halves .ensures ∙ ap₂ halves (c .before .before .kind-of .ensures) (c .before .length-of .ensures);
     }
 
 pub sheet-verdict-spec : {M : Type 1} → statement M

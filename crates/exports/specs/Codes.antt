@@ -29,8 +29,8 @@ answerNumber Read = 0
 answerNumber (ReadRefused why) = number why
 
 -- the answer's number, and the deadline of stream k
-unfoldable pub readTold : ReadResult → ℕ → ℕ
-readTold r k = halves (answerNumber (r .answer)) (streamAt (r .set) k .deadline)
+unfoldable pub readCode : ReadResult → ℕ → ℕ
+readCode r k = halves (answerNumber (r .answer)) (streamAt (r .set) k .deadline)
 
 -- ---- the verdict
 
@@ -48,8 +48,8 @@ lengthOf (Late i w) = i
 lengthOf Overload = 0
 lengthOf (Refused why) = 0
 
-unfoldable pub verdictTold : Verdict → ℕ
-verdictTold v = halves (kindOf v) (lengthOf v)
+unfoldable pub verdictCode : Verdict → ℕ
+verdictCode v = halves (kindOf v) (lengthOf v)
 
 -- the verdict of the set that was read; a sheet that is refused has no other verdict than that
 abbrev pub SheetVerdict : ReadAnswer → Set → Verdict → Type 0
@@ -59,14 +59,14 @@ SheetVerdict (ReadRefused why) x v = v ≡ Refused why
 pub record VerdictOfSheet (r : ReadResult) (n : ℕ) : Type 0 where
   pub given : Verdict
   pub is-verdict : SheetVerdict (r .answer) (r .set) given
-  pub told : n ≡ verdictTold given
+  pub code : n ≡ verdictCode given
 
 -- ---- calls
 
 -- how many messages are pending, and the clock
-unfoldable pub stateTold : State → ℕ
-stateTold s = halves (s .count) (s .clock)
+unfoldable pub stateCode : State → ℕ
+stateCode s = halves (s .count) (s .clock)
 
 -- the state after the calls, from the start of the set that the sheet reads as
-unfoldable pub runTold : List ℕ → List ℕ → ℕ
-runTold sheet calls = stateTold (runOf (readOf sheet .set) (callsOf calls) .state)
+unfoldable pub runCode : List ℕ → List ℕ → ℕ
+runCode sheet calls = stateCode (runOf (readOf sheet .set) (callsOf calls) .state)

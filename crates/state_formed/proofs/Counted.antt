@@ -19,19 +19,19 @@ use Rattle.rules.specs.States.{noMessage, taskOf, startedOf, startedOnce}
 
 module _ (x : Set) (l : List Message) (n : ℕ) where
   -- what is counted up to k and what is left make the whole; no count is above 1
-  pub record Tally (k : ℕ) (counts : List ℕ) : Type 0 where
+  pub record Counted (k : ℕ) (counts : List ℕ) : Type 0 where
     pub sixteen : length counts ≡ 16
     pub small : (t : ℕ) → t < 16 → getD counts t 0 ≤ 1
     pub adds : (t : ℕ) → t < 16 → getD counts t 0 + count (startedOf x t) (part k n l) ≡ count (startedOf x t) (take n l)
 
-  pub tally-start : Tally 0 (replicate 16 0)
-  tally-start = record {
+  pub counted-start : Counted 0 (replicate 16 0)
+  counted-start = record {
     sixteen = refl;
     small = λ t h. omega (arith, getD-replicate {A = ℕ} 16 t 0 0 h);
     adds = λ t h. omega (arith, getD-replicate {A = ℕ} 16 t 0 0 h, ap (count (startedOf x t)) (part-all l n));
   }
 
-  module _ (k : ℕ) (counts : List ℕ) (m : Message) (t : ℕ) (inv : Tally k counts) (e : m ≡ getD l k noMessage) (e₁ : t ≡ taskOf x m) (h : k < n) (g : k < length l) where
+  module _ (k : ℕ) (counts : List ℕ) (m : Message) (t : ℕ) (inv : Counted k counts) (e : m ≡ getD l k noMessage) (e₁ : t ≡ taskOf x m) (h : k < n) (g : k < length l) where
     -- the message at k is one more of its own task, and of no other
     own : (b : Bool) → _≡_ {A = ℕ} (cond (b && eqb t t) 1 0) (cond b 1 0)
     own true = rw (eq-eqb t t refl)
@@ -48,8 +48,8 @@ module _ (x : Set) (l : List Message) (n : ℕ) where
     others u f = left u ∙ rw (← e₁, other (ltb 0 (m .used)) u f) (omega arith)
 
     -- it is not started, or its task is not one of the sixteen
-    pub tally-past : (ltb 0 (m .used) && ltb t 16) ≡ false → Tally (k + 1) counts
-    tally-past q = record {
+    pub counted-past : (ltb 0 (m .used) && ltb t 16) ≡ false → Counted (k + 1) counts
+    counted-past q = record {
       sixteen = inv .sixteen;
       small = inv .small;
       adds = λ u p. omega (arith, inv .adds u p, skipped u p);
@@ -66,8 +66,8 @@ module _ (x : Set) (l : List Message) (n : ℕ) where
       mine : count (startedOf x t) (part k n l) ≡ 1 + count (startedOf x t) (part (k + 1) n l)
       mine = left t ∙ rw (← e₁, own (ltb 0 (m .used)), lt-ltb 0 (m .used) used)
 
-      pub tally-go : getD counts t 0 ≤ 0 → Tally (k + 1) (set counts t 1)
-      tally-go q = record {
+      pub counted-go : getD counts t 0 ≤ 0 → Counted (k + 1) (set counts t 1)
+      counted-go q = record {
         sixteen = simp length-set (inv .sixteen);
         small = λ u p. by-test (eqb t u)
             (λ y. rw (← eqb-true t u y, getD-set-same counts t 1 0 (omega (arith, inv .sixteen))) (omega arith))
@@ -77,13 +77,13 @@ module _ (x : Set) (l : List Message) (n : ℕ) where
             (λ y. rw (getD-set-other counts t u 1 0 (λ z. eqb-false t u y (sym z))) (omega (arith, inv .adds u p, others u (eqb-false t u y))));
       }
 
-      pub tally-no : 0 < getD counts t 0 → false ≡ all (startedOnce x (take n l)) (below 16)
+      pub counted-no : 0 < getD counts t 0 → false ≡ all (startedOnce x (take n l)) (below 16)
       unfolding startedOnce
-      tally-no q = below-no (startedOnce x (take n l)) 16 t t-in (lt-leb (count (startedOf x t) (take n l)) 1 (omega (arith, inv .adds t t-in, mine)))
+      counted-no q = below-no (startedOnce x (take n l)) 16 t t-in (lt-leb (count (startedOf x t) (take n l)) 1 (omega (arith, inv .adds t t-in, mine)))
 
-  pub tally-end : (k : ℕ) (counts : List ℕ) → Tally k counts → n ≤ k → true ≡ all (startedOnce x (take n l)) (below 16)
+  pub counted-end : (k : ℕ) (counts : List ℕ) → Counted k counts → n ≤ k → true ≡ all (startedOnce x (take n l)) (below 16)
   unfolding startedOnce
-  tally-end k counts inv h =
+  counted-end k counts inv h =
       sym (below-all (startedOnce x (take n l)) 16 (λ t q.
       le-leb (count (startedOf x t) (take n l)) 1
       (omega (arith, inv .adds t q, inv .small t q, ap (count (startedOf x t)) (part-nil l n k (inl h)), count-none (startedOf x t)))))
