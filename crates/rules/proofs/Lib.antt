@@ -12,3 +12,4 @@ pub mod Events
 pub mod Runs
 pub mod Refusals
 pub mod Ways
+pub mod Recordings

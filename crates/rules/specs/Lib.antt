@@ -6,3 +6,4 @@ pub mod Load
 pub mod Sheet
 pub mod Numbers
 pub mod Runs
+pub mod Recordings

@@ -4,7 +4,7 @@ use Prim.Native.Nat.{ℕ}
 use lib.IntN.{ℤ}
 use Rattle.rules.specs.declared.Tuple.{Tuple}
 use Rattle.rules.specs.declared.Refusal.{Refusal}
-use Rattle.rules.specs.declared.Refusal.the-variants.{NoStream, Full, LastClock, NothingPending, BitsMissing, BadVersion, OutOfRule, LongCycles, BadByte, Leftover, ShortBuffer, IllFormed}
+use Rattle.rules.specs.declared.Refusal.the-variants.{NoStream, Full, LastClock, NothingPending, BitsMissing, BadVersion, OutOfRule, LongCycles, BadByte, Leftover, ShortBuffer, IllFormed, StopsEarly, Trailing}
 use Rattle.rules.specs.declared.StartAnswer.{StartAnswer}
 use Rattle.rules.specs.declared.StartAnswer.the-variants.{Started, Refused as StartRefused}
 use Rattle.rules.specs.declared.PostAnswer.{PostAnswer}
@@ -23,10 +23,12 @@ use Rattle.rules.specs.declared.Verdict.{Verdict}
 use Rattle.rules.specs.declared.Verdict.the-variants.{Accept, Late, Overload, Refused as VerdictRefused}
 use Rattle.rules.specs.declared.ReadAnswer.{ReadAnswer}
 use Rattle.rules.specs.declared.ReadAnswer.the-variants.{Read, Refused as ReadRefused}
+use Rattle.rules.specs.declared.ReplayAnswer.{ReplayAnswer}
+use Rattle.rules.specs.declared.ReplayAnswer.the-variants.{Called, Ended, Refused as ReplayRefused}
 use Rattle.rules.specs.declared.WriteAnswer.{WriteAnswer}
 use Rattle.rules.specs.declared.WriteAnswer.the-variants.{Wrote, Refused as WriteRefused}
 
--- "No | Given exactly when"
+-- "No | Given exactly when"; document 02, request 1: 13 and 14
 abbrev pub number : Refusal → ℕ
 number NoStream = 1
 number Full = 2
@@ -40,6 +42,8 @@ number BadByte = 9
 number Leftover = 10
 number ShortBuffer = 11
 number IllFormed = 12
+number StopsEarly = 13
+number Trailing = 14
 
 -- what an answer says: the paper's word with its values, or a refusal's number; `refused-with-0` where 0 is given with it
 pub data Says : Type 0 where
@@ -60,6 +64,7 @@ pub data Says : Type 0 where
   overload : Says
   read : Says
   wrote : (bytes : ℕ) → Says
+  ended : Says
 
 abbrev pub startSays : StartAnswer → Says
 startSays Started = started
@@ -110,3 +115,9 @@ readSays (ReadRefused why) = refused (number why)
 abbrev pub writeSays : WriteAnswer → Says
 writeSays (Wrote n) = wrote n
 writeSays (WriteRefused why) = refused (number why)
+
+-- "gives, for each [call], the answer the cab gave"; end; 12, 13, 14
+abbrev pub replaySays : ReplayAnswer → Says
+replaySays (Called a) = callSays a
+replaySays Ended = ended
+replaySays (ReplayRefused why) = refused (number why)

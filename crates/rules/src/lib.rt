@@ -61,6 +61,8 @@ pub enum Refusal {
     Leftover,
     ShortBuffer,
     IllFormed,
+    StopsEarly,
+    Trailing,
 }
 
 pub enum StartAnswer {
@@ -157,5 +159,43 @@ pub struct ReadResult {
 pub enum WriteAnswer {
     // bytes written
     Wrote(usize),
+    Refused(Refusal),
+}
+
+// A place in a recording: a byte, and a bit behind its first.
+pub struct Place {
+    pub byte: usize,
+    pub bit: u32,
+}
+
+// What the bits at a place of a recording say: a call, the end, or why neither.
+pub enum Mark {
+    Makes(Call),
+    Ends,
+    Refused(Refusal),
+}
+
+// What a step of a replay answers: what the call answers, that the recording ends, or why there is no step.
+pub enum ReplayAnswer {
+    Called(CallAnswer),
+    Ended,
+    Refused(Refusal),
+}
+
+pub struct ReplayResult {
+    pub answer: ReplayAnswer,
+    pub state: State,
+    pub place: Place,
+}
+
+// How a replay begins: what the sheet reads as, and the start of its set.
+pub struct ReplayStart {
+    pub answer: ReadAnswer,
+    pub state: State,
+}
+
+pub enum RecordAnswer {
+    // the place behind what was recorded
+    Recorded(Place),
     Refused(Refusal),
 }

@@ -1,0 +1,130 @@
+-- Document 02, request 1, "Replay a cab's recording in the office".
+-- Assumes nothing.
+use Prim.Native.Nat.{ℕ, zero, suc, _+_, _-_, _*_, _/_, _%_}
+use mathlib.Core.Bool.{Bool, true, false, cond, _&&_, _||_}
+use mathlib.Core.List.{List, [], _∷_, _++_}
+use lib.ListN.{length, take, drop}
+use lib.Dec.{ltb, leb, eqb}
+use Rattle.laws.specs.Lists.{every, all, flat}
+use Rattle.laws.specs.Bits.{toBits, value, bits, zeros, pack}
+use Rattle.rules.specs.declared.State.{State}
+use Rattle.rules.specs.declared.Call.{Call}
+use Rattle.rules.specs.declared.Call.the-variants.{Posts, Units}
+use Rattle.rules.specs.declared.Refusal.{Refusal}
+use Rattle.rules.specs.declared.Refusal.the-variants.{IllFormed, StopsEarly, Trailing}
+use Rattle.rules.specs.declared.Place.{Place}
+use Rattle.rules.specs.declared.Mark.{Mark}
+use Rattle.rules.specs.declared.Mark.the-variants.{Makes, Ends, Refused}
+use Rattle.rules.specs.declared.ReplayAnswer.{ReplayAnswer}
+use Rattle.rules.specs.declared.ReplayAnswer.the-variants.{Called, Ended, Refused as NoStep}
+use Rattle.rules.specs.declared.ReplayResult.{ReplayResult}
+use Rattle.rules.specs.declared.ReplayStart.{ReplayStart}
+use Rattle.rules.specs.States.{wellFormed}
+use Rattle.rules.specs.Steps.{startOf, callOf}
+use Rattle.rules.specs.Sheet.{isZero, readOf}
+
+-- ---- what a recording of calls is
+
+-- "packed fields, most significant first: 2 bits of kind (0 post, 1 unit, 2 unit with done, 3 end), and after a post 4 bits of stream"
+abbrev pub kindOf : Call → ℕ
+kindOf (Posts k) = 0
+kindOf (Units done) = cond done 2 1
+
+abbrev pub streamBits : Call → List ℕ
+streamBits (Posts k) = toBits 4 k
+streamBits (Units done) = []
+
+unfoldable pub callBits : Call → List ℕ
+callBits c = toBits 2 (kindOf c) ++ streamBits c
+
+-- "After end come zero bits to the byte's end."
+unfoldable pub recordingOf : List Call → List ℕ
+recordingOf calls = pack (flat callBits calls ++ toBits 2 3)
+
+-- a call to a stream that 4 bits can name: another cannot be recorded
+abbrev pub recordable : Call → Bool
+recordable (Posts k) = ltb k 16
+recordable (Units done) = true
+
+-- ---- what the bits at a place say
+
+-- a place is in a recording: its byte is at most the length, its bit below 8, and 0 at the end
+unfoldable pub placeIn : List ℕ → Place → Bool
+placeIn s p = every (leb (p .byte) (length s) ∷ ltb (p .bit) 8 ∷ (ltb (p .byte) (length s) || eqb (p .bit) 0) ∷ [])
+
+abbrev pub bitAt : Place → ℕ
+bitAt p = 8 * p .byte + p .bit
+
+-- the place n bits on
+unfoldable pub placeAfter : Place → ℕ → Place
+placeAfter p n = record { byte = p .byte + (p .bit + n) / 8; bit = (p .bit + n) % 8 }
+
+-- "14 for set padding or further bytes": behind end come fewer than 8 bits, all zero
+abbrev pub endSays : List ℕ → Mark
+endSays bs = cond (ltb (length bs) 8 && all isZero bs) Ends (Refused Trailing)
+
+-- "13 for a recording that stops before end": a post without its 4 bits of stream, too
+abbrev pub postSays : List ℕ → Mark
+postSays bs = cond (leb 4 (length bs)) (Makes (Posts (value (take 4 bs)))) (Refused StopsEarly)
+
+-- a kind, and the bits behind it
+abbrev pub kindSays : ℕ → List ℕ → Mark
+kindSays kind bs =
+    cond (eqb kind 0) (postSays bs)
+    (cond (eqb kind 1) (Makes (Units false))
+    (cond (eqb kind 2) (Makes (Units true))
+    (endSays bs)))
+
+unfoldable pub markOf : List ℕ → Mark
+markOf bs = cond (leb 2 (length bs)) (kindSays (value (take 2 bs)) (drop 2 bs)) (Refused StopsEarly)
+
+-- ---- a step of a replay
+
+-- "makes the same calls and gives, for each, the answer the cab gave"; "End, 12, 13 and 14 don't move the reader."
+abbrev pub stepBy : State → Place → Mark → ReplayResult
+stepBy s p (Makes c) = record { answer = Called (callOf s c .answer); state = callOf s c .state; place = placeAfter p (length (callBits c)) }
+stepBy s p Ends = record { answer = Ended; state = s; place = p }
+stepBy s p (Refused why) = record { answer = NoStep why; state = s; place = p }
+
+-- 12 for a state that is not well formed or a place that is not in the recording; then what the bits say
+unfoldable pub replayStep : State → List ℕ → Place → ReplayResult
+replayStep s recording p =
+    cond (wellFormed s && placeIn recording p)
+    (stepBy s p (markOf (drop (bitAt p) (bits recording))))
+    (record { answer = NoStep IllFormed; state = s; place = p })
+
+-- "The replay starts from a sheet": reading's refusals as they are, with the start of the empty set
+unfoldable pub replayStart : List ℕ → ReplayStart
+replayStart sheet = record { answer = readOf sheet .answer; state = startOf (readOf sheet .set) .state }
+
+abbrev pub firstPlace : Place
+firstPlace = record { byte = 0; bit = 0 }
+
+-- ---- a whole recording
+
+-- how a recording stops: at its end, or refused with 13 or 14
+pub data Stop : Type 0 where
+  ends : Stop
+  refused : Refusal → Stop
+
+pub record Tape : Type 0 where
+  pub calls : List Call
+  pub stop : Stop
+
+-- one call more in front
+abbrev pub behind : Call → Tape → Tape
+behind c t = record { calls = c ∷ t .calls; stop = t .stop }
+
+abbrev pub tapeBy : Mark → (Call → Tape) → Tape
+tapeBy (Makes c) more = behind c (more c)
+tapeBy Ends more = record { calls = []; stop = ends }
+tapeBy (Refused why) more = record { calls = []; stop = refused why }
+
+-- "all steps before them stand": the calls that bits say, one after the other, n at most, and how they stop
+unfoldable pub tapeFrom : ℕ → List ℕ → Tape
+tapeFrom zero bs = record { calls = []; stop = refused StopsEarly }
+tapeFrom (suc n) bs = tapeBy (markOf bs) (λ c. tapeFrom n (drop (length (callBits c)) bs))
+
+-- of a whole recording: it has fewer calls than bits
+unfoldable pub tapeOf : List ℕ → Tape
+tapeOf recording = tapeFrom (suc (length (bits recording))) (bits recording)
