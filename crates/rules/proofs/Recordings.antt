@@ -8,7 +8,6 @@ use Rattle.rules.specs.declared.Call.{Call}
 use Rattle.rules.specs.declared.Call.the-variants.{Posts, Units}
 use Rattle.rules.specs.declared.Refusal.{Refusal}
 use Rattle.rules.specs.declared.Refusal.the-variants.{StopsEarly, Trailing}
-use Rattle.rules.specs.declared.Place.{Place}
 use Rattle.rules.specs.Steps.{fresh}
 use Rattle.rules.specs.Numbers.{Says, refused, posted, ended, replaySays}
 use Rattle.rules.specs.Recordings.{recordingOf, replayStep, Tape, Stop, ends, refused as refuses, tapeOf}

@@ -12,7 +12,6 @@ use Rattle.rules.specs.declared.Call.{Call}
 use Rattle.rules.specs.declared.Call.the-variants.{Posts, Units}
 use Rattle.rules.specs.declared.Refusal.{Refusal}
 use Rattle.rules.specs.declared.Refusal.the-variants.{IllFormed, StopsEarly, Trailing}
-use Rattle.rules.specs.declared.Place.{Place}
 use Rattle.rules.specs.declared.Mark.{Mark}
 use Rattle.rules.specs.declared.Mark.the-variants.{Makes, Ends, Refused}
 use Rattle.rules.specs.declared.ReplayAnswer.{ReplayAnswer}
@@ -48,6 +47,11 @@ recordable (Units done) = true
 
 -- ---- what the bits at a place say
 
+-- a place in a recording: a byte, and a bit behind its first
+pub record Place : Type 0 where
+  pub byte : ℕ
+  pub bit : ℕ
+
 -- a place is in a recording: its byte is at most the length, its bit below 8, and 0 at the end
 unfoldable pub placeIn : List ℕ → Place → Bool
 placeIn s p = every (leb (p .byte) (length s) ∷ ltb (p .bit) 8 ∷ (ltb (p .byte) (length s) || eqb (p .bit) 0) ∷ [])
@@ -80,18 +84,22 @@ markOf bs = cond (leb 2 (length bs)) (kindSays (value (take 2 bs)) (drop 2 bs)) 
 
 -- ---- a step of a replay
 
+-- an answer, a state, and the reader at a place
+abbrev pub at : ReplayAnswer → State → Place → ReplayResult
+at a s p = record { answer = a; state = s; byte = p .byte; bit = p .bit }
+
 -- "makes the same calls and gives, for each, the answer the cab gave"; "End, 12, 13 and 14 don't move the reader."
 abbrev pub stepBy : State → Place → Mark → ReplayResult
-stepBy s p (Makes c) = record { answer = Called (callOf s c .answer); state = callOf s c .state; place = placeAfter p (length (callBits c)) }
-stepBy s p Ends = record { answer = Ended; state = s; place = p }
-stepBy s p (Refused why) = record { answer = NoStep why; state = s; place = p }
+stepBy s p (Makes c) = at (Called (callOf s c .answer)) (callOf s c .state) (placeAfter p (length (callBits c)))
+stepBy s p Ends = at Ended s p
+stepBy s p (Refused why) = at (NoStep why) s p
 
 -- 12 for a state that is not well formed or a place that is not in the recording; then what the bits say
 unfoldable pub replayStep : State → List ℕ → Place → ReplayResult
 replayStep s recording p =
     cond (wellFormed s && placeIn recording p)
     (stepBy s p (markOf (drop (bitAt p) (bits recording))))
-    (record { answer = NoStep IllFormed; state = s; place = p })
+    (at (NoStep IllFormed) s p)
 
 -- "The replay starts from a sheet": reading's refusals as they are, with the start of the empty set
 unfoldable pub replayStart : List ℕ → ReplayStart

@@ -162,12 +162,6 @@ pub enum WriteAnswer {
     Refused(Refusal),
 }
 
-// A place in a recording: a byte, and a bit behind its first.
-pub struct Place {
-    pub byte: usize,
-    pub bit: u32,
-}
-
 // What the bits at a place of a recording say: a call, the end, or why neither.
 pub enum Mark {
     Makes(Call),
@@ -182,10 +176,12 @@ pub enum ReplayAnswer {
     Refused(Refusal),
 }
 
+// The answer, the state, and the reader's place: a byte, and a bit behind its first.
 pub struct ReplayResult {
     pub answer: ReplayAnswer,
     pub state: State,
-    pub place: Place,
+    pub byte: usize,
+    pub bit: u32,
 }
 
 // How a replay begins: what the sheet reads as, and the start of its set.
@@ -195,7 +191,7 @@ pub struct ReplayStart {
 }
 
 pub enum RecordAnswer {
-    // the place behind what was recorded
-    Recorded(Place),
+    // the place behind what was recorded: byte, bit
+    Recorded(usize, u32),
     Refused(Refusal),
 }

@@ -1,0 +1,2 @@
+-- Laws of what the bits at a place say. Assumes nothing.
+pub mod Marks
