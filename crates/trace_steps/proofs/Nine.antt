@@ -7,11 +7,11 @@ use Rattle.rules.specs.declared.State.{State}
 use Rattle.line.specs.Decimal.{letters, digitsOf}
 use Rattle.answer_words.specs.Words.{says}
 use Rattle.trace_bytes.specs.Steps.{betweenSteps, afterP}
-use Rattle.trace_steps.specs.declared.Run.{Run}
-use Rattle.trace_steps.specs.Turns.{runAfter, textAfter, textEnd}
+use Rattle.trace_steps.specs.declared.Tracing.{Tracing}
+use Rattle.trace_steps.specs.Turns.{tracingAfter, textAfter, textEnd}
 
 -- a run that goes on, between steps or after p
-abbrev going : State → Bool → Run
+abbrev going : State → Bool → Tracing
 going s waiting = record { state = s; waiting = waiting; live = true }
 
 -- `x`, `p` and then a space, `p` at the end
@@ -20,6 +20,6 @@ pub refused-9 : (s : State)
 unfolding textAfter textEnd betweenSteps afterP says digitsOf
 refused-9 s = refl
 
-pub stops-at-9 : (s : State) → runAfter (going s false) 120 ≡ record { state = s; waiting = false; live = false }
-unfolding runAfter betweenSteps
+pub stops-at-9 : (s : State) → tracingAfter (going s false) 120 ≡ record { state = s; waiting = false; live = false }
+unfolding tracingAfter betweenSteps
 stops-at-9 s = refl

@@ -6,11 +6,11 @@ use mathlib.Core.Logic.{⊎-elim}
 use mathlib.Core.Path.{_≡_, sym, _∙_}
 use lib.ListN.{length}
 use Rattle.laws.proofs.Gates.{le-or-lt}
-use Rattle.trace_steps.specs.declared.Run.{Run}
-use Rattle.trace_steps.specs.Turns.{Taken}
+use Rattle.trace_steps.specs.declared.Tracing.{Tracing}
+use Rattle.trace_steps.specs.Turns.{PieceTraced}
 
-module _ (r s t : Run) (piece out p q : List ℕ) (m n : ℕ) where
-  pub taken-once : Taken r piece out s m p → Taken r piece out t n q → (s ≡ t) × ((m ≡ n) × (p ≡ q))
+module _ (r s t : Tracing) (piece out p q : List ℕ) (m n : ℕ) where
+  pub taken-once : PieceTraced r piece out s m p → PieceTraced r piece out t n q → (s ≡ t) × ((m ≡ n) × (p ≡ q))
   taken-once a b =
       ⊎-elim
       (λ (h : length piece * 128 ≤ length out).
