@@ -21,7 +21,8 @@ use Rattle.rules.specs.declared.Verdict.{Verdict}
 use Rattle.rules.specs.Steps.{startOf, postOf, unitOf}
 use Rattle.rules.specs.Sheet.{readOf}
 use Rattle.rules.proofs.Verdicts.{verdict-unique}
-use Rattle.exports.specs.Told.{halves, calledOf, afterOf, stateTold, runTold, verdictTold, SheetVerdict, VerdictOfSheet}
+use Rattle.load_check.specs.Sheets.{SheetVerdict}
+use Rattle.exports.specs.Told.{halves, calledOf, afterOf, stateTold, runTold, verdictTold, VerdictOfSheet}
 
 -- what one byte calls
 pub posts : (s : State) (b k : ℕ) (p : PostResult) → b < 16 → p ≡ postOf s k → k ≡ b → p .state ≡ calledOf s b

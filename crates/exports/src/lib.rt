@@ -2,7 +2,8 @@
 ghost use mathlib.Core.Path.{_≡_};
 ghost use Rattle.rules.specs.Numbers.{number};
 ghost use Rattle.rules.specs.Sheet.{readOf};
-ghost use Rattle.exports.specs.Told.{halves, answerNumber, readTold, kindOf, lengthOf, verdictTold, SheetVerdict, VerdictOfSheet, calledOf, afterOf, stateTold, runTold};
+ghost use Rattle.load_check.specs.Sheets.{SheetVerdict};
+ghost use Rattle.exports.specs.Told.{halves, answerNumber, readTold, kindOf, lengthOf, verdictTold, VerdictOfSheet, calledOf, afterOf, stateTold, runTold};
 use rules::ReadAnswer;
 use rules::Refusal;
 use rules::Set;

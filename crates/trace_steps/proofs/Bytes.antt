@@ -27,11 +27,11 @@ use Rattle.page.specs.Pages.{appended, endOf}
 use Rattle.page.proofs.Rooms.{end-at, holds-then, same-size, rest-stays}
 use Rattle.trace_steps.specs.declared.Tracing.{Tracing}
 use Rattle.trace_steps.specs.declared.Turn.{Turn}
-use Rattle.trace_steps.specs.Turns.{going, nextTracing, nextText, tracingAfter, textAfter, tracingOn, textOn, textEnd}
+use Rattle.trace_steps.specs.Turns.{going, nextTracing, nextText, tracingAfter, textAfter, tracingOn, textOn, textEnd, Ending}
 
 -- a step, from the scheduler's answer and its line
 pub step-turn : (s : State) (c : Call) (x : CallResult) (l : Line) (t : Turn) → x ≡ callOf s c
-    → l ≡ holding (stepLine (s .clock) (callSays (x .answer))) → t ≡ record { tracing = going (x .state); line = l }
+    → l ≡ holding (stepLine (s .clock) (callSays (x .answer))) → t ≡ record { tracing = going (x .state) false; line = l }
     → t ≡ record { tracing = nextTracing s (Makes c); line = holding (nextText s (Makes c)) }
 step-turn s c x l t e f g = g ∙ rw (f, e)
 
@@ -165,12 +165,12 @@ feed-end r₀ r piece out₀ out i at h m g =
       ),
     )
 
--- the end of the trace, with a p that waits and without
-ends : (s : State) (t u : Bool) → cond t (nextText s (atEnd u)) [] ≡ cond (t && u) (nextText s Bad) []
-ends s true true = refl
-ends s true false = refl
-ends s false u = refl
-
-pub end-is : (r : Tracing) (l : Line) (t : Bool) → (r .live && r .waiting) ≡ t → l ≡ holding (cond t (nextText (r .state) Bad) []) → l ≡ holding (textEnd r)
+-- the end of the trace, of one that goes on and of one that has stopped
+pub end-alive : (t : Tracing) (h : Heard) (u : Turn) → t .live ≡ true → h ≡ atEnd (t .waiting)
+    → u ≡ record { tracing = nextTracing (t .state) h; line = holding (nextText (t .state) h) } → Ending t (u .line)
 unfolding textEnd
-end-is r l t e f = rw (ends (r .state) (r .live) (r .waiting), e) f
+end-alive t h u a e f = rw (a, ← e, f)
+
+pub end-stopped : (t : Tracing) (l : Line) → t .live ≡ false → l ≡ holding [] → Ending t l
+unfolding textEnd
+end-stopped t l a e = rw a e

@@ -24,13 +24,13 @@ joinedOf (p ∷ ps) = p ++ joinedOf ps
 -- what is written of the pieces, one after the other: of each the front of its page, and at the end of the input the last line. Of a trace
 -- that has stopped nothing more need be read.
 pub data Written : Tracing → List (List ℕ) → List ℕ → Type 0 where
-  halts : (t : Tracing) (ps : List (List ℕ)) → t .live ≡ false → Written t ps []
-  ends : (t : Tracing) (l : Line) → Ending t l → Written t [] (bytesOf l)
-  goes-on : (t next : Tracing) (p out page : List ℕ) (len : ℕ) (ps : List (List ℕ)) (w : List ℕ) → length p * 128 ≤ length out
+  halts : {t : Tracing} {ps : List (List ℕ)} → t .live ≡ false → Written t ps []
+  ends : {t : Tracing} (l : Line) → Ending t l → Written t [] (bytesOf l)
+  goes-on : {t next : Tracing} {p out page : List ℕ} {len : ℕ} {ps : List (List ℕ)} {w : List ℕ} → length p * 128 ≤ length out
       → PieceTraced t p out next len page → Written next ps w → Written t (p ∷ ps) (take len page ++ w)
 
 -- the whole: the first line, and what is written of the pieces from there
-pub record Made (sheet : List ℕ) (pieces : List (List ℕ)) (out : List ℕ) : Type 0 where
+pub record MadeOf (sheet : List ℕ) (pieces : List (List ℕ)) (out : List ℕ) : Type 0 where
   pub first : Turn
   pub begins : Beginning (readOf sheet) first
   pub rest : List ℕ

@@ -14,7 +14,7 @@ use Rattle.rules.specs.Runs.{runOf, Step, stepsOf}
 use Rattle.load_check.specs.Sheets.{SheetVerdict}
 use Rattle.answer_words.specs.Words.{stepLine}
 use Rattle.trace_bytes.specs.Scripts.{Script, scriptOf}
-use Rattle.trace_steps.specs.Turns.{verdictLine, tracingFrom, nine, tracingOn, textOn, textEnd}
+use Rattle.trace_steps.specs.Turns.{verdictLine, tracingFrom, nine, tracingOn, textToEnd}
 
 -- "Each step prints the clock before it and its answer"
 abbrev pub lineOfStep : Step → List ℕ
@@ -42,4 +42,4 @@ pub record TraceOf (sheet input out : List ℕ) : Type 0 where
 -- What the bytes of a trace do from the start of a set is the run of its calls: they leave its state, and print its steps.
 pub record TraceIsRun (x : Set) (input : List ℕ) : Type 0 where
   pub state : tracingOn (tracingFrom x true) input .state ≡ runOf x (scriptOf input .calls) .state
-  pub text : textOn (tracingFrom x true) input ++ textEnd (tracingOn (tracingFrom x true) input) ≡ stepsPrinted x (scriptOf input)
+  pub text : textToEnd (tracingFrom x true) input ≡ stepsPrinted x (scriptOf input)

@@ -49,14 +49,14 @@ pub record Beginning (r : ReadResult) (t : Turn) : Type 0 where
 
 -- ---- a byte
 
--- between steps, with a p that waits for its digit, and behind a byte that is refused
-abbrev pub going : State → Tracing
-going s = record { state = s; waiting = false; live = true }
+-- a trace that goes on, between steps or with a p that waits for its digit
+abbrev pub going : State → Bool → Tracing
+going s waiting = record { state = s; waiting = waiting; live = true }
 
 abbrev pub nextTracing : State → Heard → Tracing
-nextTracing s Skip = going s
-nextTracing s More = record { state = s; waiting = true; live = true }
-nextTracing s (Makes c) = going (callOf s c .state)
+nextTracing s Skip = going s false
+nextTracing s More = going s true
+nextTracing s (Makes c) = going (callOf s c .state) false
 nextTracing s Bad = record { state = s; waiting = false; live = false }
 
 -- "Any other byte, or p without its digit, prints the line `refused 9`, with no clock, and stops."
@@ -89,6 +89,10 @@ textOn t (b ∷ l) = textAfter t b ++ textOn (tracingAfter t b) l
 -- the end of the trace: a p without its digit
 unfoldable pub textEnd : Tracing → List ℕ
 textEnd t = cond (t .live) (nextText (t .state) (endOf (t .waiting))) []
+
+-- bytes, and the end behind them
+abbrev pub textToEnd : Tracing → List ℕ → List ℕ
+textToEnd t l = textOn t l ++ textEnd (tracingOn t l)
 
 -- the last line; blank where nothing is refused
 abbrev pub Ending : Tracing → Line → Type 0

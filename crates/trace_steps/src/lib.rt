@@ -88,7 +88,7 @@ fn step_line(clock: u32, a: CallAnswer) -> Line
 }
 
 fn turn_at(state: State, line: Line) -> Turn
-    ensures { λ r. ⌜ r ≡ record { tracing = going state; line = line } ⌝ }
+    ensures { λ r. ⌜ r ≡ record { tracing = going state false; line = line } ⌝ }
 {
     let tracing = Tracing {
         state,
@@ -121,7 +121,7 @@ fn refused(s: State) -> Turn
 }
 
 fn skipped(s: State, waiting: bool) -> Turn
-    ensures { λ r. ⌜ r ≡ record { tracing = record { state = s; waiting = waiting; live = true }; line = holding [] } ⌝ }
+    ensures { λ r. ⌜ r ≡ record { tracing = going s waiting; line = holding [] } ⌝ }
 {
     let tracing = Tracing {
         state: s,
@@ -204,9 +204,12 @@ pub fn end_line(t: Tracing) -> Line
     ensures { λ l. ⌜ Ending t l ⌝ }
 {
     let live = t.live;
-    let waiting = t.waiting;
-    if live & waiting {
-        answer_words::verdict_line(Verdict::Refused(Refusal::BadByte))
+    if live {
+        let s = t.state;
+        let waiting = t.waiting;
+        let last = heard(s, trace_bytes::at_end(waiting));
+        let line = last.line;
+        line
     } else {
         line::blank()
     }

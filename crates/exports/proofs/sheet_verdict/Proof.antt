@@ -2,7 +2,8 @@
 use borrow.Author.Needs.{needs}
 use mathlib.Core.Path.{ap, ap₂, subst, _∙_}
 use Rattle.rules.specs.declared.ReadResult.{ReadResult}
-use Rattle.exports.specs.Told.{halves, verdictTold, SheetVerdict}
+use Rattle.load_check.specs.Sheets.{SheetVerdict}
+use Rattle.exports.specs.Told.{halves, verdictTold}
 use Rattle.exports.proofs.sheet_verdict.Statement.{statement}
 use Rattle.exports.proofs.sheet_verdict.Tie as tie
 
