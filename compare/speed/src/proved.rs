@@ -12,7 +12,7 @@ pub fn read(sheet: &[u8], k: usize) -> u64 {
     unsafe { sheet_read(sheet.as_ptr(), sheet.len(), k) }
 }
 
-/// 0 accept, 13 late, 14 overload or the refusal's number, and the late length.
+/// 0 accept, 256 late, 257 overload or the refusal's number, and the late length.
 pub fn verdict(sheet: &[u8]) -> u64 {
     // SAFETY: as above.
     unsafe { sheet_verdict(sheet.as_ptr(), sheet.len()) }

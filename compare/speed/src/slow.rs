@@ -21,8 +21,8 @@ pub fn verdict(sheet: &[u8]) -> u64 {
     };
     match verdict {
         Verdict::Accept => 0,
-        Verdict::Late { length, .. } => 13 << 32 | length,
-        Verdict::Overload => 14 << 32,
+        Verdict::Late { length, .. } => 256 << 32 | length,
+        Verdict::Overload => 257 << 32,
         Verdict::Refused(refusal) => u64::from(refusal.number()) << 32,
     }
 }

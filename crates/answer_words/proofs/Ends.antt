@@ -11,9 +11,10 @@ use mir.Val.{SFits, toZ, ofZ}
 use mir.ValLaws.{toZ-ofZ}
 use Rattle.rules.specs.Numbers.{Says}
 use Rattle.line.specs.declared.Line.{Line}
-use Rattle.line.specs.Decimal.{decimalOf, signedOf, spaced}
-use Rattle.line.specs.Held.{holding, putOf, puts}
-use Rattle.line.proofs.Puts.{then, first, last, holds, digits-short}
+use Rattle.ascii.specs.Decimal.{decimalOf, signedOf, spaced}
+use Rattle.line.specs.Line.{holding, putOf, puts}
+use Rattle.ascii.proofs.Digits.{digits-short}
+use Rattle.line.proofs.Puts.{then, first, last, holds}
 use Rattle.answer_words.specs.Words.{says, lineOf, stepLine}
 use Rattle.answer_words.proofs.Lengths.{says-short}
 

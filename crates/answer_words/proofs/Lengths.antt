@@ -10,8 +10,8 @@ use Rattle.rules.specs.declared.Tuple.the-variants.{Once, Every}
 use Rattle.rules.specs.declared.ReadAnswer.{ReadAnswer}
 use Rattle.rules.specs.declared.ReadAnswer.the-variants.{Read, Refused}
 use Rattle.rules.specs.Numbers.{Says, number, refused, refused-with-0, started, posted, none, runs, ran, done, cut, idle, gives, tuples, accept, late, overload, read, wrote}
-use Rattle.line.specs.Decimal.{letters, decimalOf, signedOf, spaced}
-use Rattle.line.proofs.Puts.{digits-short}
+use Rattle.ascii.specs.Decimal.{letters, decimalOf, signedOf, spaced}
+use Rattle.ascii.proofs.Digits.{digits-short}
 use Rattle.answer_words.specs.Words.{tupleWords, says, readWords}
 
 -- a number with its space, behind a word

@@ -7,7 +7,7 @@ use Rattle.rules.specs.declared.Tuple.the-variants.{Once, Every}
 use Rattle.rules.specs.declared.ReadAnswer.{ReadAnswer}
 use Rattle.rules.specs.declared.ReadAnswer.the-variants.{Read, Refused}
 use Rattle.rules.specs.Numbers.{Says, number, refused, refused-with-0, started, posted, none, runs, ran, done, cut, idle, gives, tuples, accept, late, overload, read, wrote}
-use Rattle.line.specs.Decimal.{letters, decimalOf, signedOf, spaced, newline}
+use Rattle.ascii.specs.Decimal.{letters, decimalOf, signedOf, spaced, newline}
 
 -- a number behind a space
 abbrev nr : ℕ → List ℕ

@@ -1,7 +1,7 @@
 // What the programs print: a refusal, and the lines of a trace; the words of specs/Words.antt.
 ghost use mathlib.Core.Path.{_≡_};
 ghost use Rattle.rules.specs.Numbers.{number, refused as Refused-with, postSays, unitSays, verdictSays};
-ghost use Rattle.line.specs.Held.{holding, puts};
+ghost use Rattle.line.specs.Line.{holding, puts};
 ghost use Rattle.answer_words.specs.Words.{says, lineOf, stepLine};
 use line::Line;
 use rules::PostAnswer;
@@ -9,30 +9,10 @@ use rules::Refusal;
 use rules::UnitAnswer;
 use rules::Verdict;
 
-// The number that the cab prints for a refusal.
-pub fn refusal_number(why: Refusal) -> u32
-    ensures { λ r. ⌜ r ≡ number why ⌝ }
-{
-    match why {
-        Refusal::NoStream => 1,
-        Refusal::Full => 2,
-        Refusal::LastClock => 3,
-        Refusal::NothingPending => 4,
-        Refusal::BitsMissing => 5,
-        Refusal::BadVersion => 6,
-        Refusal::OutOfRule => 7,
-        Refusal::LongCycles => 8,
-        Refusal::BadByte => 9,
-        Refusal::Leftover => 10,
-        Refusal::ShortBuffer => 11,
-        Refusal::IllFormed => 12,
-    }
-}
-
 pub fn refused(l: Line, why: Refusal) -> Line
     ensures { λ r. ⌜ r ≡ puts l (says (Refused-with (number why))) ⌝ }
 {
-    line::one(l, b"refused", refusal_number(why) as u64)
+    line::one(l, b"refused", answer_numbers::refusal_number(why))
 }
 
 fn post_words(l: Line, a: PostAnswer) -> Line

@@ -5,19 +5,12 @@ use Prim.Native.String.{String}
 use mathlib.Core.Bool.{Bool, true, false, cond, _&&_}
 use mathlib.Core.List.{List, [], _∷_, _++_}
 use lib.ListN.{length}
-use lib.Dec.{eqb}
 use Rattle.laws.specs.Bits.{zeros}
-use Rattle.line.specs.Decimal.{letters}
+use Rattle.ascii.specs.Decimal.{letters}
+use Rattle.ascii.specs.Same.{same}
 use Rattle.console_names.specs.declared.Kind.{Kind}
 use Rattle.console_names.specs.declared.Kind.the-variants.{Unknown, Write, Streams, Stream, Once, Every, Valid, Limit, Demand, Jitter, Verdict, Start, Clock, Pending, Message, Post, Unit, Done, Choose, Status, Formed}
 use Rattle.console_names.specs.declared.Row.{Row}
-
--- two words are the same
-unfoldable pub same : List ℕ → List ℕ → Bool
-same [] [] = true
-same [] (c ∷ w) = false
-same (b ∷ v) [] = false
-same (b ∷ v) (c ∷ w) = eqb b c && same v w
 
 -- a row of the page: a command, and what each of its numbers may at most be
 abbrev row : Kind → List ℕ → Row

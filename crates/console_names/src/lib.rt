@@ -1,7 +1,7 @@
 // The console's commands by name, and the numbers that each asks for.
 ghost use mathlib.Core.Path.{_≡_};
 ghost use mathlib.Core.List.{_∷_, []};
-ghost use Rattle.console_names.specs.Rows.{same as sameWord, rowOf, askRow, stepRow, stateRow};
+ghost use Rattle.console_names.specs.Rows.{rowOf, askRow, stepRow, stateRow};
 
 // The console's commands.
 pub enum Kind {
@@ -39,22 +39,6 @@ pub struct Row {
     pub most: [u32; 5],
 }
 
-pub fn same(v: &[u8], w: &[u8]) -> bool
-    ensures { λ r. ⌜ r ≡ sameWord (now (v .entry)) (now (w .entry)) ⌝ }
-{
-    if v.len() != w.len() {
-        return false;
-    }
-    let mut i = 0;
-    while i < v.len() {
-        if v[i] != w[i] {
-            return false;
-        }
-        i += 1;
-    }
-    true
-}
-
 // The largest number.
 const TOP: u32 = 4294967295;
 
@@ -71,16 +55,16 @@ fn asks(kind: Kind, count: usize, a: u32, b: u32, c: u32, d: u32, e: u32) -> Row
 fn state_row(w: &[u8]) -> Row
     ensures { λ r. ⌜ r ≡ stateRow (now (w .entry)) ⌝ }
 {
-    if same(w, b"message") {
+    if ascii::same(w, b"message") {
         return asks(Kind::Message, 4, 63, TOP, TOP, TOP, 0);
     }
-    if same(w, b"choose") {
+    if ascii::same(w, b"choose") {
         return asks(Kind::Choose, 0, 0, 0, 0, 0, 0);
     }
-    if same(w, b"state") {
+    if ascii::same(w, b"state") {
         return asks(Kind::Status, 0, 0, 0, 0, 0, 0);
     }
-    if same(w, b"formed") {
+    if ascii::same(w, b"formed") {
         return asks(Kind::Formed, 0, 0, 0, 0, 0, 0);
     }
     asks(Kind::Unknown, 0, 0, 0, 0, 0, 0)
@@ -89,22 +73,22 @@ fn state_row(w: &[u8]) -> Row
 fn step_row(w: &[u8]) -> Row
     ensures { λ r. ⌜ r ≡ stepRow (now (w .entry)) ⌝ }
 {
-    if same(w, b"post") {
+    if ascii::same(w, b"post") {
         return asks(Kind::Post, 1, TOP, 0, 0, 0, 0);
     }
-    if same(w, b"unit") {
+    if ascii::same(w, b"unit") {
         return asks(Kind::Unit, 0, 0, 0, 0, 0, 0);
     }
-    if same(w, b"done") {
+    if ascii::same(w, b"done") {
         return asks(Kind::Done, 0, 0, 0, 0, 0, 0);
     }
-    if same(w, b"start") {
+    if ascii::same(w, b"start") {
         return asks(Kind::Start, 0, 0, 0, 0, 0, 0);
     }
-    if same(w, b"clock") {
+    if ascii::same(w, b"clock") {
         return asks(Kind::Clock, 1, TOP, 0, 0, 0, 0);
     }
-    if same(w, b"pending") {
+    if ascii::same(w, b"pending") {
         return asks(Kind::Pending, 1, TOP, 0, 0, 0, 0);
     }
     state_row(w)
@@ -113,19 +97,19 @@ fn step_row(w: &[u8]) -> Row
 fn ask_row(w: &[u8]) -> Row
     ensures { λ r. ⌜ r ≡ askRow (now (w .entry)) ⌝ }
 {
-    if same(w, b"valid") {
+    if ascii::same(w, b"valid") {
         return asks(Kind::Valid, 0, 0, 0, 0, 0, 0);
     }
-    if same(w, b"limit") {
+    if ascii::same(w, b"limit") {
         return asks(Kind::Limit, 2, TOP, TOP, 0, 0, 0);
     }
-    if same(w, b"demand") {
+    if ascii::same(w, b"demand") {
         return asks(Kind::Demand, 1, TOP, 0, 0, 0, 0);
     }
-    if same(w, b"jitter") {
+    if ascii::same(w, b"jitter") {
         return asks(Kind::Jitter, 2, TOP, TOP, 0, 0, 0);
     }
-    if same(w, b"verdict") {
+    if ascii::same(w, b"verdict") {
         return asks(Kind::Verdict, 0, 0, 0, 0, 0, 0);
     }
     step_row(w)
@@ -134,19 +118,19 @@ fn ask_row(w: &[u8]) -> Row
 pub fn row_of(w: &[u8]) -> Row
     ensures { λ r. ⌜ r ≡ rowOf (now (w .entry)) ⌝ }
 {
-    if same(w, b"write") {
+    if ascii::same(w, b"write") {
         return asks(Kind::Write, 1, 1024, 0, 0, 0, 0);
     }
-    if same(w, b"streams") {
+    if ascii::same(w, b"streams") {
         return asks(Kind::Streams, 1, TOP, 0, 0, 0, 0);
     }
-    if same(w, b"stream") {
+    if ascii::same(w, b"stream") {
         return asks(Kind::Stream, 5, 15, TOP, TOP, TOP, TOP);
     }
-    if same(w, b"once") {
+    if ascii::same(w, b"once") {
         return asks(Kind::Once, 3, 15, 3, TOP, 0, 0);
     }
-    if same(w, b"every") {
+    if ascii::same(w, b"every") {
         return asks(Kind::Every, 4, 15, 3, TOP, TOP, 0);
     }
     ask_row(w)

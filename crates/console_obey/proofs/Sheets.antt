@@ -6,7 +6,7 @@ use mathlib.Core.Path.{_≡_, refl, sym, ap, ap₂, _∙_}
 use mathlib.Core.List.{List, []}
 use lib.ListN.{length, take, drop, length-drop, drop-of-length-le}
 use lib.Seq.{take-all}
-use Rattle.line.specs.Hex.{unhexed}
+use Rattle.ascii.specs.Hex.{unhexed}
 use Rattle.page_hex.specs.Unhexed.{fitting, unhexedIn}
 use Rattle.page_hex.proofs.Pairs.{unhexed-size, fitting-in, all-there}
 

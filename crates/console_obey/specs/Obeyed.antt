@@ -5,7 +5,7 @@ use mathlib.Core.Bool.{Bool, true, false}
 use mathlib.Core.List.{List}
 use mathlib.Core.Path.{_≡_}
 use lib.ListN.{drop}
-use Rattle.line.specs.Hex.{unhexed}
+use Rattle.ascii.specs.Hex.{unhexed}
 use Rattle.console_parse.specs.Lines.{orderOf}
 use Rattle.page.specs.Pages.{roomFor}
 use Rattle.console_state.specs.declared.Desk.{Desk}

@@ -3,7 +3,7 @@
 ghost use mathlib.Core.Path.{_≡_};
 ghost use Prim.Native.Nat.{_+_, _*_, _≤_};
 ghost use lib.ListN.{length, take, drop};
-ghost use Rattle.line.specs.Hex.{unhexed};
+ghost use Rattle.ascii.specs.Hex.{unhexed};
 ghost use Rattle.console_obey.specs.Obeyed.{Obeys};
 use console_state::Desk;
 

@@ -11,7 +11,7 @@ use lib.ListN.{length, getD, take, drop, set, drop-of-length-le, length-take, le
 use lib.Seq.{drop-cons, drop-drop, getD-take, set-append-seam, append-snoc}
 use lib.Dec.{eqb}
 use Rattle.laws.specs.Bits.{zeros}
-use Rattle.line.specs.Decimal.{readOn}
+use Rattle.ascii.specs.Decimal.{readOn}
 use Rattle.console_names.specs.declared.Row.{Row}
 use Rattle.console_names.specs.declared.Kind.{Kind}
 use Rattle.console_names.specs.declared.Kind.the-variants.{Unknown}

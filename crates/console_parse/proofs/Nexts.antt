@@ -10,7 +10,7 @@ use lib.ListN.{length, getD, take, drop, drop-of-length-le, length-drop}
 use lib.Seq.{drop-cons, take-all}
 use lib.Dec.{eqb, ltb}
 use borrow.Author.Tests.{eq-eqb, ne-eqb, lt-ltb}
-use Rattle.line.specs.Decimal.{readOn}
+use Rattle.ascii.specs.Decimal.{readOn}
 use Rattle.console_parse.specs.declared.Got.{Got}
 use Rattle.console_parse.specs.declared.Got.the-variants.{Is, Bad}
 use Rattle.console_parse.specs.declared.Next.{Next}

@@ -8,10 +8,11 @@ use mathlib.Core.List.{List, [], _∷_}
 use lib.ListN.{length, take, drop}
 use lib.Dec.{eqb, ltb}
 use borrow.Author.Tests.{eq-eqb, ne-eqb, lt-ltb, le-ltb}
-use Rattle.line.specs.Decimal.{letters}
+use Rattle.ascii.specs.Decimal.{letters}
 use Rattle.console_names.specs.declared.Kind.the-variants.{Nothing, Unknown, Read}
 use Rattle.console_names.specs.declared.Row.{Row}
-use Rattle.console_names.specs.Rows.{same, rowOf}
+use Rattle.ascii.specs.Same.{same}
+use Rattle.console_names.specs.Rows.{rowOf}
 use Rattle.console_parse.specs.declared.Order.{Order}
 use Rattle.console_parse.specs.Bytes.{front, behind}
 use Rattle.console_parse.specs.Lines.{orderAt, asked, hexBehind, orderOf}

@@ -11,11 +11,11 @@ use lib.Seq.{drop-cons}
 use lib.Dec.{leb, eqb}
 use borrow.Author.Tests.{le-leb, lt-leb, eq-eqb, ne-eqb}
 use Rattle.laws.specs.Lists.{within, all}
-use Rattle.line.specs.Decimal.{readOn}
-use Rattle.line.specs.Hex.{isHex}
+use Rattle.ascii.specs.Decimal.{readOn, isDigit}
+use Rattle.ascii.specs.Hex.{isHex}
 use Rattle.console_parse.specs.declared.Got.{Got}
 use Rattle.console_parse.specs.declared.Got.the-variants.{Is, Bad}
-use Rattle.console_parse.specs.Bytes.{isDigit, isNumber, isHexText}
+use Rattle.console_parse.specs.Bytes.{isNumber, isHexText}
 use Rattle.console_parse.specs.Scan.{gotOf}
 
 module _ (p : ℕ → Bool) (w : List ℕ) (i : ℕ) where

@@ -7,11 +7,8 @@ use mathlib.Core.List.{List, [], _∷_, _++_}
 use lib.ListN.{length}
 use lib.Dec.{leb, eqb}
 use Rattle.laws.specs.Lists.{within, all}
-use Rattle.line.specs.Decimal.{readOn}
-use Rattle.line.specs.Hex.{isHex}
-
-abbrev pub isDigit : ℕ → Bool
-isDigit b = within (code "0") b (code "9")
+use Rattle.ascii.specs.Decimal.{readOn, isDigit}
+use Rattle.ascii.specs.Hex.{isHex}
 
 -- the word at the front, before the first space, and what is left behind it, from that space on
 unfoldable pub front : List ℕ → List ℕ

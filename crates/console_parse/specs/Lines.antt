@@ -7,11 +7,12 @@ use mathlib.Core.List.{List, [], _∷_, _++_}
 use lib.ListN.{length, take}
 use lib.Dec.{leb, ltb, eqb}
 use Rattle.laws.specs.Bits.{zeros}
-use Rattle.line.specs.Decimal.{letters, readOn}
+use Rattle.ascii.specs.Decimal.{letters, readOn}
 use Rattle.console_names.specs.declared.Kind.{Kind}
 use Rattle.console_names.specs.declared.Kind.the-variants.{Nothing, Unknown, Read}
 use Rattle.console_names.specs.declared.Row.{Row}
-use Rattle.console_names.specs.Rows.{same, rowOf}
+use Rattle.ascii.specs.Same.{same}
+use Rattle.console_names.specs.Rows.{rowOf}
 use Rattle.console_parse.specs.declared.Order.{Order}
 use Rattle.console_parse.specs.Bytes.{front, behind, isNumber, isHexText}
 

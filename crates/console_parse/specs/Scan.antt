@@ -6,7 +6,7 @@ use mathlib.Core.Bool.{Bool, true, false, cond, _&&_}
 use mathlib.Core.List.{List, [], _∷_, _++_}
 use lib.ListN.{length, set}
 use lib.Dec.{eqb}
-use Rattle.line.specs.Decimal.{readOn}
+use Rattle.ascii.specs.Decimal.{readOn}
 use Rattle.console_names.specs.declared.Kind.{Kind}
 use Rattle.console_names.specs.declared.Kind.the-variants.{Unknown}
 use Rattle.console_parse.specs.declared.Order.{Order}

@@ -3,7 +3,7 @@ ghost use mathlib.Core.Path.{_≡_};
 ghost use mathlib.Core.List.{_∷_, []};
 ghost use Prim.Native.Nat.{_+_, _-_, _≤_};
 ghost use lib.ListN.{length, drop};
-ghost use Rattle.console_parse.specs.Bytes.{isDigit, front, isHexText};
+ghost use Rattle.console_parse.specs.Bytes.{front, isHexText};
 ghost use Rattle.console_parse.specs.Scan.{gotOf, nextOf, filled};
 ghost use Rattle.console_parse.specs.Lines.{asked, hexBehind, orderOf, orderAt};
 use console_names::Kind;
@@ -30,18 +30,6 @@ fn word_end(line: &[u8], at: usize) -> usize
     i
 }
 
-fn is_digit(b: u8) -> bool
-    ensures { λ r. ⌜ r ≡ isDigit b ⌝ }
-{
-    (48 <= b) & (b <= 57)
-}
-
-fn digit_of(b: u8) -> u64
-    ensures { λ r. ⌜ r ≡ b - 48 ⌝ }
-{
-    if b < 48 { 0 } else { (b - 48) as u64 }
-}
-
 enum Got {
     Is(u32),
     Bad,
@@ -60,10 +48,10 @@ fn number_of(w: &[u8], most: u32) -> Got
     let mut i = 0;
     while i < w.len() {
         let b = w[i];
-        if !is_digit(b) {
+        if !ascii::is_digit(b) {
             return Got::Bad;
         }
-        n = n * 10 + digit_of(b);
+        n = n * 10 + ascii::digit_of(b);
         if 4294967295 < n {
             return Got::Bad;
         }
@@ -158,7 +146,7 @@ fn is_hex_text(w: &[u8]) -> bool
     }
     let mut i = 0;
     while i < w.len() {
-        if !line::is_hex(w[i]) {
+        if !ascii::is_hex(w[i]) {
             return false;
         }
         i += 1;
@@ -194,7 +182,7 @@ pub fn parse(line: &[u8]) -> Order
         return bare(Kind::Unknown);
     }
     let end = word_end(line, 0);
-    if console_names::same(&line[..end], b"read") {
+    if ascii::same(&line[..end], b"read") {
         if hex_behind(line, end) {
             bare(Kind::Read)
         } else {

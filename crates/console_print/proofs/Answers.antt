@@ -8,7 +8,7 @@ use Rattle.rules.specs.declared.Verdict.{Verdict as Judgement}
 use Rattle.rules.specs.Load.{VerdictOf}
 use Rattle.rules.specs.Numbers.{verdictSays}
 use Rattle.line.specs.declared.Line.{Line}
-use Rattle.line.specs.Held.{holding}
+use Rattle.line.specs.Line.{holding}
 use Rattle.answer_words.specs.Words.{says, lineOf}
 use Rattle.answer_words.proofs.Lengths.{says-short}
 use Rattle.page.specs.Pages.{roomFor, appended, endOf}

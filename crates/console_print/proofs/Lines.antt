@@ -8,9 +8,10 @@ use lib.ListN.{length, length-append}
 use Rattle.rules.specs.declared.Message.{Message}
 use Rattle.rules.specs.Numbers.{Says, startSays, postSays, unitSays, chooseSays, countSays, jitterSays}
 use Rattle.line.specs.declared.Line.{Line}
-use Rattle.line.specs.Decimal.{letters, decimalOf, spaced}
-use Rattle.line.specs.Held.{holding, putOf, puts}
-use Rattle.line.proofs.Puts.{then, digits-short}
+use Rattle.ascii.specs.Decimal.{letters, decimalOf, spaced}
+use Rattle.line.specs.Line.{holding, putOf, puts}
+use Rattle.ascii.proofs.Digits.{digits-short}
+use Rattle.line.proofs.Puts.{then}
 use Rattle.answer_words.specs.Words.{says, readWords, lineOf, stepLine}
 use Rattle.answer_words.proofs.Lengths.{says-short, read-short}
 use Rattle.answer_words.proofs.Ends.{ended}

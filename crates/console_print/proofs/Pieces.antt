@@ -7,7 +7,7 @@ use mathlib.Core.Bool.{true}
 use mathlib.Core.List.{List, [], _++_}
 use lib.ListN.{length}
 use Rattle.line.specs.declared.Line.{Line}
-use Rattle.line.specs.Held.{holding}
+use Rattle.line.specs.Line.{holding}
 use Rattle.page.specs.Pages.{roomFor, printed, printedEnd, appended, endOf}
 use Rattle.page.proofs.Prints.{room-less, line-printed, line-end, printed-nothing, end-nothing, printed-size, room-left, printed-twice, end-twice}
 use Rattle.console_print.specs.Prints.{Onto}

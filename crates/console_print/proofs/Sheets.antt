@@ -15,8 +15,8 @@ use Rattle.rules.specs.Numbers.{writeSays}
 use Rattle.rules.specs.Streams.{valid}
 use Rattle.rules.specs.Sheet.{sheetOf, writeOf, bufferOf}
 use Rattle.line.specs.declared.Line.{Line}
-use Rattle.line.specs.Hex.{hexed}
-use Rattle.line.specs.Held.{holding}
+use Rattle.ascii.specs.Hex.{hexed}
+use Rattle.line.specs.Line.{holding}
 use Rattle.answer_words.specs.Words.{says, lineOf}
 use Rattle.answer_words.proofs.Lengths.{says-short}
 use Rattle.page.specs.Pages.{roomFor, appended, endOf}

@@ -13,8 +13,8 @@ use Rattle.rules.specs.declared.Message.{Message}
 use Rattle.rules.specs.declared.State.{State}
 use Rattle.rules.specs.States.{messageUnused}
 use Rattle.line.specs.declared.Line.{Line}
-use Rattle.line.specs.Decimal.{letters, decimalOf, spaced}
-use Rattle.line.specs.Held.{holding, putOf, puts}
+use Rattle.ascii.specs.Decimal.{letters, decimalOf, spaced}
+use Rattle.line.specs.Line.{holding, putOf, puts}
 use Rattle.answer_words.specs.Words.{lineOf}
 use Rattle.answer_words.proofs.Ends.{ended}
 use Rattle.page.specs.Pages.{roomFor, appended, endOf}

@@ -14,8 +14,8 @@ use Rattle.rules.specs.States.{messageUnused}
 use Rattle.rules.specs.Load.{VerdictOf}
 use Rattle.rules.specs.Sheet.{writeOf, bufferOf}
 use Rattle.rules.specs.Numbers.{startSays, postSays, unitSays, chooseSays, countSays, jitterSays, verdictSays, writeSays}
-use Rattle.line.specs.Decimal.{letters, decimalOf, spaced}
-use Rattle.line.specs.Hex.{hexed}
+use Rattle.ascii.specs.Decimal.{letters, decimalOf, spaced}
+use Rattle.ascii.specs.Hex.{hexed}
 use Rattle.answer_words.specs.Words.{says, readWords, lineOf, stepLine}
 use Rattle.page.specs.Pages.{roomFor, printed, printedEnd}
 use Rattle.console_state.specs.declared.Desk.{Desk}

@@ -1,7 +1,7 @@
 // The lines of the answers that only the console prints; the words of words/specs/Words.antt.
 ghost use mathlib.Core.Path.{_≡_};
 ghost use Rattle.rules.specs.Numbers.{startSays, chooseSays, countSays, jitterSays, writeSays};
-ghost use Rattle.line.specs.Held.{holding, puts};
+ghost use Rattle.line.specs.Line.{holding, puts};
 ghost use Rattle.answer_words.specs.Words.{tupleWords, says, readWords, lineOf};
 use line::Line;
 use rules::ChooseAnswer;

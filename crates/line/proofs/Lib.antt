@@ -1,4 +1,2 @@
 pub mod Puts
-pub mod Back
 pub mod Signs
-pub mod Nibbles

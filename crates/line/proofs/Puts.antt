@@ -12,8 +12,8 @@ use lib.Dec.{ltb}
 use borrow.Author.Tests.{lt-ltb, le-ltb}
 use Rattle.laws.specs.Bits.{zeros}
 use Rattle.line.specs.declared.Line.{Line}
-use Rattle.line.specs.Decimal.{digitsOf}
-use Rattle.line.specs.Held.{holding, putOf, puts}
+use Rattle.ascii.specs.Decimal.{digitsOf}
+use Rattle.line.specs.Line.{holding, putOf, puts}
 
 pub puts-append : (l : Line) (v w : List ℕ) → puts (puts l v) w ≡ puts l (v ++ w)
 unfolding puts
@@ -81,13 +81,3 @@ large l m r zero n b h _ _ _ _ = absurd (h refl)
 large l m r (suc k) n b _ g e a f =
     let less : suc k - 1 ≡ k = omega arith in
     rw (le-ltb n 10 g) (last l m r (digitsOf k (n / 10)) (48 + n % 10) (rw less at e) (f ∙ ap (putOf m) a))
-
--- a number has at most as many digits as were asked for
-pub digits-short : (k n : ℕ) → length (digitsOf k n) ≤ k
-unfolding digitsOf
-digits-short zero n = omega arith
-digits-short (suc k) n = go (ltb n 10) (digits-short k (n / 10))
-  where
-    go : (t : Bool) → length (digitsOf k (n / 10)) ≤ k → length (cond t ((48 + n) ∷ []) (digitsOf k (n / 10) ++ ((48 + n % 10) ∷ []))) ≤ suc k
-    go true h = omega arith
-    go false h = omega (arith, length-append (digitsOf k (n / 10)) ((48 + n % 10) ∷ []))

@@ -14,8 +14,8 @@ use mir.Syntax.{w64}
 use mir.Val.{Fits, SFits, toZ, ofZ}
 use mir.ValLaws.{toZ-ofZ}
 use Rattle.line.specs.declared.Line.{Line}
-use Rattle.line.specs.Decimal.{decimalOf, signedOf}
-use Rattle.line.specs.Held.{putOf, puts}
+use Rattle.ascii.specs.Decimal.{decimalOf, signedOf}
+use Rattle.line.specs.Line.{putOf, puts}
 use Rattle.line.proofs.Puts.{first}
 
 -- -1 less a negative number is how far that is below -1

@@ -1,3 +1,1 @@
-pub mod Decimal
-pub mod Hex
-pub mod Held
+pub mod Line

@@ -2,13 +2,15 @@
 ghost use mathlib.Core.Path.{_≡_};
 ghost use mathlib.Core.List.{_++_, _∷_, []};
 ghost use lib.IntN.{natAbs};
-ghost use Rattle.line.specs.Decimal.{digitsOf, decimalOf, signedOf, spaced};
-ghost use Rattle.line.specs.Hex.{isHex, hexOf};
-ghost use Rattle.line.specs.Held.{holding, putOf, puts};
+ghost use Rattle.ascii.specs.Decimal.{digitsOf, decimalOf, signedOf, spaced};
+ghost use Rattle.line.specs.Line.{holding, putOf, puts};
 
-// A line: its bytes stand in the first len of 128 places, which are more than any answer takes.
+// How many bytes a line has room for: more than any answer takes.
+pub const ROOM: usize = 128;
+
+// A line: its bytes stand in the first len places.
 pub struct Line {
-    pub bytes: [u8; 128],
+    pub bytes: [u8; ROOM],
     pub len: usize,
 }
 
@@ -17,7 +19,7 @@ pub fn blank() -> Line
     ensures { λ r. ⌜ r ≡ holding [] ⌝ }
 {
     Line {
-        bytes: [0u8; 128],
+        bytes: [0u8; ROOM],
         len: 0,
     }
 }
@@ -27,7 +29,7 @@ pub fn put(l: Line, b: u8) -> Line
     ensures { λ r. ⌜ r ≡ putOf l b ⌝ }
 {
     let at = l.len;
-    if at < 128 {
+    if at < ROOM {
         let mut next = l;
         next.bytes[at] = b;
         next.len = at + 1;
@@ -112,25 +114,4 @@ pub fn two(l: Line, w: &[u8], a: u64, b: u64) -> Line
     ensures { λ r. ⌜ r ≡ puts l (now (w .entry) ++ spaced (decimalOf a) ++ spaced (decimalOf b)) ⌝ }
 {
     number(one(l, w, a), b)
-}
-
-// Whether a byte is a lower-case hex digit, and its value; 0 to 15 for any byte.
-pub fn is_hex(b: u8) -> bool
-    ensures { λ r. ⌜ r ≡ isHex b ⌝ }
-{
-    ((48 <= b) & (b <= 57)) | ((97 <= b) & (b <= 102))
-}
-
-pub fn hex_of(b: u8) -> u8
-    ensures { λ r. ⌜ r ≡ hexOf b ⌝ }
-{
-    if b < 48 {
-        0
-    } else if b <= 57 {
-        (b - 48) % 16
-    } else if b < 87 {
-        0
-    } else {
-        (b - 87) % 16
-    }
 }

@@ -14,7 +14,7 @@ use Rattle.rules.specs.declared.Stream.{Stream}
 use Rattle.rules.specs.Load.{urgent, blocksFor, blocks, blocking}
 use Rattle.rules.proofs.Stages.{blocks-for}
 use Rattle.rules.specs.Valid.{ValidStream}
-use Rattle.load_check.specs.Dues.{rowDue, dueAt, duesBelow, Sound}
+use Rattle.load_check.specs.Dues.{rowDue, dueAt, duesBelow, RowsFit}
 use Rattle.load_check.specs.Blocked.{blockingsOf}
 
 -- ---- blocking
@@ -45,7 +45,7 @@ row-fits c f z i h k =
     cond-le (leb f i) (c * ((i - f) / z + 1)) 281470681743360
     (le-trans (mul-le-mul {n₂ = 65535} {m₂ = 4294967296} h (omega (arith, div-le-self (i - f) z))) (lit≤ tt))
 
-pub dues-fit : (costs firsts cycles : List ℕ) (n i : ℕ) → Sound costs cycles n → i ≤ 4294967295 → duesBelow costs firsts cycles n i ≤ 18014123631575040
+pub dues-fit : (costs firsts cycles : List ℕ) (n i : ℕ) → RowsFit costs cycles n → i ≤ 4294967295 → duesBelow costs firsts cycles n i ≤ 18014123631575040
 unfolding duesBelow
 dues-fit costs firsts cycles n i s k =
     omega (

@@ -20,7 +20,7 @@ use Rattle.rules.specs.Streams.{tuplesOf, events, limit}
 use Rattle.rules.specs.Load.{due}
 use Rattle.rules.proofs.Stages.{due-by-cost}
 use Rattle.load_check.specs.declared.Rows.{Rows}
-use Rattle.load_check.specs.Dues.{rowDue, dueAt, duesBelow, rowsDue, tupleDue, streamDue, Sound, Grows, RowsOf}
+use Rattle.load_check.specs.Dues.{rowDue, dueAt, duesBelow, rowsDue, tupleDue, streamDue, RowsFit, Grows, RowsOf}
 
 -- ---- one row more
 
@@ -72,11 +72,11 @@ module _ (t : Rows) (c f z : ℕ) (costs : length (t .costs) ≡ 64) (firsts : l
             (all-below _ (t .count) (same-row i)),
       )
 
-  pub grows-row : Sound (t .costs) (t .cycles) (t .count) → c ≤ 65535 → 0 < z → Grows t 1 (rowDue c f z) (withRow t c f z)
+  pub grows-row : RowsFit (t .costs) (t .cycles) (t .count) → c ≤ 65535 → 0 < z → Grows t 1 (rowDue c f z) (withRow t c f z)
   grows-row s hc hz =
       record {
         few = omega arith;
-        sound = record {
+        fit = record {
           room = omega arith;
           cost = put-more (λ n. n ≤ 65535) (t .costs) (t .count) c (omega arith) (s .cost) hc;
           cycle = put-more (λ n. 0 < n) (t .cycles) (t .count) z (omega arith) (s .cycle) hz;
@@ -121,7 +121,7 @@ once-row c d a i h k =
     before f = simp (lt-leb (d + a) i (omega arith), lt-leb d i (omega arith))
 
 pub grows-as : (t : Rows) (n : ℕ) (f g : ℕ → ℕ) (r : Rows) → ((i : ℕ) → i ≤ 4294967295 → f i ≡ g i) → Grows t n f r → Grows t n g r
-grows-as t n f g r e w = record { few = w .few; sound = w .sound; adds = λ i h. omega (arith, w .adds i h, e i h) }
+grows-as t n f g r e w = record { few = w .few; fit = w .fit; adds = λ i h. omega (arith, w .adds i h, e i h) }
 
 -- ---- the tuples of a stream
 
@@ -132,9 +132,9 @@ placeDue c d i p = tupleDue c d (p .tuple) i
 unfoldable pub frontDue : ℕ → ℕ → List TuplePlace → ℕ → ℕ
 frontDue c d ps i = sum (placeDue c d i) ps
 
-pub front-start : (t : Rows) (c d : ℕ) → Sound (t .costs) (t .cycles) (t .count) → Grows t 0 (frontDue c d []) t
+pub front-start : (t : Rows) (c d : ℕ) → RowsFit (t .costs) (t .cycles) (t .count) → Grows t 0 (frontDue c d []) t
 unfolding frontDue
-front-start t c d s = record { few = omega arith; sound = s; adds = λ i h. omega (arith, sum-none (placeDue c d i)) }
+front-start t c d s = record { few = omega arith; fit = s; adds = λ i h. omega (arith, sum-none (placeDue c d i)) }
 
 pub front-more : (t r u : Rows) (c d : ℕ) (ps : List TuplePlace) (j : ℕ) (e : TuplePlace) → j < length ps
     → Grows t j (frontDue c d (take j ps)) r → Grows r 1 (tupleDue c d (getD ps j e .tuple)) u → Grows t (j + 1) (frontDue c d (take (j + 1) ps)) u
@@ -142,7 +142,7 @@ unfolding frontDue
 front-more t r u c d ps j e h a b =
     record {
       few = omega (arith, a .few, b .few);
-      sound = b .sound;
+      fit = b .fit;
       adds = λ i k. omega (arith, a .adds i k, b .adds i k, sum-take (placeDue c d i) ps j e h);
     }
 
@@ -174,7 +174,7 @@ pub front-end : (t r : Rows) (s : Stream) (j : ℕ) → j ≡ s .count → j ≤
 front-end t r s j e h a =
     record {
       few = omega (arith, a .few);
-      sound = a .sound;
+      fit = a .fit;
       adds = λ i k. omega (arith, a .adds i k, due-sum s i, ap (λ (n : ℕ). frontDue (s .cost) (s .deadline) (take n (s .tuples)) i) e);
     }
 
@@ -184,10 +184,10 @@ pub rows-start : (r : Rows) → r .count ≡ 0 → RowsOf [] r
 unfolding duesBelow sum
 rows-start r e =
     record {
-      sound = record { room = omega arith; cost = λ k h. absurd (let z : k < 0 = omega arith in omega arith); cycle = λ k h. absurd (let z : k < 0 = omega arith in omega arith) };
+      fit = record { room = omega arith; cost = λ k h. absurd (let z : k < 0 = omega arith in omega arith); cycle = λ k h. absurd (let z : k < 0 = omega arith in omega arith) };
       say = λ i h. ap (λ (n : ℕ). duesBelow (r .costs) (r .firsts) (r .cycles) n i) e;
     }
 
 pub rows-more : (r u : Rows) (ss : List Stream) (k : ℕ) (d : Stream) → k < length ss → RowsOf (take k ss) r → Grows r 4 (streamDue (getD ss k d)) u → RowsOf (take (k + 1) ss) u
 rows-more r u ss k d h a b =
-    record { sound = b .sound; say = λ i l. omega (arith, a .say i l, b .adds i l, sum-take (due i) ss k d h) }
+    record { fit = b .fit; say = λ i l. omega (arith, a .say i l, b .adds i l, sum-take (due i) ss k d h) }

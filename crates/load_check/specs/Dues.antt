@@ -36,7 +36,7 @@ abbrev pub streamDue : Stream → ℕ → ℕ
 streamDue s i = due i s
 
 -- the first n rows hold costs and cycles
-pub record Sound (costs cycles : List ℕ) (n : ℕ) : Type 0 where
+pub record RowsFit (costs cycles : List ℕ) (n : ℕ) : Type 0 where
   pub room : n ≤ 64
   pub cost : (k : ℕ) → k < n → getD costs k 0 ≤ 65535
   pub cycle : (k : ℕ) → k < n → 0 < getD cycles k 0
@@ -44,10 +44,10 @@ pub record Sound (costs cycles : List ℕ) (n : ℕ) : Type 0 where
 -- r has at most n rows more than t, which add f by every length of 32 bits
 pub record Grows (t : Rows) (n : ℕ) (f : ℕ → ℕ) (r : Rows) : Type 0 where
   pub few : r .count ≤ t .count + n
-  pub sound : Sound (r .costs) (r .cycles) (r .count)
+  pub fit : RowsFit (r .costs) (r .cycles) (r .count)
   pub adds : (i : ℕ) → i ≤ 4294967295 → rowsDue r i ≡ rowsDue t i + f i
 
 -- the rows say what is due of the streams
 pub record RowsOf (ss : List Stream) (r : Rows) : Type 0 where
-  pub sound : Sound (r .costs) (r .cycles) (r .count)
+  pub fit : RowsFit (r .costs) (r .cycles) (r .count)
   pub say : (i : ℕ) → i ≤ 4294967295 → rowsDue r i ≡ sum (due i) ss

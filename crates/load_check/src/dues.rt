@@ -3,7 +3,7 @@ ghost use mathlib.Core.Path.{_≡_};
 ghost use Prim.Native.Nat.{_≤_, _<_};
 ghost use Rattle.rules.specs.Valid.{Between, ValidCycle, ValidStream, ValidSet};
 ghost use Rattle.rules.specs.Streams.{offset, streamsOf};
-ghost use Rattle.load_check.specs.Dues.{rowDue, duesBelow, rowsDue, tupleDue, streamDue, Sound, Grows, RowsOf};
+ghost use Rattle.load_check.specs.Dues.{rowDue, duesBelow, rowsDue, tupleDue, streamDue, RowsFit, Grows, RowsOf};
 use crate::Rows;
 use crate::wide;
 use rules::Set;
@@ -27,7 +27,7 @@ fn no_rows() -> Rows
 }
 
 fn put_row(t: Rows, cost: u32, first: u32, cycle: u32) -> Rows
-    requires { ⌜ (t .count < 64) × (Sound (t .costs) (t .cycles) (t .count)) × (cost ≤ 65535) × (0 < cycle) ⌝ }
+    requires { ⌜ (t .count < 64) × (RowsFit (t .costs) (t .cycles) (t .count)) × (cost ≤ 65535) × (0 < cycle) ⌝ }
     ensures { λ r. ⌜ Grows t 1 (rowDue cost first cycle) r ⌝ }
 {
     let k = t.count;
@@ -41,7 +41,7 @@ fn put_row(t: Rows, cost: u32, first: u32, cycle: u32) -> Rows
 
 // A tuple of a stream is first due at deadline plus offset. Once is a cycle that no length of 32 bits completes.
 fn put_tuple(t: Rows, cost: u32, deadline: u32, tuple: Tuple) -> Rows
-    requires { ⌜ (t .count < 64) × (Sound (t .costs) (t .cycles) (t .count)) × (cost ≤ 65535) × (Between 1 deadline 200000) × (offset tuple ≤ 100000) × (ValidCycle tuple) ⌝ }
+    requires { ⌜ (t .count < 64) × (RowsFit (t .costs) (t .cycles) (t .count)) × (cost ≤ 65535) × (Between 1 deadline 200000) × (offset tuple ≤ 100000) × (ValidCycle tuple) ⌝ }
     ensures { λ r. ⌜ Grows t 1 (tupleDue cost deadline tuple) r ⌝ }
 {
     match tuple {
@@ -51,7 +51,7 @@ fn put_tuple(t: Rows, cost: u32, deadline: u32, tuple: Tuple) -> Rows
 }
 
 fn put_stream(t: Rows, s: Stream) -> Rows
-    requires { ⌜ (t .count ≤ 60) × (Sound (t .costs) (t .cycles) (t .count)) × (ValidStream s) ⌝ }
+    requires { ⌜ (t .count ≤ 60) × (RowsFit (t .costs) (t .cycles) (t .count)) × (ValidStream s) ⌝ }
     ensures { λ r. ⌜ Grows t 4 (streamDue s) r ⌝ }
 {
     let n = s.count;
@@ -104,7 +104,7 @@ pub(crate) fn dues_at(
     n: usize,
     i: u32,
 ) -> u64
-    requires { ⌜ Sound (now costs) (now cycles) n ⌝ }
+    requires { ⌜ RowsFit (now costs) (now cycles) n ⌝ }
     ensures { λ r. ⌜ r ≡ duesBelow (now (costs .entry)) (now (firsts .entry)) (now (cycles .entry)) n i ⌝ }
 {
     let mut acc: u64 = 0;
@@ -117,7 +117,7 @@ pub(crate) fn dues_at(
 }
 
 pub(crate) fn rows_due(t: Rows, i: u32) -> u64
-    requires { ⌜ Sound (t .costs) (t .cycles) (t .count) ⌝ }
+    requires { ⌜ RowsFit (t .costs) (t .cycles) (t .count) ⌝ }
     ensures { λ r. ⌜ r ≡ rowsDue t i ⌝ }
 {
     let costs = t.costs;

@@ -3,7 +3,7 @@ ghost use mathlib.Core.Path.{_≡_};
 ghost use Prim.Native.Nat.{_≤_};
 ghost use Rattle.rules.specs.Valid.{ValidSet};
 ghost use Rattle.rules.specs.Streams.{streamsOf};
-ghost use Rattle.load_check.specs.Dues.{Sound};
+ghost use Rattle.load_check.specs.Dues.{RowsFit};
 ghost use Rattle.load_check.specs.Lengths.{Spanned, Ranged};
 use crate::Rows;
 use crate::Tested;
@@ -20,7 +20,7 @@ fn late_at(i: u32, w: u64) -> Tested
 
 // The lengths from `from` up to `stop`, at all of which the blocking is `blocked`.
 fn test_span(t: Rows, blocked: u64, from: u32, stop: u32) -> Tested
-    requires { ⌜ (Sound (t .costs) (t .cycles) (t .count)) × (blocked ≤ 1048560) ⌝ }
+    requires { ⌜ (RowsFit (t .costs) (t .cycles) (t .count)) × (blocked ≤ 1048560) ⌝ }
     ensures { λ r. ⌜ Spanned t blocked from stop r ⌝ }
 {
     let n = t.count;

@@ -10,7 +10,7 @@ use lib.Seq.{paste, paste-zero, length-paste, take-paste, drop-paste, take-lengt
 use borrow.Author.Tests.{le-leb}
 use Rattle.laws.specs.Bits.{zeros}
 use Rattle.laws.proofs.Sums.{by-test}
-use Rattle.line.specs.Held.{holding}
+use Rattle.line.specs.Line.{holding}
 use Rattle.page.specs.Pages.{roomFor, printed, printedEnd, hasRoom, appended, endOf}
 use Rattle.page.proofs.Rooms.{room-for, room-is}
 

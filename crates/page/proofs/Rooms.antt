@@ -13,7 +13,7 @@ use borrow.Author.Tests.{le-leb, lt-leb, leb-true}
 use Rattle.laws.specs.Bits.{zeros}
 use Rattle.laws.proofs.Sums.{and-parts, and-no, by-test}
 use Rattle.line.specs.declared.Line.{Line}
-use Rattle.line.specs.Held.{holding}
+use Rattle.line.specs.Line.{holding}
 use Rattle.page.specs.Pages.{roomFor, hasRoom, appended, endOf}
 
 module _ (out : List ℕ) (at n : ℕ) where

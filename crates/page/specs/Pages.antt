@@ -7,6 +7,7 @@ use lib.ListN.{length}
 use lib.Seq.{paste}
 use lib.Dec.{leb}
 use Rattle.line.specs.declared.Line.{Line}
+use Rattle.line.specs.Line.{lineRoom}
 
 -- there is room for n bytes behind the first `at`
 unfoldable pub roomFor : List ℕ → ℕ → ℕ → Bool
@@ -20,9 +21,9 @@ printed out at w = cond (roomFor out at (length w)) (paste out at w (length w)) 
 unfoldable pub printedEnd : List ℕ → ℕ → List ℕ → ℕ
 printedEnd out at w = cond (roomFor out at (length w)) (at + length w) at
 
--- there is room for the line, which has at most 128 bytes
+-- there is room for the line, which is no longer than any
 unfoldable pub hasRoom : List ℕ → ℕ → Line → Bool
-hasRoom out at l = leb (l .len) 128 && roomFor out at (l .len)
+hasRoom out at l = leb (l .len) lineRoom && roomFor out at (l .len)
 
 -- the page with the line there, and where the line ends
 unfoldable pub appended : List ℕ → ℕ → Line → List ℕ

@@ -35,7 +35,7 @@ pub fn append(out: &mut [u8], at: usize, l: Line) -> usize
     ensures { λ r. ⌜ (r ≡ endOf (now (out .entry)) at l) × (now (out .exit) ≡ appended (now (out .entry)) at l) ⌝ }
 {
     let n = l.len;
-    if 128 < n {
+    if line::ROOM < n {
         return at;
     }
     if !has_room(out, at, n) {

@@ -1,18 +1,11 @@
--- The digit of a number below 16, and the byte of two digits.
+-- The byte of two digits.
 -- Assumes nothing.
 use Prim.Native.Nat.{ℕ, _+_, _-_, _*_, _%_, _≤_, _<_}
 use native.Mathlib.Omega.{arith}
 use mathlib.Core.Path.{_≡_, refl, sym, ap, _∙_}
 use mathlib.Core.Bool.{Bool, true, false, cond}
 use lib.Dec.{leb}
-use borrow.Author.Tests.{le-leb, lt-leb}
-use Rattle.line.specs.Hex.{hexOf, hexDigit}
-
-pub low : (n : ℕ) → n ≤ 9 → 48 + n ≡ hexDigit n
-low n h = rw (le-leb n 9 h)
-
-pub high : (n : ℕ) → 9 < n → 87 + n ≡ hexDigit n
-high n h = rw (lt-leb n 9 h)
+use Rattle.ascii.specs.Hex.{hexOf}
 
 either : (t : Bool) (a b : ℕ) → cond t (a % 16) (b % 16) % 16 ≡ cond t (a % 16) (b % 16)
 either true a b = omega arith

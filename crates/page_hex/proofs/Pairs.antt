@@ -8,7 +8,7 @@ use mathlib.Core.Path.{_≡_, refl, sym, ap, ap₂, _∙_}
 use mathlib.Core.List.{List, [], _∷_, _++_}
 use lib.ListN.{length, getD, take, set}
 use lib.Seq.{paste, paste-zero, length-paste, take-paste, take-length}
-use Rattle.line.specs.Hex.{hexOf, unhexed}
+use Rattle.ascii.specs.Hex.{hexOf, unhexed}
 use Rattle.page.proofs.Rooms.{copy-turn}
 use Rattle.page_hex.specs.Unhexed.{fitting, unhexedIn}
 

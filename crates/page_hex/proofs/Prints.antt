@@ -8,8 +8,8 @@ use mathlib.Core.List.{List, [], _∷_, _++_}
 use lib.ListN.{length, getD, take}
 use lib.Seq.{take-suc, take-all, length-take-le}
 use Rattle.line.specs.declared.Line.{Line}
-use Rattle.line.specs.Held.{holding, putOf, puts}
-use Rattle.line.specs.Hex.{hexDigit, hexed}
+use Rattle.line.specs.Line.{holding, putOf, puts}
+use Rattle.ascii.specs.Hex.{hexDigit, hexed}
 use Rattle.line.proofs.Puts.{holds}
 use Rattle.page.specs.Pages.{appended, endOf, printed, printedEnd}
 use Rattle.page.proofs.Rooms.{room-for, no-room}

@@ -4,7 +4,7 @@ use Prim.Native.Nat.{ℕ, min}
 use mathlib.Core.List.{List}
 use lib.ListN.{length}
 use lib.Seq.{paste}
-use Rattle.line.specs.Hex.{unhexed}
+use Rattle.ascii.specs.Hex.{unhexed}
 
 -- how many of the bytes that the digits stand for have a place in the buffer
 unfoldable pub fitting : List ℕ → List ℕ → ℕ

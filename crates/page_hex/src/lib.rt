@@ -2,25 +2,17 @@
 ghost use mathlib.Core.Path.{_≡_};
 ghost use mathlib.Core.List.{_∷_, []};
 ghost use Prim.Native.Nat.{_+_, _*_, _/_, _%_};
-ghost use Rattle.line.specs.Hex.{hexOf, hexDigit, hexed};
+ghost use Rattle.ascii.specs.Hex.{hexOf, hexDigit, hexed};
 ghost use Rattle.page.specs.Pages.{printed, printedEnd};
 ghost use Rattle.page_hex.specs.Unhexed.{fitting, unhexedIn};
-ghost use Rattle.line.specs.Held.{holding};
+ghost use Rattle.line.specs.Line.{holding};
 use line::Line;
-
-// The hex digit of a number, of which the low four bits count.
-pub fn digit(n: u8) -> u8
-    ensures { λ r. ⌜ r ≡ hexDigit (n % 16) ⌝ }
-{
-    let low = n % 16;
-    if low <= 9 { 48 + low } else { 87 + low }
-}
 
 // The byte of two digits.
 fn byte_of(a: u8, b: u8) -> u8
     ensures { λ r. ⌜ r ≡ hexOf a * 16 + hexOf b ⌝ }
 {
-    line::hex_of(a) % 16 * 16 + line::hex_of(b) % 16
+    ascii::hex_of(a) % 16 * 16 + ascii::hex_of(b) % 16
 }
 
 // The bytes that hex digits stand for, in the first places of a buffer, and how many they are. A buffer too short for all of them
@@ -43,7 +35,8 @@ pub fn unhex(digits: &[u8], bytes: &mut [u8]) -> usize
 fn pair(b: u8) -> Line
     ensures { λ r. ⌜ r ≡ holding (hexDigit (b / 16) ∷ hexDigit (b % 16) ∷ []) ⌝ }
 {
-    line::put(line::put(line::blank(), digit(b / 16)), digit(b % 16))
+    let high = line::put(line::blank(), ascii::hex_digit(b / 16));
+    line::put(high, ascii::hex_digit(b % 16))
 }
 
 // The digits of the bytes, behind the first `at` bytes of a page, and where they end; a page that has no room for all of them stays as

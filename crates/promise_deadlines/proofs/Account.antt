@@ -11,11 +11,11 @@ use lib.Dec.{T, leb, eqb, le→leb}
 use Rattle.laws.specs.Lists.{within, below, sum, count}
 use Rattle.laws.proofs.Sums.{sum-none}
 use Rattle.laws.proofs.Gates.{le-or-lt, eq-or-ne, both-pass, same-pass, cond-yes, ifle, ifle-yes, ifle-no, ifeq, ifeq-yes, ifeq-no, range-mono, range-bump, sum-last, sum-mid, sum-at, sum-scale, sum-zero, sum-member, Each, mem-here, each-nil, each-last, each-mid}
-use Rattle.promise_deadlines.specs.Model.{Model, inWindow, Keeps, due, blocked, demand, Fits, New, Choice, After, Run, start, post, unit, idle}
+use Rattle.promise_deadlines.specs.Model.{Model, inWindow, Keeps, due, blocked, demand, Fits, New, Choice, After, Reaches, start, post, unit, idle}
 use Rattle.promise_deadlines.proofs.Formed.{after-each, after-sum, started, started-same, Soon, Formed, formed}
 
 module _ (𝓜 : Model) where
-  open Model 𝓜 using (Msg, stream, task, deadline, rest, hold, Post, postStream, postClock, Departure, streams, tasks, cost, span, limit, cap, Urgent, blocking-urgent, live, task-in, held, urges)
+  open Model 𝓜 using (Msg, stream, task, deadline, rest, hold, Post, postStream, postClock, Departure, streams, tasks, cost, span, limit, cap, Urgent, blocking-urgent, live, task-in, capped, urges)
 
   -- ---- the account for a time D: it is kept while the clock is at most D
 
@@ -105,7 +105,7 @@ module _ (𝓜 : Model) where
             arith,
             debt-le D k m,
             ap (λ (n : ℕ). cap k (D - suc t) * n) (started-same 𝓜 k m q (omega arith)),
-            subst (λ (n : ℕ). hold m ≤ cap n (D - suc t)) q (held m (w .fine m i) (D - suc t) (omega (arith, late m i, soon m i))),
+            subst (λ (n : ℕ). hold m ≤ cap n (D - suc t)) q (capped m (w .fine m i) (D - suc t) (omega (arith, late m i, soon m i))),
           ))
           (λ (q : task m ≢ k). omega (arith, debt-other D k m q))
           (eq-or-ne (task m) k))
@@ -265,7 +265,7 @@ module _ (𝓜 : Model) where
 
   -- ---- the whole run
 
-  pub account : (D : ℕ) {t : ℕ} {l : List Msg} {h : List Post} {ds : List Departure} → Run 𝓜 t l h ds → t ≤ D → Account D t l h
+  pub account : (D : ℕ) {t : ℕ} {l : List Msg} {h : List Post} {ds : List Departure} → Reaches 𝓜 t l h ds → t ≤ D → Account D t l h
   account D start le = record {
     z = 0;
     b = λ k. 0;
@@ -302,7 +302,7 @@ module _ (𝓜 : Model) where
       (eq-or-ne (a .b k) 0))
 
   -- no message is pending at its deadline or after it
-  pub on-time : Fits 𝓜 → {t : ℕ} {l : List Msg} {h : List Post} {ds : List Departure} → Run 𝓜 t l h ds → Keeps 𝓜 h → Each (λ m. t < deadline m) l
+  pub on-time : Fits 𝓜 → {t : ℕ} {l : List Msg} {h : List Post} {ds : List Departure} → Reaches 𝓜 t l h ds → Keeps 𝓜 h → Each (λ m. t < deadline m) l
   unfolding demand
   on-time fits {t} {l} {h} run keeps m i = ⊎-elim
       (λ (late : deadline m ≤ t). absurd (omega (arith, a .balance, a .past, work-in t m late, sum-member (work t) i, live m (formed 𝓜 run .fine m i), fits (t - a .z), supply-due t (a .z) h keeps, debts-blocked a)))

@@ -8,7 +8,7 @@ use native.Mathlib.Omega.{arith}
 use Rattle.laws.specs.Lists.{sum}
 use Rattle.laws.proofs.Sums.{sum-none}
 use Rattle.laws.proofs.Gates.{eq-or-ne, ifle, ifle-yes, ifle-no, ifeq, ifeq-yes, ifeq-no, sum-one, sum-last, sum-mid, sum-at, sum-zero, Each, mem-here, each-nil, each-one, each-last, each-mid}
-use Rattle.promise_deadlines.specs.Model.{Model, Choice, Stays, After, leaves, stays, Run, start, post, unit, idle}
+use Rattle.promise_deadlines.specs.Model.{Model, Choice, Stays, After, leaves, stays, Reaches, start, post, unit, idle}
 
 module _ (𝓜 : Model) where
   open Model 𝓜 using (Msg, stream, task, deadline, hold, Fine, Post, Departure, span)
@@ -96,7 +96,7 @@ module _ (𝓜 : Model) where
   empty-formed : (t : ℕ) → Formed t []
   empty-formed t = record { fine = each-nil Fine; soon = each-nil (Soon t); one = λ k. omega (arith, sum-none (started k)) }
 
-  pub formed : {t : ℕ} {l : List Msg} {h : List Post} {ds : List Departure} → Run 𝓜 t l h ds → Formed t l
+  pub formed : {t : ℕ} {l : List Msg} {h : List Post} {ds : List Departure} → Reaches 𝓜 t l h ds → Formed t l
   formed start = empty-formed 0
   formed (post {t = t} {l = l} run p m n) =
       let w : Formed t l = formed run in

@@ -10,7 +10,7 @@ use lib.ListN.{length, length-append}
 use Rattle.laws.specs.Lists.{sum, count}
 use Rattle.laws.proofs.Sums.{sum-none, sum-append}
 use Rattle.laws.proofs.Gates.{le-or-lt, eq-or-ne, ifle, ifle-yes, ifle-no, ifeq, ifeq-yes, ifeq-no, sum-one, sum-last, sum-mid, sum-at, Each, mem-here, mem-mid, each-nil, each-last}
-use Rattle.promise_deadlines.specs.Model.{Model, inWindow, Keeps, Fits, Of, New, After, leaves, stays, Run, start, post, unit, idle, Pending, Left}
+use Rattle.promise_deadlines.specs.Model.{Model, inWindow, Keeps, Fits, Of, New, After, leaves, stays, Reaches, start, post, unit, idle, Pending, Left}
 use Rattle.promise_deadlines.proofs.Account.{on-time}
 
 module _ (𝓜 : Model) where
@@ -67,7 +67,7 @@ module _ (𝓜 : Model) where
   keep-pending l m ds p (inl w) = inl (record { who = w .who; who-in = Memᴰ·append-left (m ∷ []) (w .who-in); of = w .of })
   keep-pending l m ds p (inr g) = inr g
 
-  pub pending-or-left : Fits 𝓜 → {t : ℕ} {l : List Msg} {h : List Post} {ds : List Departure} → Run 𝓜 t l h ds → Keeps 𝓜 h → Each (Somewhere l ds) h
+  pub pending-or-left : Fits 𝓜 → {t : ℕ} {l : List Msg} {h : List Post} {ds : List Departure} → Reaches 𝓜 t l h ds → Keeps 𝓜 h → Each (Somewhere l ds) h
   pending-or-left fits start keeps = each-nil (Somewhere [] [])
   pending-or-left fits (post {l = l} {h = h} {ds = ds} run q m n) keeps =
       let below : Each (Somewhere l ds) h = pending-or-left fits run (keeps-before h (q ∷ []) keeps) in
@@ -77,7 +77,7 @@ module _ (𝓜 : Model) where
   pending-or-left fits (idle run) keeps = λ p i. pending-or-left fits run keeps p i
 
   -- DEMAND 3, over any kind of message: when the clock reaches the deadline of an accepted message, it has left
-  pub left-in-time : Fits 𝓜 → {t : ℕ} {l : List Msg} {h : List Post} {ds : List Departure} → Run 𝓜 t l h ds → Keeps 𝓜 h
+  pub left-in-time : Fits 𝓜 → {t : ℕ} {l : List Msg} {h : List Post} {ds : List Departure} → Reaches 𝓜 t l h ds → Keeps 𝓜 h
       → (p : Post) → List·Memᴰ p h → postClock p + span (postStream p) ≤ t → Left 𝓜 ds p
   left-in-time fits run keeps p i reached = ⊎-elim
       (λ (w : Pending 𝓜 _ p). absurd (omega (arith, on-time 𝓜 fits run keeps (w .who) (w .who-in), w .of .until)))
@@ -114,7 +114,7 @@ module _ (𝓜 : Model) where
   unfolding named
   named-new n v = ap (λ (k : ℕ). ifeq k n 1) (v .message .named ∙ v .next)
 
-  pub once : {t : ℕ} {l : List Msg} {h : List Post} {ds : List Departure} → Run 𝓜 t l h ds → (n : ℕ) → sum (named n) l + sum (gone n) ds ≡ ifle (suc n) (length h) 1
+  pub once : {t : ℕ} {l : List Msg} {h : List Post} {ds : List Departure} → Reaches 𝓜 t l h ds → (n : ℕ) → sum (named n) l + sum (gone n) ds ≡ ifle (suc n) (length h) 1
   once start n = omega (arith, sum-none (named n), sum-none (gone n), ifle-no (suc n) 0 1 (omega arith))
   once (post {l = l} {h = h} run q m v) n =
       omega (arith, once run n, sum-last (named n) l m, named-new n v, ap (λ (k : ℕ). ifle (suc n) k 1) (longer h q), one-more n (length h))
@@ -123,7 +123,7 @@ module _ (𝓜 : Model) where
   once (idle run) n = once run n
 
   -- no message departs twice
-  pub departs-once : {t : ℕ} {l : List Msg} {h : List Post} {ds : List Departure} → Run 𝓜 t l h ds → (n : ℕ) → sum (gone n) ds ≤ 1
+  pub departs-once : {t : ℕ} {l : List Msg} {h : List Post} {ds : List Departure} → Reaches 𝓜 t l h ds → (n : ℕ) → sum (gone n) ds ≤ 1
   departs-once {h = h} run n = ⊎-elim
       (λ (p : suc n ≤ length h). omega (arith, once run n, ifle-yes (suc n) (length h) 1 p))
       (λ (p : length h < suc n). omega (arith, once run n, ifle-no (suc n) (length h) 1 p))

@@ -1,9 +1,9 @@
--- Any machine whose calls make the steps of a `Run`: whatever its states hold besides, whichever posts it refuses, however it breaks ties and counts time.
+-- Any machine whose calls make the steps of a `Reaches`: whatever its states hold besides, whichever posts it refuses, however it breaks ties and counts time.
 -- Assumes nothing.
 use Prim.Native.Nat.{ℕ, _+_, _≤_, _<_}
 use mathlib.Core.List.{List, [], _∷_, _++_, List·Memᴰ}
 use mathlib.Core.Path.{_≡_}
-use Rattle.promise_deadlines.specs.Model.{Model, Run, Left}
+use Rattle.promise_deadlines.specs.Model.{Model, Reaches, Left}
 
 -- a moment of a run: what there is to see of it
 pub record Moment (𝓜 : Model) : Type 0 where
@@ -16,7 +16,7 @@ abbrev pub outset : (𝓜 : Model) → Moment 𝓜
 outset 𝓜 = record { clock = 0; pending = []; posts = []; departures = [] }
 
 abbrev pub Reached : (𝓜 : Model) → Moment 𝓜 → Type 0
-Reached 𝓜 m = Run 𝓜 (m .clock) (m .pending) (m .posts) (m .departures)
+Reached 𝓜 m = Reaches 𝓜 (m .clock) (m .pending) (m .posts) (m .departures)
 
 -- no message is pending at its deadline or after it
 abbrev pub NoneDue : (𝓜 : Model) → Moment 𝓜 → Type 0

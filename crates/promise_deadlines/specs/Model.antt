@@ -46,7 +46,7 @@ pub record Model : Type 1 where
   -- what the argument uses of a message that keeps the rules
   pub live : (m : Msg) → Fine m → 0 < rest m
   pub task-in : (m : Msg) → Fine m → task m < tasks
-  pub held : (m : Msg) → Fine m → (i : ℕ) → i < span (stream m) → hold m ≤ cap (task m) i
+  pub capped : (m : Msg) → Fine m → (i : ℕ) → i < span (stream m) → hold m ≤ cap (task m) i
   pub urges : (m : Msg) → Fine m → (i : ℕ) → span (stream m) ≤ i → Urgent (task m) i
 
 module _ (𝓜 : Model) where
@@ -127,12 +127,12 @@ module _ (𝓜 : Model) where
     stays : {y : Msg} → Stays x y → After t x (y ∷ []) []
 
   -- the clock, the pending messages in posting order, the accepted posts and the departures that calls from a start can leave. A refused call changes nothing.
-  pub data Run : ℕ → List Msg → List Post → List Departure → Type 0 where
-    start : Run 0 [] [] []
-    post : {t : ℕ} {l : List Msg} {h : List Post} {ds : List Departure} → Run t l h ds → (p : Post) (m : Msg) → New t h p m → Run t (l ++ (m ∷ [])) (h ++ (p ∷ [])) ds
+  pub data Reaches : ℕ → List Msg → List Post → List Departure → Type 0 where
+    start : Reaches 0 [] [] []
+    post : {t : ℕ} {l : List Msg} {h : List Post} {ds : List Departure} → Reaches t l h ds → (p : Post) (m : Msg) → New t h p m → Reaches t (l ++ (m ∷ [])) (h ++ (p ∷ [])) ds
     unit : {t : ℕ} {h : List Post} {ds : List Departure} (xs : List Msg) (x : Msg) (ys r : List Msg) (e : List Departure)
-        → Run t (xs ++ (x ∷ ys)) h ds → Choice (xs ++ (x ∷ ys)) x → After t x r e → Run (suc t) (xs ++ (r ++ ys)) h (ds ++ e)
-    idle : {t : ℕ} {h : List Post} {ds : List Departure} → Run t [] h ds → Run (suc t) [] h ds
+        → Reaches t (xs ++ (x ∷ ys)) h ds → Choice (xs ++ (x ∷ ys)) x → After t x r e → Reaches (suc t) (xs ++ (r ++ ys)) h (ds ++ e)
+    idle : {t : ℕ} {h : List Post} {ds : List Departure} → Reaches t [] h ds → Reaches (suc t) [] h ds
 
   -- ---- what is promised
 

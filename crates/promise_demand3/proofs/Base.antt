@@ -12,7 +12,8 @@ use Rattle.laws.proofs.Gates.{le-or-lt, both-pass, same-pass, cond-yes, cond-no
 use Rattle.rules.specs.declared.Set.{Set}
 use Rattle.rules.specs.Streams.{Placed, noStream, streamsOf, streamAt, limit, valid}
 use Rattle.rules.specs.States.{taskOf, costOf, spanOf}
-use Rattle.rules.specs.Load.{due, urgent, held, blocking, demand}
+use Rattle.rules.specs.Load.{costIn, due, has, urgent, blocksFor, blocks, blocking, demand}
+use Rattle.rules.proofs.Stages.{has-task, blocks-for}
 use Rattle.rules.specs.Runs.{Accepted, Departure, KeepsLimits}
 use Rattle.promise_deadlines.specs.Model.{Model, Keeps, Fits, inWindow, due as modelDue, demand as modelDemand}
 use Rattle.promise_demand3.specs.Kind.{Named, Fine, restOf, holdOf, capOf, Urged, Tells}
@@ -42,22 +43,23 @@ module _ (S : Set) where
 
   module _ (placed : Placed S) (ok : valid S ≡ true) where
     -- a started message is one of those that the load check counts as blocking
-    pub held-of : (m : Named) → Fine S m → (i : ℕ) → i < spanOf S (m .message) → holdOf S m ≤ capOf S (taskOf S (m .message)) i
-    held-of m f i h = omega (
+    pub capped-of : (m : Named) → Fine S m → (i : ℕ) → i < spanOf S (m .message) → holdOf S m ≤ capOf S (taskOf S (m .message)) i
+    capped-of m f i h = omega (
       arith,
       hold-le m,
-      top-member (held (taskOf S (m .message)) i) (stream-member S placed ok (m .message .stream) (f .stream-in)),
-      cond-yes (eqb (taskOf S (m .message)) (taskOf S (m .message))) (cond (leb (spanOf S (m .message)) i) 0 (costOf S (m .message) - 1)) 0 (same-pass (taskOf S (m .message)) (taskOf S (m .message)) refl),
-      cond-no (leb (spanOf S (m .message)) i) 0 (costOf S (m .message) - 1) (λ t. let q : spanOf S (m .message) ≤ i = leb→le (spanOf S (m .message)) i t in omega arith),
+      top-member (blocks (taskOf S (m .message)) i) (stream-member S placed ok (m .message .stream) (f .stream-in)),
+      blocks-for (taskOf S (m .message)) (streamAt S (m .message .stream)),
+      cond-yes (eqb (taskOf S (m .message)) (taskOf S (m .message))) (costOf S (m .message) - 1) 0 (same-pass (taskOf S (m .message)) (taskOf S (m .message)) refl),
+      cond-no (leb (spanOf S (m .message)) i) 0 (blocksFor (taskOf S (m .message)) (streamAt S (m .message .stream))) (λ t. let q : spanOf S (m .message) ≤ i = leb→le (spanOf S (m .message)) i t in omega arith),
     )
 
     pub urges-of : (m : Named) → Fine S m → (i : ℕ) → spanOf S (m .message) ≤ i → Urged S (taskOf S (m .message)) i
     urges-of m f i h = any-member (urgent (taskOf S (m .message)) i) (stream-member S placed ok (m .message .stream) (f .stream-in))
-        (both-pass (eqb (taskOf S (m .message)) (taskOf S (m .message))) (leb (spanOf S (m .message)) i) (same-pass (taskOf S (m .message)) (taskOf S (m .message)) refl) (le→leb (spanOf S (m .message)) i h))
+        (both-pass (has (taskOf S (m .message)) (streamAt S (m .message .stream))) (leb (spanOf S (m .message)) i) (rw (has-task (taskOf S (m .message)) (streamAt S (m .message .stream))) (same-pass (taskOf S (m .message)) (taskOf S (m .message)) refl)) (le→leb (spanOf S (m .message)) i h))
 
     pub blocking-of : (t i : ℕ) → Urged S t i → capOf S t i ≤ blocking (streamsOf S) i t
     unfolding blocking
-    blocking-of t i u = omega (arith, cond-yes (any (urgent t i) (streamsOf S)) (top (held t i) (streamsOf S)) 0 u)
+    blocking-of t i u = omega (arith, cond-yes (any (urgent t i) (streamsOf S)) (top (blocks t i) (streamsOf S)) 0 u)
 
     abbrev pub base : Model
     base = record {
@@ -79,7 +81,7 @@ module _ (S : Set) where
       Tells = Tells S;
       streams = S .count;
       tasks = 16;
-      cost = λ k. streamAt S k .cost;
+      cost = λ k. costIn (streamAt S k);
       span = λ k. streamAt S k .deadline;
       limit = λ k. limit (streamAt S k);
       cap = capOf S;
@@ -88,7 +90,7 @@ module _ (S : Set) where
       blocking-urgent = blocking-of;
       live = λ m f. omega (arith, f .used-in);
       task-in = λ m f. omega (arith, stream-valid S placed ok (m .message .stream) (f .stream-in) .task);
-      held = held-of;
+      capped = capped-of;
       urges = urges-of;
     }
 

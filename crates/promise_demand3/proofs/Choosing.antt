@@ -29,7 +29,7 @@ module _ (X : Set) (l : List Message) where
       let m = deadline-met X l (taskOf X (at l j)) (omega (arith, deadline-le X l (taskOf X (at l j)) j h refl)) in
       record { who = m .0; inside = m .1; his = m .2; that = m .3; least = λ i q e. deadline-le X l (taskOf X (at l j)) i q e }
 
-  pub chosen-of : Each (λ m. m .deadline < never) l → (k : ℕ) → Served X l k → Chosen (at l k)
+  pub chosen-of : Each (λ m. m .deadline < never) l → {turn : ℕ → ℕ} (k : ℕ) → Served turn X l k → Chosen (at l k)
   chosen-of soon k s = record {
     first = at l (s .own .who);
     first-in = mem-getD l (s .own .who) noMessage (s .own .inside);

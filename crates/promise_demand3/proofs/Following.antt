@@ -5,6 +5,7 @@ use mathlib.Core.Bool.{Bool, true}
 use mathlib.Core.List.{List, [], _++_}
 use mathlib.Core.Path.{_≡_, refl, sym, ap, subst, _∙_}
 use native.Mathlib.Numerals.{add-one}
+use native.Mathlib.Omega.{arith}
 use lib.ListN.{take}
 use Rattle.rules.specs.declared.Set.{Set}
 use Rattle.rules.specs.declared.StartResult.{StartResult}
@@ -12,45 +13,47 @@ use Rattle.rules.specs.declared.StartAnswer.the-variants.{Started}
 use Rattle.rules.specs.declared.UnitResult.{UnitResult}
 use Rattle.rules.specs.Streams.{Placed, valid}
 use Rattle.rules.specs.Steps.{fresh, startOf, postOf, unitOf, ticked}
-use Rattle.rules.specs.Runs.{Call, posts, units, finished, cut, Run, afterStaying, afterUnit, stepOf, begin}
-use Rattle.promise_deadlines.specs.Model.{idle, Run as Reaches}
+use Rattle.rules.specs.declared.Call.{Call}
+use Rattle.rules.specs.declared.Call.the-variants.{Posts, Units}
+use Rattle.rules.specs.Runs.{finished, cut, Run, accepted, departures, afterMoving, afterUnit, stepOf, begin, acceptedOf, departuresOf}
+use Rattle.promise_deadlines.specs.Model.{idle, Reaches}
 use Rattle.promise_deadlines.specs.Machine.{Moment, outset, Reached, Following, Lawful}
 use Rattle.promise_steps.specs.Formed.{Formed, StartGives, PostKeeps, UnitKeeps}
 use Rattle.promise_steps.proofs.Cases.{post-case, UnitCase, unit-case, stops, idles, finishes, cuts, runs}
 use Rattle.promise_steps.proofs.Kept.{post-keeps, unit-keeps}
-use Rattle.promise_steps.proofs.Runs.{start-gives}
+use Rattle.promise_steps.proofs.Runs.{start-gives, begin-time}
 use Rattle.promise_demand3.specs.Kind.{Named, paired, pendingOf}
 use Rattle.promise_demand3.proofs.Pairing.{paired-none}
 use Rattle.promise_demand3.proofs.Base.{base}
-use Rattle.promise_demand3.proofs.Moments.{Good, momentOf, Sound, Stepped, no-post}
+use Rattle.promise_demand3.proofs.Moments.{Good, momentOf, Reachable, Stepped, no-post}
 use Rattle.promise_demand3.proofs.Posting.{post-step}
 use Rattle.promise_demand3.proofs.Serving.{leave-step, cut-cost, not-cut, stay-step}
 
 module _ (S : Set) (placed : Placed S) (ok : valid S ≡ true) where
   -- ---- a unit
 
-  idle-step : (r : Run) → Good S placed ok r → Sound S placed ok r → r .state .count ≡ 0 → Formed (ticked (r .state)) → Stepped S placed ok r (afterStaying r (ticked (r .state)))
-  idle-step r g run e f = no-post S placed ok r (afterStaying r (ticked (r .state))) refl
-      (record { set-is = g .set-is; formed = f; numbered = g .numbered })
-      (subst (λ (q : List Named). Reaches (base S placed ok) (r .state .clock + 1) q (r .accepted) (r .departures)) (sym nothing)
-      (rw add-one (idle (subst (λ (q : List Named). Reaches (base S placed ok) (r .state .clock) q (r .accepted) (r .departures)) nothing run))))
+  idle-step : (r : Run) → Good S placed ok r → Reachable S placed ok r → r .state .count ≡ 0 → Formed (ticked (r .state)) → Stepped S placed ok r (afterMoving r (ticked (r .state)))
+  idle-step r g run e f = no-post S placed ok r (afterMoving r (ticked (r .state))) refl
+      (record { set-is = g .set-is; formed = f; numbered = g .numbered; timed = omega (arith, g .timed) })
+      (subst (λ (q : List Named). Reaches (base S placed ok) (r .time + 1) q (accepted r) (departures r)) (sym nothing)
+      (rw add-one (idle (subst (λ (q : List Named). Reaches (base S placed ok) (r .time) q (accepted r) (departures r)) nothing run))))
     where
       nothing : pendingOf r ≡ []
       nothing = ap (λ (n : ℕ). paired (r .names) (take n (r .state .messages))) e ∙ paired-none (r .names)
 
-  unit-step : (r : Run) (done : Bool) → Good S placed ok r → Sound S placed ok r → (u : UnitResult) → Formed (u .state) → UnitCase (r .state) done u → Stepped S placed ok r (afterUnit r (u .state) (u .answer))
+  unit-step : (r : Run) (done : Bool) → Good S placed ok r → Reachable S placed ok r → (u : UnitResult) → Formed (u .state) → UnitCase (r .state) done u → Stepped S placed ok r (afterUnit r (u .state) (u .answer))
   unit-step r done g run u f (stops why) = no-post S placed ok r r refl g run
   unit-step r done g run u f (idles e h) = idle-step r g run e f
-  unit-step r done g run u f (finishes v) = leave-step S placed ok r g run v finished tt f
-  unit-step r done g run u f (cuts v e) = leave-step S placed ok r g run v cut (cut-cost S placed ok r g run v e) f
+  unit-step r done g run u f (finishes v) = leave-step S placed ok r g run v finished _ tt f
+  unit-step r done g run u f (cuts v e) = leave-step S placed ok r g run v cut _ (cut-cost S placed ok r g run v e) f
   unit-step r done g run u f (runs v e) = stay-step S placed ok r g run v (not-cut S placed ok r g run v e) f
 
   -- ---- every call
 
-  call-step : (r : Run) (c : Call) → Good S placed ok r → Sound S placed ok r → Stepped S placed ok r (stepOf r c)
+  call-step : (r : Run) (c : Call) → Good S placed ok r → Reachable S placed ok r → Stepped S placed ok r (stepOf r c)
   unfolding stepOf PostKeeps UnitKeeps
-  call-step r (posts k) g run = post-step S placed ok r k g run (postOf (r .state) k) (post-keeps (r .state) k (g .formed)) (post-case (r .state) k)
-  call-step r (units done) g run = unit-step r done g run (unitOf (r .state) done) (unit-keeps (r .state) done (g .formed)) (unit-case (r .state) done)
+  call-step r (Posts k) g run = post-step S placed ok r k g run (postOf (r .state) k) (post-keeps (r .state) k (g .formed)) (post-case (r .state) k)
+  call-step r (Units done) g run = unit-step r done g run (unitOf (r .state) done) (unit-keeps (r .state) done (g .formed)) (unit-case (r .state) done)
 
   -- ---- the start
 
@@ -65,10 +68,10 @@ module _ (S : Set) (placed : Placed S) (ok : valid S ≡ true) where
     pub seen : m ≡ momentOf S placed ok r
 
   pub begin-shows : Shows (begin S) (outset (base S placed ok))
-  unfolding paired begin StartGives
+  unfolding paired begin StartGives acceptedOf departuresOf
   begin-shows = record {
-    good = record { set-is = ap (λ (q : StartResult). q .state .set) start-is; formed = start-gives S placed; numbered = ap (λ (q : StartResult). q .state .count) (sym start-is) };
-    seen = ap (λ (q : StartResult). momentOf S placed ok (record { state = q .state; names = []; accepted = []; departures = [] })) (sym start-is);
+    good = record { set-is = ap (λ (q : StartResult). q .state .set) start-is; formed = start-gives S placed; numbered = ap (λ (q : StartResult). q .state .count) (sym start-is); timed = begin-time S };
+    seen = ap (λ (q : StartResult). momentOf S placed ok (record { state = q .state; time = 0; names = []; events = [] })) (sym start-is);
   }
 
   pub follow : (r : Run) (c : Call) (m : Moment (base S placed ok)) → Reached (base S placed ok) m → Shows r m → Following (base S placed ok) Shows m (stepOf r c)
@@ -78,7 +81,7 @@ module _ (S : Set) (placed : Placed S) (ok : valid S ≡ true) where
         to = momentOf S placed ok (stepOf r c);
         shown = record { good = next .good; seen = refl };
         next = record {
-          reached = next .sound;
+          reached = next .reachable;
           more = next .more;
           grown = next .grown ∙ ap (λ (q : Moment (base S placed ok)). q .posts ++ next .more) (sym (shown .seen));
         };

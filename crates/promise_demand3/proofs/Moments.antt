@@ -7,7 +7,7 @@ use lib.ListN.{length}
 use Rattle.rules.specs.declared.Set.{Set}
 use Rattle.rules.specs.Streams.{Placed, valid}
 use Rattle.rules.specs.States.{pending}
-use Rattle.rules.specs.Runs.{Accepted, Run}
+use Rattle.rules.specs.Runs.{Accepted, Run, accepted, departures}
 use Rattle.state_formed.proofs.WellFormed.{well-formed}
 use Rattle.promise_deadlines.specs.Machine.{Moment, Reached}
 use Rattle.promise_steps.specs.Formed.{Formed}
@@ -16,11 +16,12 @@ use Rattle.promise_demand3.specs.Kind.{pendingOf}
 use Rattle.promise_demand3.proofs.Base.{base}
 
 module _ (S : Set) (placed : Placed S) (ok : valid S ≡ true) where
-  -- the state is one of S and well formed, and each pending message has a number
+  -- the state is one of S and well formed, each pending message has a number, and the time is the clock
   pub record Good (r : Run) : Type 0 where
     pub set-is : r .state .set ≡ S
     pub formed : Formed (r .state)
     pub numbered : length (r .names) ≡ r .state .count
+    pub timed : r .time ≡ r .state .clock
 
   pub few : (r : Run) → Good r → length (pending (r .state)) ≡ r .state .count
   few r g = pending-length (r .state) (g .formed .housed .places) (well-formed (r .state) (g .formed .formed) .few)
@@ -30,19 +31,19 @@ module _ (S : Set) (placed : Placed S) (ok : valid S ≡ true) where
 
   -- what there is to see of a run
   abbrev pub momentOf : Run → Moment (base S placed ok)
-  momentOf r = record { clock = r .state .clock; pending = pendingOf r; posts = r .accepted; departures = r .departures }
+  momentOf r = record { clock = r .time; pending = pendingOf r; posts = accepted r; departures = departures r }
 
   -- the run r is one of the argument
-  abbrev pub Sound : Run → Type 0
-  Sound r = Reached (base S placed ok) (momentOf r)
+  abbrev pub Reachable : Run → Type 0
+  Reachable r = Reached (base S placed ok) (momentOf r)
 
   -- r′ follows on r
   pub record Stepped (r r′ : Run) : Type 0 where
     pub good : Good r′
-    pub sound : Sound r′
+    pub reachable : Reachable r′
     pub more : List Accepted
-    pub grown : r′ .accepted ≡ r .accepted ++ more
+    pub grown : accepted r′ ≡ accepted r ++ more
 
   -- a call that accepts no post
-  pub no-post : (r r′ : Run) → r′ .accepted ≡ r .accepted → Good r′ → Sound r′ → Stepped r r′
-  no-post r r′ e g s = record { good = g; sound = s; more = []; grown = rw append-nil e }
+  pub no-post : (r r′ : Run) → accepted r′ ≡ accepted r → Good r′ → Reachable r′ → Stepped r r′
+  no-post r r′ e g s = record { good = g; reachable = s; more = []; grown = rw append-nil e }

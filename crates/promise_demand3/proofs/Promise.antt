@@ -1,34 +1,34 @@
 -- Demand 3, and what follows from it. Assumes nothing.
 use Prim.Native.Nat.{ℕ, zero, suc, _+_, _-_, _≤_, _<_}
 use mathlib.Core.Bool.{Bool, true, false, cond}
-use mathlib.Core.List.{List, [], _∷_, _++_, List·Memᴰ, append-nil}
+use mathlib.Core.List.{List, [], _∷_, _++_, List·Memᴰ, List·Memᴰ·head, List·Memᴰ·tail, append-nil, append-assoc}
 use mathlib.Core.Path.{_≡_, refl, sym, ap, subst, _∙_}
 use native.Mathlib.Omega.{arith}
+use borrow.Author.Tests.{lt-ltb}
 use lib.ListN.{length, getD}
 use lib.Dec.{T, ltb, eqb, le→leb, ltb→lt}
 use lib.IntN.{pos, negsuc}
 use lib.Signed.{_≤ℤ_, leZ-yes}
-use Rattle.laws.specs.Lists.{sum, count}
+use Rattle.laws.specs.Lists.{any, sum, count}
 use Rattle.laws.proofs.Gates.{ifle, ifeq, Each, mem-getD}
 use Rattle.rules.specs.declared.Set.{Set}
 use Rattle.rules.specs.declared.Stream.{Stream}
 use Rattle.rules.specs.declared.Message.{Message}
 use Rattle.rules.specs.declared.State.{State}
-use Rattle.rules.specs.declared.StartResult.{StartResult}
-use Rattle.rules.specs.declared.PostResult.{PostResult}
 use Rattle.rules.specs.declared.UnitResult.{UnitResult}
 use Rattle.rules.specs.declared.Verdict.the-variants.{Accept}
-use Rattle.rules.specs.Streams.{Placed, streamsOf, streamAt, valid}
+use Rattle.rules.specs.Streams.{Placed, streamsOf, valid}
 use Rattle.rules.specs.States.{noMessage, pending}
 use Rattle.rules.specs.Steps.{placeOf, laxityOf, unitOf}
 use Rattle.rules.specs.Load.{demand, VerdictIf, VerdictOf}
-use Rattle.rules.specs.Runs.{Call, posts, units, How, finished, cut, Accepted, Departure, Run, afterPost, afterUnit, stepOf, begin, runFrom, runOf, KeepsLimits, dueAt, AtCost, LeftInTime, Demand3}
+use Rattle.rules.specs.declared.Call.{Call}
+use Rattle.rules.specs.Runs.{Departure, Run, accepted, departures, stepOf, begin, runFrom, runOf, KeepsLimits, LeftInTime, Demand3, overdue, missedNow, missedFrom, missedIn}
 use Rattle.promise_deadlines.specs.Model.{Keeps, Fits, Left}
 use Rattle.promise_deadlines.specs.Machine.{Moment, outset, Reached, NoneDue, AllLeft, runs, Following}
 use Rattle.promise_deadlines.proofs.Identity.{once, named, gone}
 use Rattle.promise_deadlines.proofs.Machines.{moment, later, never-due as never-due-at, all-left}
-use Rattle.promise_demand3.specs.Kind.{paired, pendingOf, CutAtCost}
-use Rattle.promise_demand3.specs.Statements.{NeverDue, NotLate, NoLateAnswer, EachOnce, leftAs, waitsAs, CodeRun, started, posted, ran, Demand3OfCode}
+use Rattle.promise_demand3.specs.Kind.{paired, pendingOf}
+use Rattle.promise_demand3.specs.Statements.{NeverDue, NeverMissed, NotLate, NoLateAnswer, EachOnce, leftAs, waitsAs}
 use Rattle.promise_steps.proofs.Cases.{Serving, chosenOf, UnitCase, stops, idles, finishes, cuts, runs as stays, unit-case}
 use Rattle.promise_demand3.proofs.Pairing.{name, pair-in, Has}
 use Rattle.promise_demand3.proofs.Base.{base, base-fits, base-keeps}
@@ -93,26 +93,22 @@ module _ (S : Set) (placed : Placed S) (ok : valid S ≡ true) where
       ∙ ap (momentOf S placed ok) (ap (λ (r : Run). runs stepOf r more) (runs-from (begin S) before) ∙ runs-from (runFrom (begin S) before) more ∙ sym (from-append (begin S) before more))
 
   -- demand 3 of the run, in the words of the deadline argument
-  run-left : Fits (base S placed ok) → (calls : List Call) → Keeps (base S placed ok) (runOf S calls .accepted) → AllLeft (base S placed ok) (momentOf S placed ok (runOf S calls))
+  run-left : Fits (base S placed ok) → (calls : List Call) → Keeps (base S placed ok) (accepted (runOf S calls)) → AllLeft (base S placed ok) (momentOf S placed ok (runOf S calls))
   run-left fits calls = subst (λ (q : Moment (base S placed ok)). Keeps (base S placed ok) (q .posts) → AllLeft (base S placed ok) q) (seen calls)
       (all-left (base S placed ok) (begin S) stepOf (lawful S placed ok) fits calls)
 
-  run-none-due : Fits (base S placed ok) → (before more : List Call) → Keeps (base S placed ok) (runOf S (before ++ more) .accepted) → NoneDue (base S placed ok) (momentOf S placed ok (runOf S before))
+  run-none-due : Fits (base S placed ok) → (before more : List Call) → Keeps (base S placed ok) (accepted (runOf S (before ++ more))) → NoneDue (base S placed ok) (momentOf S placed ok (runOf S before))
   run-none-due fits before more keeps = subst (λ (q : Moment (base S placed ok)). NoneDue (base S placed ok) q) (seen before)
       (never-due-at (base S placed ok) (begin S) stepOf (lawful S placed ok) fits before more (subst (λ (q : Moment (base S placed ok)). Keeps (base S placed ok) (q .posts)) (sym (seen-further before more)) keeps))
 
   -- and of its messages without their numbers
-  not-due : Fits (base S placed ok) → (before more : List Call) → Keeps (base S placed ok) (runOf S (before ++ more) .accepted) → Each (λ m. runOf S before .state .clock < m .deadline) (pending (runOf S before .state))
+  not-due : Fits (base S placed ok) → (before more : List Call) → Keeps (base S placed ok) (accepted (runOf S (before ++ more))) → Each (λ m. runOf S before .state .clock < m .deadline) (pending (runOf S before .state))
   not-due fits before more keeps m i =
       let h : Has (pendingOf (runOf S before)) m = pair-in (runOf S before .names) (pending (runOf S before .state)) (all-numbered S placed ok (runOf S before) (kept before)) i in
-      run-none-due fits before more keeps (name (h .number) m) (h .here)
+      omega (arith, run-none-due fits before more keeps (name (h .number) m) (h .here), kept before .timed)
 
 -- ---- DEMAND 3. A late message already started by a task that an urgent one also needs is covered by the blocking that demand counts:
 -- `account-blocked` of deadlines/proofs/Account.antt charges its units to the task.
-
-at-cost : (S : Set) (p : Accepted) (d : Departure) (k : ℕ) → k ≡ p .stream → (how : How) → CutAtCost S k d how → AtCost S p d how
-at-cost S p d k e finished c = tt
-at-cost S p d k e cut c = c ∙ ap (λ (n : ℕ). streamAt S n .cost) e
 
 pub demand-3 : Demand3
 unfolding Demand3
@@ -121,7 +117,8 @@ demand-3 S placed v calls keeps p i reached = (
   out .departure-in,
   record {
     same = out .named ∙ out .of .named;
-    cost = at-cost S p (out .departure) (out .who .message .stream) (out .of .to) (out .departure .how) (out .told .cost);
+    stream = out .told .stream ∙ out .of .to;
+    cost = out .told .cost;
     time = omega (arith, out .in-time, out .of .until);
   },
 )
@@ -129,17 +126,39 @@ demand-3 S placed v calls keeps p i reached = (
     ok : valid S ≡ true
     ok = accepted-valid S v
 
-    out : Left (base S placed ok) (runOf S calls .departures) p
-    out = run-left S placed ok (base-fits S placed ok (accepted-fits S v)) calls (base-keeps S placed ok (runOf S calls .accepted) keeps) p i reached
+    out : Left (base S placed ok) (departures (runOf S calls)) p
+    out = run-left S placed ok (base-fits S placed ok (accepted-fits S v)) calls (base-keeps S placed ok (accepted (runOf S calls)) keeps) p i reached
 
 -- ---- what follows
 
 pub never-due : NeverDue
 unfolding NeverDue
-never-due S placed v before more keeps = not-due S placed ok (base-fits S placed ok (accepted-fits S v)) before more (base-keeps S placed ok (runOf S (before ++ more) .accepted) keeps)
+never-due S placed v before more keeps = not-due S placed ok (base-fits S placed ok (accepted-fits S v)) before more (base-keeps S placed ok (accepted (runOf S (before ++ more))) keeps)
   where
     ok : valid S ≡ true
     ok = accepted-valid S v
+
+-- a run's moments, one after the other
+
+step-last : (S : Set) (calls : List Call) (c : Call) → runOf S (calls ++ (c ∷ [])) ≡ stepOf (runOf S calls) c
+unfolding runOf runFrom
+step-last S calls c = from-append (begin S) calls (c ∷ [])
+
+none-overdue : (clock : ℕ) (l : List Message) → Each (λ m. clock < m .deadline) l → any (overdue clock) l ≡ false
+unfolding any
+none-overdue clock [] h = refl
+none-overdue clock (m ∷ l) h = rw (lt-ltb clock (m .deadline) (h m (List·Memᴰ·head refl))) (none-overdue clock l (λ x i. h x (List·Memᴰ·tail i)))
+
+not-missed : (S : Set) → Placed S → VerdictOf S Accept → (before more : List Call) → KeepsLimits S (accepted (runOf S (before ++ more))) → missedFrom (runOf S before) more ≡ false
+unfolding missedFrom missedNow NeverDue
+not-missed S placed v before [] keeps = none-overdue (runOf S before .state .clock) (pending (runOf S before .state)) (never-due S placed v before [] keeps)
+not-missed S placed v before (c ∷ more) keeps =
+    rw (none-overdue (runOf S before .state .clock) (pending (runOf S before .state)) (never-due S placed v before (c ∷ more) keeps))
+    (subst (λ (r : Run). missedFrom r more ≡ false) (step-last S before c) (not-missed S placed v (before ++ (c ∷ [])) more (rw append-assoc keeps)))
+
+pub never-missed : NeverMissed
+unfolding NeverMissed missedIn runOf runFrom
+never-missed S placed v calls keeps = not-missed S placed v [] calls keeps
 
 -- the laxity is what is left until the deadline, where that is not past
 laxity-left : (deadline clock : ℕ) → clock ≤ deadline → pos 0 ≤ℤ laxityOf deadline clock
@@ -168,7 +187,7 @@ no-late-answer S placed v calls keeps done = not-late (r .state) done early (uni
     r : Run
     r = runOf S calls
 
-    keeps-still : KeepsLimits S (runOf S (calls ++ []) .accepted)
+    keeps-still : KeepsLimits S (accepted (runOf S (calls ++ [])))
     keeps-still = rw append-nil keeps
 
     early : Serving (r .state) → r .state .clock + 1 ≤ chosenOf (r .state) .deadline
@@ -198,25 +217,5 @@ each-once S placed ok calls n = omega (
   arith,
   once (base S placed ok) (reached S placed ok calls) n,
   waiting S placed ok n (runOf S calls .names) (pending (runOf S calls .state)) (all-numbered S placed ok (runOf S calls) (kept S placed ok calls)),
-  leaving S placed ok n (runOf S calls .departures),
+  leaving S placed ok n (departures (runOf S calls)),
 )
-
--- ---- the code's runs are the runs of rules
-
-step-last : (S : Set) (calls : List Call) (c : Call) → runOf S (calls ++ (c ∷ [])) ≡ stepOf (runOf S calls) c
-unfolding runOf runFrom
-step-last S calls c = from-append (begin S) calls (c ∷ [])
-
-pub code-run : (S : Set) {calls : List Call} {r : Run} → CodeRun S calls r → r ≡ runOf S calls
-unfolding runOf runFrom begin stepOf
-code-run S (started q e) = ap (λ (q : StartResult). record { state = q .state; names = []; accepted = []; departures = [] }) e
-code-run S (posted {calls = calls} {r = r} made k q e) =
-    ap (λ (q : PostResult). afterPost r k (q .state) (q .answer)) e ∙ ap (λ (r : Run). stepOf r (posts k)) (code-run S made) ∙ sym (step-last S calls (posts k))
-code-run S (ran {calls = calls} {r = r} made done q e) =
-    ap (λ (q : UnitResult). afterUnit r (q .state) (q .answer)) e ∙ ap (λ (r : Run). stepOf r (units done)) (code-run S made) ∙ sym (step-last S calls (units done))
-
-pub demand-3-of-code : Demand3OfCode
-unfolding Demand3OfCode Demand3
-demand-3-of-code S placed v calls r made =
-    subst (λ (r : Run). KeepsLimits S (r .accepted) → (p : Accepted) → List·Memᴰ p (r .accepted) → dueAt S p ≤ r .state .clock → (d : Departure) × List·Memᴰ d (r .departures) × LeftInTime S p d)
-    (sym (code-run S made)) (demand-3 S placed v calls)

@@ -7,29 +7,31 @@ use mathlib.Core.Path.{_≡_, refl, sym, ap, subst, _∙_}
 use native.Mathlib.Numerals.{add-one}
 use native.Mathlib.Omega.{arith}
 use lib.ListN.{length, getD, take, drop, length-append, length-drop}
+use lib.IntN.{ℤ}
 use lib.Seq.{length-take-le}
 use Rattle.laws.proofs.Gates.{le-or-lt, Each, mem-here}
 use Rattle.rules.specs.declared.Set.{Set}
 use Rattle.rules.specs.declared.Message.{Message}
 use Rattle.rules.specs.Streams.{Placed, streamAt, valid}
 use Rattle.rules.specs.States.{noMessage, pending, costOf}
-use Rattle.rules.specs.Steps.{never, placeOf, gained, stayed, departed}
-use Rattle.rules.specs.Runs.{How, Departure, Run, afterLeaving, afterStaying}
+use Rattle.rules.specs.Steps.{never, placeOf, turnOf, gained, stayed, departed}
+use Rattle.rules.specs.Runs.{How, Departure, Run, accepted, departures, newDeparture, afterLeaving, afterMoving, AtCost}
+use Rattle.rules.proofs.Events.{accepted-same, departures-more}
 use Rattle.state_formed.proofs.WellFormed.{well-formed}
 use Rattle.state_choosing.specs.Words.{Served}
 use Rattle.state_choosing.proofs.Choice.{choice}
-use Rattle.promise_deadlines.specs.Model.{Choice, Stays, leaves, stays, After, unit, Run as Reaches}
+use Rattle.promise_deadlines.specs.Model.{Choice, Stays, leaves, stays, After, unit, Reaches}
 use Rattle.promise_deadlines.proofs.Formed.{formed}
 use Rattle.promise_steps.specs.Formed.{Formed}
 use Rattle.promise_steps.proofs.Valid.{stream-valid}
 use Rattle.promise_steps.proofs.Cases.{Serving, chosenOf, message-is, pending-stayed, pending-departed}
-use Rattle.promise_demand3.specs.Kind.{Named, paired, pendingOf, Fine, CutAtCost}
+use Rattle.promise_demand3.specs.Kind.{Named, paired, pendingOf, Fine}
 use Rattle.promise_demand3.proofs.Choosing.{Chosen, chosen-of}
 use Rattle.promise_demand3.proofs.Pairing.{name, message-in, Has, pair-in, before, behind, pairs-split, pairs-without, pairs-with}
 use Rattle.promise_demand3.proofs.Base.{base, hold-started, hold-unstarted, started-hold}
-use Rattle.promise_demand3.proofs.Moments.{Good, few, all-numbered, Sound, Stepped, no-post}
+use Rattle.promise_demand3.proofs.Moments.{Good, few, all-numbered, Reachable, Stepped, no-post}
 
-module _ (S : Set) (placed : Placed S) (ok : valid S ≡ true) (r : Run) (g : Good S placed ok r) (run : Sound S placed ok r) (v : Serving (r .state)) where
+module _ (S : Set) (placed : Placed S) (ok : valid S ≡ true) (r : Run) (g : Good S placed ok r) (run : Reachable S placed ok r) (v : Serving (r .state)) where
   -- the pending messages, and the place of the chosen one
   abbrev l : List Message
   l = pending (r .state)
@@ -49,8 +51,8 @@ module _ (S : Set) (placed : Placed S) (ok : valid S ≡ true) (r : Run) (g : Go
   -- ---- the choice
 
   -- in the paper's words
-  pub words : Served S l i
-  words = subst (λ (x : Set). Served x l i) (g .set-is) (choice (r .state) (g .formed .formed) places (g .formed .housed .set .sixteen) (v .some))
+  pub words : Served (turnOf (r .state)) S l i
+  words = subst (λ (x : Set). Served (turnOf (r .state)) x l i) (g .set-is) (choice (r .state) (g .formed .formed) places (g .formed .housed .set .sixteen) (v .some))
 
   pub low : i < r .state .count
   low = omega (arith, words .inside, few S placed ok r g)
@@ -77,6 +79,7 @@ module _ (S : Set) (placed : Placed S) (ok : valid S ≡ true) (r : Run) (g : Go
         arith,
         formed (base S placed ok) run .soon y (h .here),
         v .early,
+        g .timed,
         stream-valid S placed ok (m .stream) (formed (base S placed ok) run .fine y (h .here) .stream-in) .deadline .high,
       )
 
@@ -109,17 +112,14 @@ module _ (S : Set) (placed : Placed S) (ok : valid S ≡ true) (r : Run) (g : Go
       }
 
   -- the unit, whatever it makes of x
-  served : (q : List Named) (e : List Departure) → After (base S placed ok) (r .state .clock) x q e
-      → Reaches (base S placed ok) (r .state .clock + 1) (front ++ (q ++ rear)) (r .accepted) (r .departures ++ e)
+  served : (q : List Named) (e : List Departure) → After (base S placed ok) (r .time) x q e
+      → Reaches (base S placed ok) (r .time + 1) (front ++ (q ++ rear)) (accepted r) (departures r ++ e)
   served q e af = rw add-one (unit front x rear q e
-      (subst (λ (q : List Named). Reaches (base S placed ok) (r .state .clock) q (r .accepted) (r .departures)) split run)
+      (subst (λ (q : List Named). Reaches (base S placed ok) (r .time) q (accepted r) (departures r)) split run)
       (subst (λ (q : List Named). Choice (base S placed ok) q x) split in-argument)
       af)
 
   -- ---- it leaves
-
-  abbrev departure : How → Departure
-  departure how = record { number = getD (r .names) i 0; how = how; used = chosenOf (r .state) .used + 1; at = r .state .clock + 1 }
 
   one-less : length (take i (r .names) ++ drop (suc i) (r .names)) ≡ r .state .count - 1
   one-less = omega (
@@ -136,19 +136,21 @@ module _ (S : Set) (placed : Placed S) (ok : valid S ≡ true) (r : Run) (g : Go
       ap (paired (take i (r .names) ++ drop (suc i) (r .names))) (pending-departed (r .state) places i small low)
       ∙ pairs-without (r .names) l same i (words .inside)
 
-  pub leave-step : (how : How) → CutAtCost S (chosen .stream) (departure how) how → Formed (departed (r .state) i) → Stepped S placed ok r (afterLeaving r (departed (r .state) i) how)
-  leave-step how cost f = no-post S placed ok r (afterLeaving r (departed (r .state) i) how) refl
-      (record { set-is = g .set-is; formed = f; numbered = one-less })
-      (subst (λ (q : List Named). Reaches (base S placed ok) (r .state .clock + 1) q (r .accepted) (r .departures ++ (departure how ∷ []))) (sym taken-out)
-      (served [] (departure how ∷ []) (leaves (record {
+  pub leave-step : (how : How) (laxity : ℤ) → AtCost S (newDeparture r how laxity) how → Formed (departed (r .state) i) → Stepped S placed ok r (afterLeaving r (departed (r .state) i) how laxity)
+  leave-step how laxity cost f =
+      let d : Departure = newDeparture r how laxity in
+      no-post S placed ok r (afterLeaving r (departed (r .state) i) how laxity) (accepted-same (r .events) d)
+      (record { set-is = g .set-is; formed = f; numbered = one-less; timed = omega (arith, g .timed) })
+      (rw (accepted-same (r .events) d, departures-more (r .events) d, taken-out)
+      (served [] (d ∷ []) (leaves (record {
         named = refl;
-        timed = add-one (r .state .clock);
-        told = record { used = ap (λ (m : Message). m .used + 1) chosen-is; cost = cost };
+        timed = add-one (r .time);
+        told = record { stream = ap (λ (m : Message). m .stream) chosen-is; used = ap (λ (m : Message). m .used + 1) chosen-is; cost = cost };
       }))))
 
   -- a cut has used the cost of its stream
-  pub cut-cost : chosenOf (r .state) .used + 1 ≡ costOf (r .state .set) (chosenOf (r .state)) → chosenOf (r .state) .used + 1 ≡ streamAt S (chosen .stream) .cost
-  cut-cost e = cc (chosen-is, g .set-is, e)
+  pub cut-cost : chosenOf (r .state) .used + 1 ≡ costOf (r .state .set) (chosenOf (r .state)) → chosenOf (r .state) .used + 1 ≡ costOf S (chosenOf (r .state))
+  cut-cost e = cc (g .set-is, e)
 
   -- ---- it stays
 
@@ -175,9 +177,9 @@ module _ (S : Set) (placed : Placed S) (ok : valid S ≡ true) (r : Run) (g : Go
   put-back : paired (r .names) (pending (stayed (r .state) i)) ≡ front ++ (y ∷ rear)
   put-back = ap (paired (r .names)) (pending-stayed (r .state) places i small low) ∙ pairs-with (r .names) l same i (words .inside) (gained chosen)
 
-  pub stay-step : chosen .used + 1 ≢ costOf S chosen → Formed (stayed (r .state) i) → Stepped S placed ok r (afterStaying r (stayed (r .state) i))
-  stay-step short f = no-post S placed ok r (afterStaying r (stayed (r .state) i)) refl
-      (record { set-is = g .set-is; formed = f; numbered = g .numbered })
-      (subst (λ (q : List Named). Reaches (base S placed ok) (r .state .clock + 1) q (r .accepted) (r .departures)) (sym put-back)
-      (subst (λ (ds : List Departure). Reaches (base S placed ok) (r .state .clock + 1) (front ++ (y ∷ rear)) (r .accepted) ds) (append-nil (r .departures))
+  pub stay-step : chosen .used + 1 ≢ costOf S chosen → Formed (stayed (r .state) i) → Stepped S placed ok r (afterMoving r (stayed (r .state) i))
+  stay-step short f = no-post S placed ok r (afterMoving r (stayed (r .state) i)) refl
+      (record { set-is = g .set-is; formed = f; numbered = g .numbered; timed = omega (arith, g .timed) })
+      (subst (λ (q : List Named). Reaches (base S placed ok) (r .time + 1) q (accepted r) (departures r)) (sym put-back)
+      (subst (λ (ds : List Departure). Reaches (base S placed ok) (r .time + 1) (front ++ (y ∷ rear)) (accepted r) ds) (append-nil (departures r))
       (served (y ∷ []) [] (stays (gains short)))))

@@ -14,10 +14,10 @@ use Rattle.rules.specs.declared.Verdict.the-variants.{Accept, Late, Overload, R
 use Rattle.rules.specs.Streams.{Placed, FourTuples, noStream, streamAt, events, limit}
 use Rattle.rules.specs.Load.{VerdictOf}
 use Rattle.rules.specs.Numbers.{verdictSays, accept}
-use Rattle.rules.specs.Runs.{Accepted, Departure, Run, inWindow, KeepsLimits, dueAt, LeftInTime, Demand3}
+use Rattle.rules.specs.Runs.{Accepted, Departure, Run, accepted, departures, acceptedOf, inWindow, KeepsLimits, dueAt, LeftInTime, Demand3}
 use Rattle.rules.proofs.Examples.{setB}
 use Rattle.rules.proofs.Yard.{Judges, yard-true}
-use Rattle.rules.proofs.Runs.{traceB, runB, set-B-run}
+use Rattle.rules.proofs.Runs.{longB, runB, set-B-long}
 use Rattle.promise_steps.proofs.Runs.{all-same}
 use Rattle.promise_demand3.proofs.Promise.{demand-3}
 
@@ -39,8 +39,8 @@ small : (b : Bool) → cond b 1 0 ≤ 1
 small true = omega arith
 small false = omega arith
 
-one-post : (k x i : ℕ) → k < 3 → count (inWindow k x i) (runB .accepted) ≤ 1
-unfolding count sum
+one-post : (k x i : ℕ) → k < 3 → count (inWindow k x i) (accepted (runB 20)) ≤ 1
+unfolding count sum acceptedOf
 one-post zero x i h = omega (arith, small (within x 1 (x + i)))
 one-post (suc zero) x i h = omega (arith, small (within x 0 (x + i)))
 one-post (suc (suc zero)) x i h = omega (arith, small (within x 1 (x + i)))
@@ -53,13 +53,13 @@ one-allowed (suc zero) i h = omega (arith, cond-yes (leb 0 i) ((i - 0) / 20 + 1)
 one-allowed (suc (suc zero)) i h = omega (arith, cond-yes (leb 0 i) ((i - 0) / 20 + 1) 0 (le→leb 0 i (omega arith)))
 one-allowed (suc (suc (suc k))) i h = absurd (omega arith)
 
-keeps-B : KeepsLimits setB (runB .accepted)
+keeps-B : KeepsLimits setB (accepted (runB 20))
 unfolding KeepsLimits
 keeps-B k h x i = omega (arith, one-post k x i h, one-allowed k i h)
 
--- what demand 3 says of it
-pub set-B-in-time : (p : Accepted) → List·Memᴰ p (runB .accepted) → dueAt setB p ≤ 8 → (d : Departure) × List·Memᴰ d (runB .departures) × LeftInTime setB p d
+-- what demand 3 says of it at clock 20, when all three deadlines are reached
+pub set-B-in-time : (p : Accepted) → List·Memᴰ p (accepted (runB 20)) → dueAt setB p ≤ 20 → (d : Departure) × List·Memᴰ d (departures (runB 20)) × LeftInTime setB p d
 unfolding Demand3
 set-B-in-time =
-    subst (λ (r : Run). KeepsLimits setB (r .accepted) → (p : Accepted) → List·Memᴰ p (r .accepted) → dueAt setB p ≤ r .state .clock → (d : Departure) × List·Memᴰ d (r .departures) × LeftInTime setB p d)
-    set-B-run (demand-3 setB placed-B verdict-B traceB) keeps-B
+    subst (λ (r : Run). KeepsLimits setB (accepted r) → (p : Accepted) → List·Memᴰ p (accepted r) → dueAt setB p ≤ r .time → (d : Departure) × List·Memᴰ d (departures r) × LeftInTime setB p d)
+    set-B-long (demand-3 setB placed-B verdict-B longB) keeps-B

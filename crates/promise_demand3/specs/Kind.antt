@@ -8,10 +8,10 @@ use lib.Dec.{T, ltb}
 use Rattle.laws.specs.Lists.{any, top}
 use Rattle.rules.specs.declared.Set.{Set}
 use Rattle.rules.specs.declared.Message.{Message}
-use Rattle.rules.specs.Streams.{streamAt, streamsOf}
+use Rattle.rules.specs.Streams.{streamsOf}
 use Rattle.rules.specs.States.{pending, costOf}
-use Rattle.rules.specs.Load.{urgent, held}
-use Rattle.rules.specs.Runs.{How, finished, cut, Departure, Run}
+use Rattle.rules.specs.Load.{urgent, blocks}
+use Rattle.rules.specs.Runs.{Departure, Run, AtCost}
 
 -- a pending message and its number
 pub record Named : Type 0 where
@@ -42,17 +42,13 @@ holdOf S m = cond (ltb 0 (m .message .used)) (restOf S m) 0
 
 -- the largest c - 1 among a task's streams with d above I, and that it has a stream with d not above I
 abbrev pub capOf : Set → ℕ → ℕ → ℕ
-capOf S t i = top (held t i) (streamsOf S)
+capOf S t i = top (blocks t i) (streamsOf S)
 
 abbrev pub Urged : Set → ℕ → ℕ → Type 0
 Urged S t i = T (any (urgent t i) (streamsOf S))
 
--- a departure that is cut has used exactly the cost of the stream k
-abbrev pub CutAtCost : Set → ℕ → Departure → How → Type 0
-CutAtCost S k d finished = Unit {0}
-CutAtCost S k d cut = d .used ≡ streamAt S k .cost
-
 -- what a departure tells of the message as it stood before its last unit
 pub record Tells (S : Set) (m : Named) (d : Departure) : Type 0 where
+  pub stream : d .stream ≡ m .message .stream
   pub used : d .used ≡ m .message .used + 1
-  pub cost : CutAtCost S (m .message .stream) d (d .how)
+  pub cost : AtCost S d (d .how)

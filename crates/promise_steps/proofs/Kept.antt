@@ -18,7 +18,7 @@ use Rattle.rules.specs.declared.PostResult.{PostResult}
 use Rattle.rules.specs.declared.UnitResult.{UnitResult}
 use Rattle.rules.specs.Streams.{Placed}
 use Rattle.rules.specs.States.{noMessage, pending, taskOf, costOf, messageUnused, lastClock, Housed}
-use Rattle.rules.specs.Steps.{newMessage, added, postOf, placeOf, messageAt, ticked, gained, stayed, departed, unitOf}
+use Rattle.rules.specs.Steps.{newMessage, added, postOf, placeOf, messageAt, turnOf, ticked, gained, stayed, departed, unitOf}
 use Rattle.state_formed.proofs.Standing.{Standing}
 use Rattle.state_formed.proofs.WellFormed.{WellFormed, well-formed, well-formed-back}
 use Rattle.state_choosing.specs.Words.{at, Served}
@@ -80,7 +80,7 @@ module _ (s : State) (f : Formed s) where
   -- ---- a unit that serves the chosen message
 
   module _ (v : Serving s) where
-    words : Served (s .set) (pending s) (placeOf s)
+    words : Served (turnOf s) (s .set) (pending s) (placeOf s)
     words = choice s (f .formed) (f .housed .places) (f .housed .set .sixteen) (v .some)
 
     low : placeOf s < s .count

@@ -1,163 +1,229 @@
--- When a call is refused, that a refused call changes nothing, and that 12 is answered exactly for a state that is not well formed.
+-- When a call is refused, by the paper's numbers, and that a refused call changes nothing.
 -- Assumes nothing.
-use Prim.Native.Nat.{ℕ, suc, _+_, _-_, _≤_, _<_}
-use mathlib.Core.Bool.{Bool, true, false, cond, false≢true}
+use Prim.Native.Nat.{ℕ, suc, _+_, _≤_, _<_}
+use mathlib.Core.Bool.{Bool, true, false, false≢true}
 use mathlib.Core.Path.{_≡_, refl, ap, sym, _∙_}
 use native.Mathlib.Omega.{arith}
 use borrow.Author.Tests.{lt-ltb, le-ltb, ltb-true, ltb-false, eqb-true, eqb-false, eq-eqb, ne-eqb}
-use lib.Dec.{ltb, leb, eqb}
+use lib.Dec.{ltb, eqb}
 use Rattle.laws.proofs.Sums.{by-test}
 use Rattle.rules.specs.declared.State.{State}
-use Rattle.rules.specs.declared.Refusal.{Refusal}
-use Rattle.rules.specs.declared.Refusal.the-variants.{NoStream, Full, LastClock, NothingPending, OutOfRule, IllFormed}
-use Rattle.rules.specs.declared.PostAnswer.{PostAnswer}
-use Rattle.rules.specs.declared.PostAnswer.the-variants.{Posted, Refused as PostRefused}
-use Rattle.rules.specs.declared.ChooseAnswer.{ChooseAnswer}
-use Rattle.rules.specs.declared.ChooseAnswer.the-variants.{Nothing, Runs, Refused as ChooseRefused}
-use Rattle.rules.specs.declared.UnitAnswer.{UnitAnswer}
-use Rattle.rules.specs.declared.UnitAnswer.the-variants.{Ran, Finished, Cut, Idle, Refused as UnitRefused}
-use Rattle.rules.specs.States.{wellFormed, taskOf, costOf, lastClock}
-use Rattle.rules.specs.Steps.{newMessage, added, postOf, messageAt, placeOf, chooseOf, ticked, departed, laxityOf, servedOf, emptyUnit, unitOf}
-use Rattle.promise_steps.specs.Formed.{Twelve}
+use Rattle.rules.specs.declared.Call.{Call}
+use Rattle.rules.specs.declared.Call.the-variants.{Posts, Units}
+use Rattle.rules.specs.declared.PostAnswer.the-variants.{Posted}
+use Rattle.rules.specs.States.{wellFormed, taskOf, costOf, mostPending, lastClock}
+use Rattle.rules.specs.Steps.{newMessage, added, postOf, messageAt, placeOf, chooseOf, laxityOf, servedOf, emptyUnit, unitOf, callOf}
+use Rattle.rules.specs.Numbers.{Says, refused, refused-with-0, started, posted, none, runs, ran, done as finishes, cut, idle, gives, tuples, accept, late, overload, read, wrote, postSays, chooseSays, unitSays}
+use Rattle.promise_steps.specs.Refusals.{saysToPost, saysToUnit, Twelve, One, NotInSet, Two, AllPlacesTaken, Three, AtLastClock, Four, DoneWithNothing, RefusedSame}
 
--- two different constructors
-differ : {A : Type 0} → _≡_ {A = ℕ} 0 1 → A
-differ e = absurd (let z : _≡_ {A = ℕ} 0 1 = e in omega arith)
+-- the number of a refusal, 0 of any other answer: two that say the same have the same
+no-of : Says → ℕ
+no-of (refused n) = n
+no-of (refused-with-0 n) = n
+no-of started = 0
+no-of (posted k d) = 0
+no-of none = 0
+no-of (runs t k) = 0
+no-of (ran t k) = 0
+no-of (finishes t k l) = 0
+no-of (cut t k l) = 0
+no-of idle = 0
+no-of (gives n) = 0
+no-of (tuples a b) = 0
+no-of accept = 0
+no-of (late i w) = 0
+no-of overload = 0
+no-of read = 0
+no-of (wrote n) = 0
 
 -- ---- post: "Order: post 12, 1, 2."
 
 module _ (s : State) (k : ℕ) where
-  pub post-ill : wellFormed s ≡ false → postOf s k .answer ≡ PostRefused IllFormed
+  post-ill : wellFormed s ≡ false → saysToPost s k ≡ refused 12
   unfolding postOf
   post-ill e = rw e
 
-  pub post-no-stream : wellFormed s ≡ true → s .set .count ≤ k → postOf s k .answer ≡ PostRefused NoStream
+  post-no-stream : wellFormed s ≡ true → s .set .count ≤ k → saysToPost s k ≡ refused 1
   unfolding postOf
   post-no-stream e h = rw (e, le-ltb k (s .set .count) h)
 
-  pub post-full : wellFormed s ≡ true → k < s .set .count → 64 ≤ s .count → postOf s k .answer ≡ PostRefused Full
+  post-full : wellFormed s ≡ true → k < s .set .count → mostPending ≤ s .count → saysToPost s k ≡ refused 2
   unfolding postOf
-  post-full e h g = rw (e, lt-ltb k (s .set .count) h, le-ltb (s .count) 64 g)
+  post-full e h g = rw (e, lt-ltb k (s .set .count) h, le-ltb (s .count) mostPending g)
 
   -- any other is accepted, at the last clock too
-  pub post-accepted : wellFormed s ≡ true → k < s .set .count → s .count < 64 → postOf s k ≡ record { answer = Posted k (newMessage s k .deadline); state = added s (newMessage s k) }
+  pub post-accepted : wellFormed s ≡ true → k < s .set .count → s .count < mostPending → postOf s k ≡ record { answer = Posted k (newMessage s k .deadline); state = added s (newMessage s k) }
   unfolding postOf
-  post-accepted e h g = rw (e, lt-ltb k (s .set .count) h, lt-ltb (s .count) 64 g)
+  post-accepted e h g = rw (e, lt-ltb k (s .set .count) h, lt-ltb (s .count) mostPending g)
 
-  -- "12: state not well formed", exactly
-  pub post-12-only : postOf s k .answer ≡ PostRefused IllFormed → wellFormed s ≡ false
-  post-12-only e =
+  -- the four cases, told by what is said
+  module _ {A : Type 0} (n : ℕ) (e : no-of (saysToPost s k) ≡ n) where
+    by-post : (wellFormed s ≡ false → 12 ≡ n → A) → (NotInSet s k → 1 ≡ n → A) → (AllPlacesTaken s k → 2 ≡ n → A) → (0 ≡ n → A) → A
+    unfolding no-of
+    by-post f g h a =
+        by-test (wellFormed s)
+        (λ w. by-test (ltb k (s .set .count))
+        (λ x. by-test (ltb (s .count) mostPending)
+        (λ y. a (sym (ap (λ r. no-of (postSays (r .answer))) (post-accepted w (ltb-true k (s .set .count) x) (ltb-true (s .count) mostPending y))) ∙ e))
+        (λ y. let q : AllPlacesTaken s k = record { formed = w; in-set = ltb-true k (s .set .count) x; full = ltb-false (s .count) mostPending y } in
+        h q (sym (ap no-of (post-full w (q .in-set) (q .full))) ∙ e)))
+        (λ x. let q : NotInSet s k = record { formed = w; beyond = ltb-false k (s .set .count) x } in g q (sym (ap no-of (post-no-stream w (q .beyond))) ∙ e)))
+        (λ w. f w (sym (ap no-of (post-ill w)) ∙ e))
+
+  post-12 : saysToPost s k ≡ refused 12 → wellFormed s ≡ false
+  unfolding no-of
+  post-12 e = by-post 12 (ap no-of e) (λ w q. w) (λ w q. absurd (omega arith)) (λ w q. absurd (omega arith)) (λ q. absurd (omega arith))
+
+  post-1 : saysToPost s k ≡ refused 1 → NotInSet s k
+  unfolding no-of
+  post-1 e = by-post 1 (ap no-of e) (λ w q. absurd (omega arith)) (λ w q. w) (λ w q. absurd (omega arith)) (λ q. absurd (omega arith))
+
+  post-2 : saysToPost s k ≡ refused 2 → AllPlacesTaken s k
+  unfolding no-of
+  post-2 e = by-post 2 (ap no-of e) (λ w q. absurd (omega arith)) (λ w q. absurd (omega arith)) (λ w q. w) (λ q. absurd (omega arith))
+
+  post-same : (number : ℕ) → saysToPost s k ≡ refused number → postOf s k .state ≡ s
+  unfolding postOf
+  post-same number e =
       by-test (wellFormed s)
       (λ w. by-test (ltb k (s .set .count))
-      (λ h. by-test (ltb (s .count) 64)
-      (λ g. let q : Posted k (newMessage s k .deadline) ≡ PostRefused IllFormed = sym (ap (λ r. r .answer) (post-accepted w (ltb-true k (s .set .count) h) (ltb-true (s .count) 64 g))) ∙ e in differ (cc))
-      (λ g. let q : PostRefused Full ≡ PostRefused IllFormed = sym (post-full w (ltb-true k (s .set .count) h) (ltb-false (s .count) 64 g)) ∙ e in differ (cc)))
-      (λ h. let q : PostRefused NoStream ≡ PostRefused IllFormed = sym (post-no-stream w (ltb-false k (s .set .count) h)) ∙ e in differ (cc)))
-      (λ w. w)
-
-  -- "state unchanged"
-  pub post-refused-same : (why : Refusal) → postOf s k .answer ≡ PostRefused why → postOf s k .state ≡ s
-  unfolding postOf
-  post-refused-same why e =
-      by-test (wellFormed s)
-      (λ w. by-test (ltb k (s .set .count))
-      (λ h. by-test (ltb (s .count) 64)
-      (λ g. let q : Posted k (newMessage s k .deadline) ≡ PostRefused why = rw (w, h, g) at e in differ (cc))
+      (λ h. by-test (ltb (s .count) mostPending)
+      (λ g. let q : posted k (newMessage s k .deadline) ≡ refused number = rw (w, h, g) at e in absurd (let z : _≡_ {A = ℕ} 0 1 = cc in omega arith))
       (λ g. rw (w, h, g)))
       (λ h. rw (w, h)))
       (λ w. rw w)
 
+pub one : One
+unfolding One
+one s k = (post-1 s k, λ q. post-no-stream s k (q .formed) (q .beyond))
+
+pub two : Two
+unfolding Two
+two s k = (post-2 s k, λ q. post-full s k (q .formed) (q .in-set) (q .full))
+
 -- ---- choose
 
 module _ (s : State) where
-  pub choose-ill : wellFormed s ≡ false → chooseOf s ≡ ChooseRefused IllFormed
+  choose-ill : wellFormed s ≡ false → chooseSays (chooseOf s) ≡ refused 12
   unfolding chooseOf
   choose-ill e = rw e
 
-  pub choose-none : wellFormed s ≡ true → s .count ≡ 0 → chooseOf s ≡ Nothing
-  unfolding chooseOf
-  choose-none e h = rw (e, eq-eqb (s .count) 0 h)
-
-  pub choose-some : wellFormed s ≡ true → (s .count ≡ 0 → ⊥) → chooseOf s ≡ Runs (taskOf (s .set) (messageAt s (placeOf s))) (messageAt s (placeOf s) .stream)
-  unfolding chooseOf
-  choose-some e h = rw (e, ne-eqb (s .count) 0 h)
-
-  pub choose-12-only : chooseOf s ≡ ChooseRefused IllFormed → wellFormed s ≡ false
-  choose-12-only e =
+  choose-12 : chooseSays (chooseOf s) ≡ refused 12 → wellFormed s ≡ false
+  unfolding chooseOf no-of
+  choose-12 e =
       by-test (wellFormed s)
       (λ w. by-test (eqb (s .count) 0)
-      (λ z. let q : Nothing ≡ ChooseRefused IllFormed = sym (choose-none w (eqb-true (s .count) 0 z)) ∙ e in differ (cc))
-      (λ z. let q : Runs (taskOf (s .set) (messageAt s (placeOf s))) (messageAt s (placeOf s) .stream) ≡ ChooseRefused IllFormed = sym (choose-some w (eqb-false (s .count) 0 z)) ∙ e in differ (cc)))
+      (λ z. let q : 0 ≡ 12 = rw (w, z) at (ap no-of e) in absurd (omega arith))
+      (λ z. let q : 0 ≡ 12 = rw (w, z) at (ap no-of e) in absurd (omega arith)))
       (λ w. w)
 
 -- ---- unit: "Unit 12, 3, 4."
 
+-- a unit that serves a message is never refused
+served-says : (s : State) (i : ℕ) (done : Bool) → no-of (unitSays (servedOf s i done .answer)) ≡ 0
+unfolding servedOf no-of
+served-says s i true = refl
+served-says s i false = by-test (eqb (messageAt s i .used + 1) (costOf (s .set) (messageAt s i))) (λ z. rw z) (λ z. rw z)
+
+served-not : (s : State) (i : ℕ) (done : Bool) (number : ℕ) → unitSays (servedOf s i done .answer) ≡ refused number → ⊥
+unfolding servedOf
+served-not s i true number e = let z : _≡_ {A = ℕ} 0 1 = cc in omega arith
+served-not s i false number e =
+    by-test (eqb (messageAt s i .used + 1) (costOf (s .set) (messageAt s i)))
+    (λ z. let q : cut (taskOf (s .set) (messageAt s i)) (messageAt s i .stream) (laxityOf (messageAt s i .deadline) (s .clock + 1)) ≡ refused number = rw z at e in let z : _≡_ {A = ℕ} 0 1 = cc in omega arith)
+    (λ z. let q : ran (taskOf (s .set) (messageAt s i)) (messageAt s i .stream) ≡ refused number = rw z at e in let z : _≡_ {A = ℕ} 0 1 = cc in omega arith)
+
+empty-same : (s : State) (done : Bool) (number : ℕ) → unitSays (emptyUnit s done .answer) ≡ refused number → emptyUnit s done .state ≡ s
+unfolding emptyUnit
+empty-same s true number e = refl
+empty-same s false number e = absurd (let z : _≡_ {A = ℕ} 0 1 = cc in omega arith)
+
+empty-no : (s : State) (done : Bool) (number : ℕ) → no-of (unitSays (emptyUnit s done .answer)) ≡ suc number → (done ≡ true) × (number ≡ 3)
+unfolding emptyUnit no-of
+empty-no s true number e = (refl, omega arith)
+empty-no s false number e = absurd (omega arith)
+
 module _ (s : State) (done : Bool) where
-  pub unit-ill : wellFormed s ≡ false → unitOf s done .answer ≡ UnitRefused IllFormed
+  unit-ill : wellFormed s ≡ false → saysToUnit s done ≡ refused 12
   unfolding unitOf
   unit-ill e = rw e
 
-  -- at the last clock a post is accepted, as before it, and a unit is refused
-  pub unit-last : wellFormed s ≡ true → lastClock ≤ s .clock → unitOf s done .answer ≡ UnitRefused LastClock
+  unit-last : wellFormed s ≡ true → lastClock ≤ s .clock → saysToUnit s done ≡ refused 3
   unfolding unitOf
-  unit-last e h = rw (e, le-ltb (s .clock) 4000000000 h)
+  unit-last e h = rw (e, le-ltb (s .clock) lastClock h)
 
   pub unit-empty : wellFormed s ≡ true → s .clock < lastClock → s .count ≡ 0 → unitOf s done ≡ emptyUnit s done
   unfolding unitOf
-  unit-empty e h z = rw (e, lt-ltb (s .clock) 4000000000 h, eq-eqb (s .count) 0 z)
+  unit-empty e h z = rw (e, lt-ltb (s .clock) lastClock h, eq-eqb (s .count) 0 z)
 
   pub unit-served : wellFormed s ≡ true → s .clock < lastClock → (s .count ≡ 0 → ⊥) → unitOf s done ≡ servedOf s (placeOf s) done
   unfolding unitOf
-  unit-served e h z = rw (e, lt-ltb (s .clock) 4000000000 h, ne-eqb (s .count) 0 z)
+  unit-served e h z = rw (e, lt-ltb (s .clock) lastClock h, ne-eqb (s .count) 0 z)
 
-served-never : (s : State) (i : ℕ) (done : Bool) (why : Refusal) → servedOf s i done .answer ≡ UnitRefused why → ⊥
-unfolding servedOf
-served-never s i true why e = differ (cc)
-served-never s i false why e =
-    by-test (eqb (messageAt s i .used + 1) (costOf (s .set) (messageAt s i)))
-    (λ z. let q : Cut (taskOf (s .set) (messageAt s i)) (messageAt s i .stream) (laxityOf (messageAt s i .deadline) (s .clock + 1)) ≡ UnitRefused why = rw z at e in differ (cc))
-    (λ z. let q : Ran (taskOf (s .set) (messageAt s i)) (messageAt s i .stream) ≡ UnitRefused why = rw z at e in differ (cc))
+  unit-done : DoneWithNothing s done → saysToUnit s done ≡ refused 4
+  unfolding emptyUnit
+  unit-done q = rw (unit-empty (q .formed) (q .early) (q .nothing), q .is-done)
 
-empty-same : (s : State) (done : Bool) (why : Refusal) → emptyUnit s done .answer ≡ UnitRefused why → emptyUnit s done .state ≡ s
-unfolding emptyUnit
-empty-same s true why e = refl
-empty-same s false why e = differ (cc)
+  -- the cases, told by what is said
+  module _ {A : Type 0} (n : ℕ) (e : no-of (saysToUnit s done) ≡ suc n) where
+    by-unit : (wellFormed s ≡ false → 12 ≡ suc n → A) → (AtLastClock s → 3 ≡ suc n → A) → (DoneWithNothing s done → 4 ≡ suc n → A) → A
+    unfolding no-of
+    by-unit f g h =
+        by-test (wellFormed s)
+        (λ w. by-test (ltb (s .clock) lastClock)
+        (λ x. by-test (eqb (s .count) 0)
+        (λ z.
+        let y = empty-no s done n (sym (ap (λ r. no-of (unitSays (r .answer))) (unit-empty w (ltb-true (s .clock) lastClock x) (eqb-true (s .count) 0 z))) ∙ e) in
+        h (record { formed = w; early = ltb-true (s .clock) lastClock x; nothing = eqb-true (s .count) 0 z; is-done = y .0 }) (omega (arith, y .1)))
+        (λ z. absurd (omega (
+          arith,
+          e,
+          ap (λ r. no-of (unitSays (r .answer))) (unit-served w (ltb-true (s .clock) lastClock x) (eqb-false (s .count) 0 z)),
+          served-says s (placeOf s) done,
+        ))))
+        (λ x. let q : AtLastClock s = record { formed = w; last = ltb-false (s .clock) lastClock x } in g q (sym (ap no-of (unit-last w (q .last))) ∙ e)))
+        (λ w. f w (sym (ap no-of (unit-ill w)) ∙ e))
 
-empty-why : (s : State) (done : Bool) (why : Refusal) → emptyUnit s done .answer ≡ UnitRefused why → why ≡ NothingPending
-unfolding emptyUnit
-empty-why s true why e = cc
-empty-why s false why e = differ (cc)
+  unit-12 : saysToUnit s done ≡ refused 12 → wellFormed s ≡ false
+  unfolding no-of
+  unit-12 e = by-unit 11 (ap no-of e) (λ w q. w) (λ w q. absurd (omega arith)) (λ w q. absurd (omega arith))
 
-module _ (s : State) (done : Bool) (why : Refusal) (e : unitOf s done .answer ≡ UnitRefused why) where
-  pub unit-refused-same : unitOf s done .state ≡ s
+  unit-3 : saysToUnit s done ≡ refused 3 → AtLastClock s
+  unfolding no-of
+  unit-3 e = by-unit 2 (ap no-of e) (λ w q. absurd (omega arith)) (λ w q. w) (λ w q. absurd (omega arith))
+
+  unit-4 : saysToUnit s done ≡ refused 4 → DoneWithNothing s done
+  unfolding no-of
+  unit-4 e = by-unit 3 (ap no-of e) (λ w q. absurd (omega arith)) (λ w q. absurd (omega arith)) (λ w q. w)
+
+  unit-same : (number : ℕ) → saysToUnit s done ≡ refused number → unitOf s done .state ≡ s
   unfolding unitOf
-  unit-refused-same =
+  unit-same number e =
       by-test (wellFormed s)
-      (λ w. by-test (ltb (s .clock) 4000000000)
+      (λ w. by-test (ltb (s .clock) lastClock)
       (λ h. by-test (eqb (s .count) 0)
-      (λ z. rw (w, h, z) (empty-same s done why (rw (w, h, z) at e)))
-      (λ z. absurd (served-never s (placeOf s) done why (rw (w, h, z) at e))))
+      (λ z. rw (w, h, z) (empty-same s done number (rw (w, h, z) at e)))
+      (λ z. absurd (served-not s (placeOf s) done number (rw (w, h, z) at e))))
       (λ h. rw (w, h)))
       (λ w. rw w)
 
-pub unit-12-only : (s : State) (done : Bool) → unitOf s done .answer ≡ UnitRefused IllFormed → wellFormed s ≡ false
-unfolding unitOf
-unit-12-only s done e =
-    by-test (wellFormed s)
-    (λ w. by-test (ltb (s .clock) 4000000000)
-    (λ h. by-test (eqb (s .count) 0)
-    (λ z. let q = empty-why s done IllFormed (rw (w, h, z) at e) in differ (cc))
-    (λ z. absurd (served-never s (placeOf s) done IllFormed (rw (w, h, z) at e))))
-    (λ h. let q : UnitRefused LastClock ≡ UnitRefused IllFormed = rw (w, h) at e in differ (cc)))
-    (λ w. w)
+pub three : Three
+unfolding Three
+three s done = (unit-3 s done, λ q. unit-last s done (q .formed) (q .last))
+
+pub four : Four
+unfolding Four
+four s done = (unit-4 s done, unit-done s done)
 
 pub twelve : Twelve
 unfolding Twelve
 twelve s = record {
-  post = λ k. post-12-only s k;
-  choose = choose-12-only s;
-  unit = λ done. unit-12-only s done;
-  post-back = λ e k. post-ill s k e;
-  choose-back = λ e. choose-ill s e;
-  unit-back = λ e done. unit-ill s done e;
+  post = λ k. (post-12 s k, post-ill s k);
+  choose = (choose-12 s, choose-ill s);
+  unit = λ done. (unit-12 s done, unit-ill s done);
 }
+
+pub refused-same : RefusedSame
+unfolding RefusedSame callOf
+refused-same s (Posts k) number e = post-same s k number e
+refused-same s (Units done) number e = unit-same s done number e

@@ -1,6 +1,6 @@
 -- Every state that calls from a start can leave is well formed. Assumes nothing.
-use Prim.Native.Nat.{ℕ, zero, suc}
-use mathlib.Core.Bool.{true}
+use Prim.Native.Nat.{ℕ, zero, suc, _+_}
+use mathlib.Core.Bool.{Bool, true}
 use mathlib.Core.List.{List, [], _∷_}
 use mathlib.Core.Path.{_≡_, refl, sym, subst}
 use native.Mathlib.Omega.{arith}
@@ -16,9 +16,14 @@ use Rattle.rules.specs.declared.UnitAnswer.the-variants.{Ran, Finished, Cut, Id
 use Rattle.rules.specs.Streams.{Placed, FourTuples, noStream, emptySet, tupleUnused, streamUnused, valid}
 use Rattle.rules.specs.States.{messagesOk, startedOnce, messageUnused}
 use Rattle.rules.specs.Steps.{fresh, startOf, postOf, unitOf}
-use Rattle.rules.specs.Runs.{Call, posts, units, Run, afterPost, afterUnit, stepOf, begin, runFrom, runOf}
+use Rattle.rules.specs.declared.Call.{Call}
+use Rattle.rules.specs.declared.Call.the-variants.{Posts, Units}
+use Rattle.rules.specs.declared.PostResult.{PostResult}
+use Rattle.rules.specs.declared.UnitResult.{UnitResult}
+use Rattle.rules.specs.Runs.{Run, afterPost, afterUnit, stepOf, begin, runFrom, runOf}
 use Rattle.state_formed.proofs.WellFormed.{well-formed-back}
-use Rattle.promise_steps.specs.Formed.{Formed, StartGives, PostKeeps, UnitKeeps, RunKeeps}
+use Rattle.promise_steps.specs.Formed.{Formed, StartGives, PostKeeps, UnitKeeps, RunKeeps, TimeIsClock}
+use Rattle.promise_steps.proofs.Cases.{PostCase, refuses, accepts, post-case, UnitCase, stops, idles, finishes, cuts, runs, unit-case}
 use Rattle.promise_steps.proofs.Kept.{post-keeps, unit-keeps}
 
 -- ---- the start
@@ -62,8 +67,8 @@ unit-state r s (UnitRefused why) = refl
 
 step-keeps : (r : Run) (c : Call) → Formed (r .state) → Formed (stepOf r c .state)
 unfolding stepOf PostKeeps UnitKeeps
-step-keeps r (posts k) f = subst Formed (sym (post-state r k (postOf (r .state) k .state) (postOf (r .state) k .answer))) (post-keeps (r .state) k f)
-step-keeps r (units done) f = subst Formed (sym (unit-state r (unitOf (r .state) done .state) (unitOf (r .state) done .answer))) (unit-keeps (r .state) done f)
+step-keeps r (Posts k) f = subst Formed (sym (post-state r k (postOf (r .state) k .state) (postOf (r .state) k .answer))) (post-keeps (r .state) k f)
+step-keeps r (Units done) f = subst Formed (sym (unit-state r (unitOf (r .state) done .state) (unitOf (r .state) done .answer))) (unit-keeps (r .state) done f)
 
 from-keeps : (r : Run) (cs : List Call) → Formed (r .state) → Formed (runFrom r cs .state)
 unfolding runFrom
@@ -73,3 +78,34 @@ from-keeps r (c ∷ cs) f = from-keeps (stepOf r c) cs (step-keeps r c f)
 pub run-keeps : RunKeeps
 unfolding RunKeeps runOf begin StartGives
 run-keeps S placed calls = from-keeps (begin S) calls (start-gives S placed)
+
+-- ---- the time is the clock
+
+post-time : (r : Run) (k : ℕ) → r .time ≡ r .state .clock → (q : PostResult) → PostCase (r .state) k q → afterPost r k (q .state) (q .answer) .time ≡ afterPost r k (q .state) (q .answer) .state .clock
+post-time r k e q (refuses why) = e
+post-time r k e q (accepts h room) = e
+
+unit-time : (r : Run) (done : Bool) → r .time ≡ r .state .clock → (u : UnitResult) → UnitCase (r .state) done u → afterUnit r (u .state) (u .answer) .time ≡ afterUnit r (u .state) (u .answer) .state .clock
+unit-time r done e u (stops why) = e
+unit-time r done e u (idles z h) = omega (arith, e)
+unit-time r done e u (finishes v) = omega (arith, e)
+unit-time r done e u (cuts v z) = omega (arith, e)
+unit-time r done e u (runs v z) = omega (arith, e)
+
+pub step-time : (r : Run) (c : Call) → r .time ≡ r .state .clock → stepOf r c .time ≡ stepOf r c .state .clock
+unfolding stepOf
+step-time r (Posts k) e = post-time r k e (postOf (r .state) k) (post-case (r .state) k)
+step-time r (Units done) e = unit-time r done e (unitOf (r .state) done) (unit-case (r .state) done)
+
+from-time : (r : Run) (cs : List Call) → r .time ≡ r .state .clock → runFrom r cs .time ≡ runFrom r cs .state .clock
+unfolding runFrom
+from-time r [] e = e
+from-time r (c ∷ cs) e = from-time (stepOf r c) cs (step-time r c e)
+
+pub begin-time : (S : Set) → begin S .time ≡ begin S .state .clock
+unfolding begin startOf
+begin-time S = by-test (valid S) (λ e. rw e) (λ e. rw e)
+
+pub time-is-clock : TimeIsClock
+unfolding TimeIsClock runOf
+time-is-clock S calls = from-time (begin S) calls (begin-time S)

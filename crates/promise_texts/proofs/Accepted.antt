@@ -22,20 +22,20 @@ use Rattle.rules.specs.Valid.{Between, ValidCycle, ValidPlace}
 use Rattle.sheet_read.proofs.Filled.{cond-elim}
 use Rattle.sheet_write.proofs.Back.{Chain}
 use Rattle.sheet_write.proofs.Accepted.{GoodStream, stream-four, stream-ok, set-ok, set-placed}
-use Rattle.line.specs.Decimal.{letters, readOn}
+use Rattle.ascii.specs.Decimal.{letters, readOn}
 use Rattle.text_line.specs.declared.Fault.{Fault}
 use Rattle.text_line.specs.declared.Fault.the-variants.{NotTask, Task, NotCost, Cost, NotDeadline, Deadline, NotTuple, Cycle, Offset, FiveTuples, LongLine, ManyStreams}
-use Rattle.text_line.specs.declared.Field.{Field}
-use Rattle.text_line.specs.declared.Field.the-variants.{Is, Missing, Outside}
+use Rattle.text_line.specs.declared.NumberRead.{NumberRead}
+use Rattle.text_line.specs.declared.NumberRead.the-variants.{Is, Missing, Outside}
 use Rattle.text_line.specs.declared.TupleRead.{TupleRead}
 use Rattle.text_line.specs.declared.TupleRead.the-variants.{Is as IsTuple, Bad as BadTuple}
-use Rattle.text_line.specs.declared.Said.{Said}
-use Rattle.text_line.specs.declared.Said.the-variants.{Stream as IsStream, Nothing, Bad as BadLine}
+use Rattle.text_line.specs.declared.Meaning.{Meaning}
+use Rattle.text_line.specs.declared.Meaning.the-variants.{Stream as IsStream, Nothing, Bad as BadLine}
 use Rattle.text_line.specs.declared.LineRead.{LineRead}
 use Rattle.text_line.specs.Lines.{digits, startsAt, endedAt, numberAt, fieldAt, byField, byTuple, everyAt, tupleAt, isStream, bad, added, opened, finished, tuplesAt, deadlineAt, costAt, lineRead}
 use Rattle.text_line.specs.Lines as lines
 use Rattle.text_tidy.specs.Tidied.{tidied}
-use Rattle.text_read.specs.declared.Found.the-variants.{Fine, Bad}
+use Rattle.text_read.specs.declared.Finding.the-variants.{Fine, Bad}
 use Rattle.text_read.specs.declared.TextRead.{TextRead}
 use Rattle.text_read.specs.Texts.{firstLine, moreLines, lineSays, bySaid, following, isBad, linesRead, textRead}
 use Rattle.promise_texts.specs.Returns.{Fit, ReadValid}
@@ -48,7 +48,7 @@ module _ {A : Type 0} (P : A → Type 0) (missing outside : A) (next : ℕ → �
       → P (byField (fieldAt w low high l at) missing outside next)
   unfolding fieldAt numberAt endedAt byField
   field-ends w low high l at m o is =
-      let Q : Field → Type 0 = λ f. P (byField f missing outside next) in
+      let Q : NumberRead → Type 0 = λ f. P (byField f missing outside next) in
       let from : ℕ = at + length w in
       let end : ℕ = from + length (digits (drop from l)) in
       let n : ℕ = readOn 0 (digits (drop from l)) in
@@ -153,7 +153,7 @@ lines-end (l ∷ ls) n ss few g =
     (λ h s. lines-end ls (following n) (ss ++ (lineSays (tidied l) .stream ∷ [])) (omega (arith, length-append ss (lineSays (tidied l) .stream ∷ []))) (all-append GoodStream ss (lineSays (tidied l) .stream ∷ []) g (s, tt)))
     (lines-end ls (following n) ss few g)
   where
-    said-ends : (w : Said) (s : Stream) → (w ≡ IsStream → GoodStream s)
+    said-ends : (w : Meaning) (s : Stream) → (w ≡ IsStream → GoodStream s)
         → (length ss < 16 → GoodStream s → Fits (linesRead (following n) (ss ++ (s ∷ [])) ls))
         → Fits (linesRead (following n) ss ls)
         → Fits (bySaid w (cond (ltb (length ss) 16) (linesRead (following n) (ss ++ (s ∷ [])) ls) (isBad n ManyStreams)) (linesRead (following n) ss ls) (λ why. isBad n why))

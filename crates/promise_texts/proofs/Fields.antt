@@ -12,11 +12,11 @@ use borrow.Author.Tests.{le-leb, eq-eqb, ltb-true, ltb-false}
 use Rattle.laws.specs.Lists.{all, within}
 use Rattle.laws.proofs.Sums.{by-test, and-parts}
 use Rattle.laws.proofs.Gates.{all-last}
-use Rattle.line.specs.Decimal.{digitsOf, decimalOf, readOn}
-use Rattle.line.proofs.Back.{digits-back}
-use Rattle.console_names.specs.Rows.{same}
-use Rattle.text_line.specs.declared.Field.the-variants.{Is, Missing}
-use Rattle.text_line.specs.Lines.{isDigit, lead, digits, startsAt, numberAt, fieldAt}
+use Rattle.ascii.specs.Decimal.{digitsOf, decimalOf, readOn, isDigit}
+use Rattle.ascii.proofs.Digits.{digits-back}
+use Rattle.ascii.specs.Same.{same}
+use Rattle.text_line.specs.declared.NumberRead.the-variants.{Is, Missing}
+use Rattle.text_line.specs.Lines.{lead, digits, startsAt, numberAt, fieldAt}
 use Rattle.text_line.proofs.Numbers.{fits}
 
 -- ---- the digits of a number

@@ -20,8 +20,8 @@ use Rattle.rules.specs.Sheet.{streamOf}
 use Rattle.rules.specs.Valid.{ValidCycle, ValidPlace, ValidStream, FirstZero}
 use Rattle.rules.proofs.Valid.{valid-place, valid-stream}
 use Rattle.sheet_write.proofs.Whole.{stream-holds, whole-stream}
-use Rattle.line.specs.Decimal.{letters, decimalOf}
-use Rattle.console_names.specs.Rows.{same}
+use Rattle.ascii.specs.Decimal.{letters, decimalOf}
+use Rattle.ascii.specs.Same.{same}
 use Rattle.text_line.specs.declared.TupleRead.the-variants.{Is as IsTuple}
 use Rattle.text_line.specs.Lines.{lead, digits, tupleText, placeText, streamText, byField, byTuple, everyAt, tupleAt, tuplesAt, added, deadlineAt, costAt, lineRead, isStream}
 use Rattle.text_line.specs.Lines as lines

@@ -15,8 +15,8 @@ use Rattle.rules.specs.declared.Tuple.the-variants.{Once, Every}
 use Rattle.rules.specs.declared.TuplePlace.{TuplePlace}
 use Rattle.rules.specs.declared.Stream.{Stream}
 use Rattle.rules.specs.Streams.{tuplesOf}
-use Rattle.line.specs.Decimal.{letters, decimalOf}
-use Rattle.text_line.specs.Lines.{isDigit, tupleText, placeText, streamText}
+use Rattle.ascii.specs.Decimal.{letters, decimalOf, isDigit}
+use Rattle.text_line.specs.Lines.{tupleText, placeText, streamText}
 use Rattle.text_tidy.specs.Tidied.{isBlank, uncommented, squeezed, tidied}
 use Rattle.text_read.specs.Texts.{isNewline, firstLine, moreLines}
 use Rattle.promise_texts.proofs.Fields.{all-digits, some-digits}

@@ -28,7 +28,7 @@ use Rattle.text_line.specs.Lines.{streamText, lineRead, isStream}
 use Rattle.text_line.proofs.Short.{stream-short}
 use Rattle.text_line.proofs.Judged.{judged-short}
 use Rattle.text_tidy.specs.Tidied.{uncommented, squeezed, tidied}
-use Rattle.text_read.specs.declared.Found.the-variants.{Fine}
+use Rattle.text_read.specs.declared.Finding.the-variants.{Fine}
 use Rattle.text_read.specs.declared.TextRead.{TextRead}
 use Rattle.text_read.specs.Texts.{firstLine, moreLines, lineSays, following, linesRead, textRead}
 use Rattle.text_print.specs.Listed.{lineText, textOf}

@@ -10,9 +10,9 @@ use Rattle.rules.specs.declared.ReadAnswer.the-variants.{Read}
 use Rattle.rules.specs.Streams.{FourTuples, Placed, streamOk, valid}
 use Rattle.rules.specs.Sheet.{sheetOf, readOf}
 use Rattle.laws.proofs.Fields.{AreBytes}
-use Rattle.line.specs.Held.{holding, puts}
+use Rattle.line.specs.Line.{holding, puts}
 use Rattle.text_line.specs.Lines.{streamText, lineRead, judged, isStream}
-use Rattle.text_read.specs.declared.Found.the-variants.{Fine}
+use Rattle.text_read.specs.declared.Finding.the-variants.{Fine}
 use Rattle.text_read.specs.Texts.{textRead}
 use Rattle.text_print.specs.Listed.{textOf}
 

@@ -2,6 +2,7 @@
 -- the first four of document 01's "Ways a cab has gone wrong", each computed from the definitions. The fifth is a row of the yard's second table.
 -- Assumes nothing.
 use Prim.Native.Nat.{ℕ}
+use native.Mathlib.Omega.{arith}
 use mathlib.Core.Bool.{Bool, true, false}
 use mathlib.Core.List.{List, [], _∷_}
 use mathlib.Core.Path.{_≡_, refl}
@@ -13,7 +14,7 @@ use Rattle.rules.specs.Streams.{streamAt, streamsOf, limit}
 use Rattle.rules.specs.Load.{demand}
 use Rattle.rules.specs.Sheet.{setOf}
 use Rattle.rules.specs.declared.Call.the-variants.{Posts, Units}
-use Rattle.rules.specs.Runs.{Accepted, inWindow, answersOf, missedIn}
+use Rattle.rules.specs.Runs.{Accepted, Departure, cut as left-cut, departures, runOf, LeftInTime, inWindow, answersOf, missedIn}
 use Rattle.rules.specs.Numbers.{Says, posted, ran, done, cut, idle, refused}
 use Rattle.rules.proofs.Examples.{setB, stream, each, computed}
 
@@ -52,6 +53,17 @@ cut-at-cost = refl
 pub missed-late : (missedIn short (Posts 0 ∷ Posts 0 ∷ Units false ∷ []) ∷ missedIn short (Posts 0 ∷ Posts 0 ∷ Units false ∷ Units false ∷ []) ∷ []) ≡ (false ∷ true ∷ [])
 unfolding computed
 missed-late = refl
+
+-- "cut at its cost", in time: the first message of c 2, d 2
+abbrev shortCut : Departure
+shortCut = record { number = 0; stream = 0; how = left-cut; used = 2; laxity = pos 0; at = 2 }
+
+pub cut-departs : departures (runOf short (Posts 0 ∷ Units false ∷ Units false ∷ [])) ≡ (shortCut ∷ [])
+unfolding computed
+cut-departs = refl
+
+pub cut-in-time : LeftInTime short (record { number = 0; stream = 0; at = 0 }) shortCut
+cut-in-time = record { same = refl; stream = refl; cost = refl; time = omega arith }
 
 -- "the accepted posts at clocks x to x + I, both ends counted"
 abbrev twenty : List Accepted

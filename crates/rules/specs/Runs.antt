@@ -130,10 +130,14 @@ unfoldable pub stepOf : Run → Call → Run
 stepOf r (Posts k) = afterPost r k (postOf (r .state) k .state) (postOf (r .state) k .answer)
 stepOf r (Units done) = afterUnit r (unitOf (r .state) done .state) (unitOf (r .state) done .answer)
 
--- a fresh start, and a list of calls made one after the other, the first first
-unfoldable pub begin : Set → Run
-begin x = record { state = startOf x .state; time = 0; names = []; events = [] }
+-- a run that begins at a state; a fresh start
+abbrev pub startAt : State → Run
+startAt s = record { state = s; time = 0; names = []; events = [] }
 
+unfoldable pub begin : Set → Run
+begin x = startAt (startOf x .state)
+
+-- a list of calls made one after the other, the first first
 unfoldable pub runFrom : Run → List Call → Run
 runFrom r [] = r
 runFrom r (c ∷ cs) = runFrom (stepOf r c) cs

@@ -20,7 +20,7 @@ use Rattle.rules.specs.declared.Refusal.the-variants.{BitsMissing, Leftover}
 use Rattle.rules.specs.declared.ReadResult.{ReadResult}
 use Rattle.rules.specs.declared.ReadAnswer.the-variants.{Read}
 use Rattle.rules.specs.Sheet.{field, isZero, noSet, readBits, readEnd, readOf, readStream, readStreams, readTuples, setOf, streamOf, tupleOf}
-use Rattle.sheet_write.specs.Long.{LongSheet, enough}
+use Rattle.sheet_write.specs.Long.{LongSheet, longestSheet}
 use Rattle.sheet_write.proofs.Back.{costNext, countNext, cycleNext, deadlineNext, offsetNext, taskNext, tuplesNext, versionNext}
 
 -- a test that stands on both sides
@@ -109,4 +109,4 @@ first-bytes k l h =
 
 pub long-sheet : LongSheet
 unfolding LongSheet
-long-sheet l = first-bytes enough l (omega arith)
+long-sheet l = first-bytes (longestSheet + 1) l (omega arith)

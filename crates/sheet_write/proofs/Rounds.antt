@@ -5,13 +5,13 @@ use mathlib.Core.List.{List, [], _∷_, _++_, append-assoc}
 use mathlib.Core.Path.{_≡_, refl, sym, ap, _∙_, subst}
 use mathlib.Core.Bool.{Bool, true, false, cond, _&&_, false≢true}
 use native.Mathlib.Omega.{arith}
-use lib.ListN.{length, take, drop, length-append}
+use lib.ListN.{length, take, drop, length-append, length-take}
 use lib.Dec.{eqb, leb, ltb}
 use borrow.Author.Tests.{eqb-false, eqb-true, leb-false, leb-true, lt-leb, le-leb, ltb-true, ne-eqb}
-use Rattle.laws.specs.Lists.{All, all, flat}
+use Rattle.laws.specs.Lists.{All, all, any, flat}
 use Rattle.laws.specs.Bits.{bits, bytesFor, pack, toBits, value, zeros}
-use Rattle.laws.proofs.Sums.{and-parts}
-use Rattle.laws.proofs.Fields.{AreBits, AreBytes, IsBit, all-drop, bits-bits, taken-split, toBits-length}
+use Rattle.laws.proofs.Sums.{and-parts, by-test}
+use Rattle.laws.proofs.Fields.{AreBits, AreBytes, IsBit, all-drop, all-replicate, bits-bits, taken-split, toBits-length}
 use Rattle.laws.proofs.Packing.{pack-length, pack-unique}
 use Rattle.rules.specs.declared.Tuple.{Tuple}
 use Rattle.rules.specs.declared.Tuple.the-variants.{Once, Every}
@@ -19,16 +19,20 @@ use Rattle.rules.specs.declared.TuplePlace.{TuplePlace}
 use Rattle.rules.specs.declared.Stream.{Stream}
 use Rattle.rules.specs.declared.Set.{Set}
 use Rattle.rules.specs.declared.Refusal.{Refusal}
-use Rattle.rules.specs.declared.Refusal.the-variants.{NoStream, Full, LastClock, NothingPending, BitsMissing, BadVersion, OutOfRule, LongCycles, BadByte, Leftover, ShortBuffer, IllFormed}
+use Rattle.rules.specs.declared.Refusal.the-variants.{BitsMissing, BadVersion, OutOfRule, Leftover, ShortBuffer}
 use Rattle.rules.specs.declared.ReadResult.{ReadResult}
 use Rattle.rules.specs.declared.ReadAnswer.{ReadAnswer}
 use Rattle.rules.specs.declared.ReadAnswer.the-variants.{Read, Refused}
 use Rattle.rules.specs.declared.WriteAnswer.{WriteAnswer}
 use Rattle.rules.specs.declared.WriteAnswer.the-variants.{Wrote, Refused as NotWritten}
-use Rattle.rules.specs.Streams.{Placed, emptySet, streamsOf, tuplesOf, valid}
+use Rattle.rules.specs.Streams.{FourTuples, Placed, emptySet, noStream, streamsOf, tuplesOf, valid}
 use Rattle.rules.specs.Sheet.{bufferBy, bufferOf, isZero, noSet, placeBits, readBits, readEnd, readOf, setOf, sheetBits, sheetOf, streamBits, tupleBits, writeOf}
-use Rattle.rules.proofs.Valid.{valid-set}
+use Rattle.rules.specs.Numbers.{Says, number, readSays, refused, writeSays, wrote}
+use Rattle.rules.specs.Valid.{ValidSet, ValidStream}
+use Rattle.rules.proofs.Valid.{streams-few, valid-set}
 use Rattle.sheet_read.proofs.Filled.{cond-elim}
+use Rattle.sheet_write.specs.Answers.{Begins, ReadPlaced, ReadRefusals, SixExactly, TenExactly, WriteElevenExactly, WriteSevenExactly, WroteExactly, readingSays}
+use Rattle.sheet_write.specs.Long.{SheetAtMost, longestSheet}
 use Rattle.sheet_write.proofs.Whole.{set-holds, whole-set}
 use Rattle.sheet_write.proofs.Back.{fields-read, read-back, sheet-bits, versionNext, countNext}
 use Rattle.sheet_write.proofs.Accepted.{count-ends, field-ends}
@@ -43,39 +47,29 @@ pub record Accepted (bs : List ℕ) (x : Set) : Type 0 where
   pub few : pads < 8
   pub same : bs ≡ sheetBits x ++ zeros pads
 
--- bits that begin with the fields of a valid set, and end with others
-pub record Begins (bs : List ℕ) : Type 0 where
-  pub set : Set
-  pub ok : valid set ≡ true
-  pub placed : Placed set
-  pub rest : List ℕ
-  pub same : bs ≡ sheetBits set ++ rest
-  pub bad : ltb (length rest) 8 && all isZero rest ≡ false
-
 never : {A : Type 0} → _≡_ {A = ℕ} 0 1 → A
 never e = absurd (omega arith)
 
 -- what holds of every answer to a string of bits
-abbrev ToldWhy : List ℕ → Refusal → Type 0
-ToldWhy bs NoStream = ⊥
-ToldWhy bs Full = ⊥
-ToldWhy bs LastClock = ⊥
-ToldWhy bs NothingPending = ⊥
-ToldWhy bs BitsMissing = Unit {0}
-ToldWhy bs BadVersion = (4 ≤ length bs) × (value (take 4 bs) ≡ 1 → ⊥)
-ToldWhy bs OutOfRule = Unit {0}
-ToldWhy bs LongCycles = ⊥
-ToldWhy bs BadByte = ⊥
-ToldWhy bs Leftover = Begins bs
-ToldWhy bs ShortBuffer = ⊥
-ToldWhy bs IllFormed = ⊥
+record Why (bs : List ℕ) (no : ℕ) : Type 0 where
+  pub one : any (eqb no) (5 ∷ 6 ∷ 7 ∷ 10 ∷ []) ≡ true
+  pub six : no ≡ 6 → (4 ≤ length bs) × (value (take 4 bs) ≡ 1 → ⊥)
+  pub ten : no ≡ 10 → Begins bs
 
 abbrev Told : List ℕ → ReadAnswer → Set → Type 0
 Told bs Read x = Accepted bs x
-Told bs (Refused why) x = (x ≡ emptySet) × ToldWhy bs why
+Told bs (Refused why) x = (x ≡ emptySet) × Why bs (number why)
 
 abbrev Tells : List ℕ → ReadResult → Type 0
 Tells bs r = Told bs (r .answer) (r .set)
+
+missing : (bs : List ℕ) → Tells bs (noSet BitsMissing)
+unfolding any
+missing bs = (refl, record { one = refl; six = λ e. absurd (omega arith); ten = λ e. absurd (omega arith) })
+
+wrong : (bs : List ℕ) → Tells bs (noSet OutOfRule)
+unfolding any
+wrong bs = (refl, record { one = refl; six = λ e. absurd (omega arith); ten = λ e. absurd (omega arith) })
 
 zeros-of : (bs : List ℕ) → all isZero bs ≡ true → bs ≡ zeros (length bs)
 unfolding all
@@ -85,28 +79,28 @@ zeros-of (b ∷ bs) e =
     ap (λ (x : ℕ). x ∷ bs) (eqb-true b 0 (u .0)) ∙ ap (λ (l : List ℕ). 0 ∷ l) (zeros-of bs (u .1))
 
 end-tells : (bs : List ℕ) (x : Set) (rest : List ℕ) → valid x ≡ true → Placed x → bs ≡ sheetBits x ++ rest → Tells bs (readEnd (streamsOf x) rest)
-unfolding readEnd
+unfolding readEnd any
 end-tells bs x rest v p e =
     cond-elim (Tells bs) (ltb (length rest) 8 && all isZero rest) (record { answer = Read; set = setOf (streamsOf x) }) (noSet Leftover)
     (λ t. let u = and-parts (ltb (length rest) 8) (all isZero rest) t in
     subst (Accepted bs) (sym (whole-set x (set-holds x (valid-set x v) p)))
     (record { ok = v; placed = p; pads = length rest; few = ltb-true (length rest) 8 (u .0); same = e ∙ ap (λ (l : List ℕ). sheetBits x ++ l) (zeros-of rest (u .1)) }))
-    (λ t. (refl, record { set = x; ok = v; placed = p; rest = rest; same = e; bad = t }))
+    (λ t. (refl, record { one = refl; six = λ q. absurd (omega arith); ten = λ q. record { set = x; ok = v; placed = p; rest = rest; same = e; bad = t } }))
 
 reading-tells : (bs : List ℕ) → AreBits bs → Tells bs (readBits bs)
-unfolding readBits sheetBits
+unfolding readBits sheetBits any
 reading-tells bs b =
     let v : ℕ = value (take 4 bs) in
-    field-ends (Tells bs) (refl, tt) (refl, tt) 4 bs versionNext
+    field-ends (Tells bs) (missing bs) (wrong bs) 4 bs versionNext
     (λ w. cond-elim (Tells bs) (eqb v 1) _ (noSet BadVersion)
-    (λ e. count-ends (Tells bs) (refl, tt) (refl, tt) (drop 4 bs) (all-drop IsBit 4 bs b)
+    (λ e. count-ends (Tells bs) (missing bs) (wrong bs) (drop 4 bs) (all-drop IsBit 4 bs b)
     (λ x rest k p s.
     end-tells bs x rest k p
     (sym
     (append-assoc (toBits 4 1) (toBits 5 (x .count) ++ flat streamBits (streamsOf x)) rest
     ∙ ap (λ (l : List ℕ). toBits 4 1 ++ l) (append-assoc (toBits 5 (x .count)) (flat streamBits (streamsOf x)) rest ∙ s)
     ∙ ap (λ (n : ℕ). toBits 4 n ++ drop 4 bs) (sym (eqb-true v 1 e)) ∙ taken-split 4 bs b w))))
-    (λ e. (refl, (w, eqb-false v 1 e))))
+    (λ e. (refl, record { one = refl; six = λ q. (w, eqb-false v 1 e); ten = λ q. absurd (omega arith) })))
 
 -- ---- a set and its sheet determine each other
 
@@ -189,78 +183,115 @@ full-length [] h = refl
 full-length (s ∷ ss) h = omega (arith, length-append (streamBits s) (flat streamBits ss), stream-length s, h .0, full-length ss (h .1))
 
 -- "A full sheet is 378 bytes."
-pub full-sheet : (x : Set) → length (streamsOf x) ≡ 16 → All HasFour (streamsOf x) → length (sheetOf x) ≡ 378
+pub full-sheet : (x : Set) → length (streamsOf x) ≡ 16 → All HasFour (streamsOf x) → length (sheetOf x) ≡ longestSheet
 unfolding sheetOf
 full-sheet x n h =
     pack-length (sheetBits x)
     ∙ ap bytesFor (let e : length (sheetBits x) ≡ 3017 = omega (arith, sheet-length x, full-length (streamsOf x) h) in e)
 
+most-length : (ss : List Stream) → All ValidStream ss → length (flat streamBits ss) ≤ 188 * length ss
+unfolding flat
+most-length [] v = omega arith
+most-length (s ∷ ss) v =
+    omega (arith, length-append (streamBits s) (flat streamBits ss), stream-length s, length-take (s .count) (s .tuples), v .0 .count .high, most-length ss (v .1))
+
+pub sheet-at-most : SheetAtMost
+unfolding SheetAtMost sheetOf
+sheet-at-most x ok =
+    let v : ValidSet x = valid-set x ok in
+    omega (arith, pack-length (sheetBits x), sheet-length x, most-length (streamsOf x) (v .streams), streams-few x v)
+
 -- ---- "Given exactly when"
 
--- a refusal comes with the empty set, and is 5, 6, 7 or 10
-pub refused-empty : (s : List ℕ) (why : Refusal) → readOf s .answer ≡ Refused why → readOf s .set ≡ emptySet
+tells : (s : List ℕ) → Told (bits s) (readOf s .answer) (readOf s .set)
 unfolding readOf
-refused-empty s why e = subst (λ (a : ReadAnswer). Told (bits s) a (readOf s .set)) e (reading-tells (bits s) (bits-bits s)) .0
+tells s = reading-tells (bits s) (bits-bits s)
 
-abbrev pub OfSheets : Refusal → Type 0
-OfSheets NoStream = ⊥
-OfSheets Full = ⊥
-OfSheets LastClock = ⊥
-OfSheets NothingPending = ⊥
-OfSheets BitsMissing = Unit {0}
-OfSheets BadVersion = Unit {0}
-OfSheets OutOfRule = Unit {0}
-OfSheets LongCycles = ⊥
-OfSheets BadByte = ⊥
-OfSheets Leftover = Unit {0}
-OfSheets ShortBuffer = ⊥
-OfSheets IllFormed = ⊥
+-- what a refusal's number stands for
+told-why : (bs : List ℕ) (a : ReadAnswer) (x : Set) (no : ℕ) → Told bs a x → readSays a ≡ refused no → (x ≡ emptySet) × Why bs no
+told-why bs Read x n t e = never (cc)
+told-why bs (Refused why) x n t e = (t .0, subst (Why bs) (let q : number why ≡ n = cc in q) (t .1))
 
-of-sheets : (bs : List ℕ) (why : Refusal) → ToldWhy bs why → OfSheets why
-of-sheets bs NoStream t = t
-of-sheets bs Full t = t
-of-sheets bs LastClock t = t
-of-sheets bs NothingPending t = t
-of-sheets bs BitsMissing t = tt
-of-sheets bs BadVersion t = tt
-of-sheets bs OutOfRule t = tt
-of-sheets bs LongCycles t = t
-of-sheets bs BadByte t = t
-of-sheets bs Leftover t = tt
-of-sheets bs ShortBuffer t = t
-of-sheets bs IllFormed t = t
+heard : (s : List ℕ) (no : ℕ) → readingSays s ≡ refused no → (readOf s .set ≡ emptySet) × Why (bits s) no
+heard s n e = told-why (bits s) (readOf s .answer) (readOf s .set) n (tells s) e
 
-pub refusals : (s : List ℕ) (why : Refusal) → readOf s .answer ≡ Refused why → OfSheets why
-unfolding readOf
-refusals s why e = of-sheets (bits s) why (subst (λ (a : ReadAnswer). Told (bits s) a (readOf s .set)) e (reading-tells (bits s) (bits-bits s)) .1)
+pub read-refusals : ReadRefusals
+unfolding ReadRefusals
+read-refusals s n e = record { one = heard s n e .1 .one; empty = heard s n e .0 }
 
--- 6: there are bits for the version, and they are not 1
-pub six-exactly : (s : List ℕ) → readOf s ≡ noSet BadVersion → (4 ≤ length (bits s)) × (value (take 4 (bits s)) ≡ 1 → ⊥)
-unfolding readOf
-six-exactly s e = subst (Tells (bits s)) e (reading-tells (bits s) (bits-bits s)) .1
-
-pub six-given : (s : List ℕ) → 4 ≤ length (bits s) → (value (take 4 (bits s)) ≡ 1 → ⊥) → readOf s ≡ noSet BadVersion
+six-given : (s : List ℕ) → 4 ≤ length (bits s) → (value (take 4 (bits s)) ≡ 1 → ⊥) → readOf s ≡ noSet BadVersion
 unfolding readOf readBits
 six-given s h n = simp (le-leb 4 (length (bits s)) h, ne-eqb (value (take 4 (bits s))) 1 n)
 
--- 10: the bits begin with the fields of a valid set, and what comes behind is not fewer than eight zero bits
-pub ten-exactly : (s : List ℕ) → readOf s ≡ noSet Leftover → Begins (bits s)
-unfolding readOf
-ten-exactly s e = subst (Tells (bits s)) e (reading-tells (bits s) (bits-bits s)) .1
+pub six-exactly : SixExactly
+unfolding SixExactly
+six-exactly s = (λ e. heard s 6 e .1 .six refl, λ h. ap (λ (r : ReadResult). readSays (r .answer)) (six-given s (h .0) (h .1)))
 
-pub ten-given : (s : List ℕ) → Begins (bits s) → readOf s ≡ noSet Leftover
+ten-given : (s : List ℕ) → Begins (bits s) → readOf s ≡ noSet Leftover
 unfolding readOf readEnd
 ten-given s b = ap readBits (b .same) ∙ fields-read (b .set) (b .rest) (valid-set (b .set) (b .ok)) (b .placed) ∙ simp (b .bad)
 
--- writing: 7 exactly for an invalid set, 11 exactly for a valid one whose sheet is longer than the buffer
-pub seven-given : (x : Set) (room : ℕ) → valid x ≡ false → writeOf x room ≡ NotWritten OutOfRule
-unfolding writeOf
-seven-given x room e = simp e
+pub ten-exactly : TenExactly
+unfolding TenExactly
+ten-exactly s = (λ e. heard s 10 e .1 .ten refl, λ b. ap (λ (r : ReadResult). readSays (r .answer)) (ten-given s b))
 
-pub eleven-given : (x : Set) (room : ℕ) → valid x ≡ true → room < length (sheetOf x) → writeOf x room ≡ NotWritten ShortBuffer
-unfolding writeOf
-eleven-given x room e h = simp (e, lt-leb (length (sheetOf x)) room h)
+-- writing: 7 for an invalid set, 11 for a valid one whose sheet is longer than the buffer, else the sheet is written
+module _ (x : Set) (room : ℕ) where
+  seven-given : valid x ≡ false → writeOf x room ≡ NotWritten OutOfRule
+  unfolding writeOf
+  seven-given e = simp e
 
-pub wrote-given : (x : Set) (room : ℕ) → valid x ≡ true → length (sheetOf x) ≤ room → writeOf x room ≡ Wrote (length (sheetOf x))
-unfolding writeOf
-wrote-given x room e h = simp (e, le-leb (length (sheetOf x)) room h)
+  eleven-given : valid x ≡ true → room < length (sheetOf x) → writeOf x room ≡ NotWritten ShortBuffer
+  unfolding writeOf
+  eleven-given e h = simp (e, lt-leb (length (sheetOf x)) room h)
+
+  wrote-given : valid x ≡ true → length (sheetOf x) ≤ room → writeOf x room ≡ Wrote (length (sheetOf x))
+  unfolding writeOf
+  wrote-given e h = simp (e, le-leb (length (sheetOf x)) room h)
+
+  -- what holds of each of the three holds
+  by-writing : {A : Type 0} → (valid x ≡ false → writeOf x room ≡ NotWritten OutOfRule → A)
+      → (valid x ≡ true → room < length (sheetOf x) → writeOf x room ≡ NotWritten ShortBuffer → A)
+      → (valid x ≡ true → length (sheetOf x) ≤ room → writeOf x room ≡ Wrote (length (sheetOf x)) → A) → A
+  by-writing f g h =
+      by-test (valid x)
+      (λ v. by-test (leb (length (sheetOf x)) room) (λ e. let k : length (sheetOf x) ≤ room = leb-true (length (sheetOf x)) room e in h v k (wrote-given v k))
+      (λ e. let k : room < length (sheetOf x) = leb-false (length (sheetOf x)) room e in g v k (eleven-given v k)))
+      (λ v. f v (seven-given v))
+
+abbrev said : WriteAnswer → Says
+said a = writeSays a
+
+pub write-7-exactly : WriteSevenExactly
+unfolding WriteSevenExactly
+write-7-exactly x room = (
+  λ e. by-writing x room (λ v w. v) (λ v k w. let q : refused 11 ≡ refused 7 = sym (ap said w) ∙ e in never (cc)) (λ v k w. let q : wrote (length (sheetOf x)) ≡ refused 7 = sym (ap said w) ∙ e in never (cc)),
+  λ v. ap said (seven-given x room v),
+)
+
+pub write-11-exactly : WriteElevenExactly
+unfolding WriteElevenExactly
+write-11-exactly x room = (
+  λ e. by-writing x room (λ v w. let q : refused 7 ≡ refused 11 = sym (ap said w) ∙ e in never (cc)) (λ v k w. (v, k)) (λ v k w. let q : wrote (length (sheetOf x)) ≡ refused 11 = sym (ap said w) ∙ e in never (cc)),
+  λ h. ap said (eleven-given x room (h .0) (h .1)),
+)
+
+pub wrote-exactly : WroteExactly
+unfolding WroteExactly
+wrote-exactly x room = (
+  λ e. by-writing x room (λ v w. let q : refused 7 ≡ wrote (length (sheetOf x)) = sym (ap said w) ∙ e in never (cc)) (λ v k w. let q : refused 11 ≡ wrote (length (sheetOf x)) = sym (ap said w) ∙ e in never (cc)) (λ v k w. (v, k)),
+  λ h. ap said (wrote-given x room (h .0) (h .1)),
+)
+
+-- ---- what is read has its places
+
+empty-placed : Placed emptySet
+empty-placed = record { sixteen = refl; four = all-replicate FourTuples 16 noStream refl }
+
+told-placed : (bs : List ℕ) (a : ReadAnswer) (x : Set) → Told bs a x → Placed x
+told-placed bs Read x t = t .placed
+told-placed bs (Refused why) x t = subst Placed (sym (t .0)) empty-placed
+
+pub read-placed : ReadPlaced
+unfolding ReadPlaced
+read-placed s = told-placed (bits s) (readOf s .answer) (readOf s .set) (tells s)

@@ -1,2 +1,3 @@
 pub mod Writer
 pub mod Long
+pub mod Answers

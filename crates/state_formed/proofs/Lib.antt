@@ -1,4 +1,4 @@
 pub mod WellFormed
 pub mod Standing
-pub mod Tally
+pub mod Counted
 pub mod Pass

@@ -19,7 +19,7 @@ use Rattle.rules.specs.Streams.{streamAt, noStream}
 use Rattle.rules.specs.States.{noMessage, pending, taskOf, postedAt, messageOk, messagesOk, startedOnce, messageUnused}
 use Rattle.state_formed.specs.InRange.{restFormed}
 use Rattle.state_formed.proofs.Standing.{message-out, message-beyond, message-by}
-use Rattle.state_formed.proofs.Tally.{Tally, tally-start, tally-past, tally-go, tally-no, tally-end}
+use Rattle.state_formed.proofs.Counted.{Counted, counted-start, counted-past, counted-go, counted-no, counted-end}
 use Rattle.state_formed.proofs.WellFormed.{blank, no-test}
 
 -- what was tested before the first message: how many messages there are, and the clock; and what the types say
@@ -34,11 +34,11 @@ pub record Pass (s : State) (k before : ℕ) (counts : List ℕ) : Type 0 where
   pub opened : Opened s
   pub here : k ≤ s .count
   pub left : scan (messageOk (s .set) (s .clock)) (postedAt (s .set)) before (part k (s .count) (s .messages)) ≡ messagesOk (s .set) (s .clock) (pending s)
-  pub tally : Tally (s .set) (s .messages) (s .count) k counts
+  pub counted : Counted (s .set) (s .messages) (s .count) k counts
 
 pub pass-start : (s : State) → Opened s → Pass s 0 0 (replicate 16 0)
 unfolding messagesOk
-pass-start s o = record { opened = o; here = omega arith; left = rw (part-all (s .messages) (s .count)) refl; tally = tally-start (s .set) (s .messages) (s .count) }
+pass-start s o = record { opened = o; here = omega arith; left = rw (part-all (s .messages) (s .count)) refl; counted = counted-start (s .set) (s .messages) (s .count) }
 
 module _ (s : State) (k before : ℕ) (counts : List ℕ) (inv : Pass s k before counts) (h : k < s .count) where
   -- the message at k
@@ -90,18 +90,18 @@ module _ (s : State) (k before : ℕ) (counts : List ℕ) (inv : Pass s k before
 
       -- it is good: the started ones of its task are counted with it in the end
       module _ (e : ok ≡ true) where
-        next : (counts′ : List ℕ) → Tally (s .set) (s .messages) (s .count) (k + 1) counts′ → Pass s (k + 1) at counts′
+        next : (counts′ : List ℕ) → Counted (s .set) (s .messages) (s .count) (k + 1) counts′ → Pass s (k + 1) at counts′
         next counts′ t = record {
           opened = inv .opened;
           here = omega arith;
           left =
               scan-go (messageOk (s .set) (s .clock)) (postedAt (s .set)) (s .messages) (s .count) k before at _ noMessage m (inv .left) refl
               (e₁ ∙ ap (λ (x : Stream). m .deadline - x .deadline) read) (sym same ∙ e) h inside;
-          tally = t;
+          counted = t;
         }
 
         pub pass-past : (ltb 0 (m .used) && ltb (y .task) 16) ≡ false → Pass s (k + 1) at counts
-        pass-past q = next counts (tally-past (s .set) (s .messages) (s .count) k counts m (y .task) (inv .tally) refl task h inside q)
+        pass-past q = next counts (counted-past (s .set) (s .messages) (s .count) k counts m (y .task) (inv .counted) refl task h inside q)
 
         module _ (q : (ltb 0 (m .used) && ltb (y .task) 16) ≡ true) where
           begun : 0 < m .used
@@ -111,10 +111,10 @@ module _ (s : State) (k before : ℕ) (counts : List ℕ) (inv : Pass s k before
           pass-task = ltb-true _ _ (and-parts (ltb 0 (m .used)) (ltb (y .task) 16) q .1)
 
           pub pass-twice : 0 < getD counts (y .task) 0 → false ≡ restFormed s
-          pass-twice f = no-test s 3 (sym (tally-no (s .set) (s .messages) (s .count) k counts m (y .task) (inv .tally) refl task h inside begun pass-task f))
+          pass-twice f = no-test s 3 (sym (counted-no (s .set) (s .messages) (s .count) k counts m (y .task) (inv .counted) refl task h inside begun pass-task f))
 
           pub pass-go : getD counts (y .task) 0 ≤ 0 → Pass s (k + 1) at (set counts (y .task) 1)
-          pass-go f = next (set counts (y .task) 1) (tally-go (s .set) (s .messages) (s .count) k counts m (y .task) (inv .tally) refl task h inside begun pass-task f)
+          pass-go f = next (set counts (y .task) 1) (counted-go (s .set) (s .messages) (s .count) k counts m (y .task) (inv .counted) refl task h inside begun pass-task f)
 
 -- all messages have passed: only the places behind them are left
 pub record Passed (s : State) : Type 0 where
@@ -126,7 +126,7 @@ pub pass-end : (s : State) (k before : ℕ) (counts : List ℕ) → Pass s k bef
 pass-end s k before counts inv h = record {
   opened = inv .opened;
   each = sym (scan-end (messageOk (s .set) (s .clock)) (postedAt (s .set)) (s .messages) (s .count) k before _ (inv .left) (inl h));
-  once = sym (tally-end (s .set) (s .messages) (s .count) k counts (inv .tally) h);
+  once = sym (counted-end (s .set) (s .messages) (s .count) k counts (inv .counted) h);
 }
 
 pub last-test : (s : State) (r : Bool) → Passed s → r ≡ all messageUnused (drop (s .count) (s .messages)) → r ≡ restFormed s

@@ -10,9 +10,10 @@ use lib.Dec.{eqb}
 use borrow.Author.Tests.{eq-eqb, ne-eqb}
 use Rattle.laws.proofs.Sums.{by-test}
 use Rattle.line.specs.declared.Line.{Line}
-use Rattle.line.specs.Decimal.{letters, decimalOf, spaced}
-use Rattle.line.specs.Held.{holding, putOf, puts}
-use Rattle.line.proofs.Puts.{then, last, single, holds, digits-short}
+use Rattle.ascii.specs.Decimal.{letters, decimalOf, spaced}
+use Rattle.line.specs.Line.{holding, putOf, puts}
+use Rattle.ascii.proofs.Digits.{digits-short}
+use Rattle.line.proofs.Puts.{then, last, single, holds}
 use Rattle.text_line.specs.declared.Fault.{Fault}
 use Rattle.text_line.specs.declared.Fault.the-variants.{NotTask, Task, NotCost, Cost, NotDeadline, Deadline, NotTuple, Cycle, Offset, FiveTuples, LongLine, ManyStreams}
 use Rattle.text_faults.specs.Notes.{faultWords, faultLine, plural, madeLine}

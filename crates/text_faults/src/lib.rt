@@ -1,6 +1,6 @@
 // What `sheet_text` prints: what is wrong with a text and where, or what was made of it.
 ghost use mathlib.Core.Path.{_≡_};
-ghost use Rattle.line.specs.Held.{holding, puts};
+ghost use Rattle.line.specs.Line.{holding, puts};
 ghost use Rattle.text_faults.specs.Notes.{faultWords, faultLine, plural, madeLine};
 use line::Line;
 use text_line::Fault;

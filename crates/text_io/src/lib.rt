@@ -9,7 +9,7 @@ use rules::Set;
 use rules::Verdict;
 use rules::WriteAnswer;
 use text_read::Draft;
-use text_read::Found;
+use text_read::Finding;
 use text_read::TextRead;
 
 fn refuse(why: Refusal) -> bool {
@@ -153,8 +153,8 @@ pub fn make() -> bool {
     let found = r.found;
     let set = r.set;
     match found {
-        Found::Fine => keep(set),
-        Found::Bad(n, why) => file_io::say(text_faults::fault_line(n, why)),
+        Finding::Fine => keep(set),
+        Finding::Bad(n, why) => file_io::say(text_faults::fault_line(n, why)),
     }
 }
 
@@ -180,8 +180,8 @@ fn told(r: TextRead) -> bool {
     let found = r.found;
     let set = r.set;
     match found {
-        Found::Fine => print_both(set),
-        Found::Bad(n, why) => file_io::say(text_faults::fault_line(n, why)),
+        Finding::Fine => print_both(set),
+        Finding::Bad(n, why) => file_io::say(text_faults::fault_line(n, why)),
     }
 }
 

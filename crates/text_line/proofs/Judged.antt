@@ -12,7 +12,7 @@ use borrow.Author.Tests.{lt-ltb, le-ltb, ltb-true, ltb-false}
 use Rattle.laws.proofs.Sums.{by-test}
 use Rattle.laws.specs.Bits.{zeros}
 use Rattle.line.specs.declared.Line.{Line}
-use Rattle.line.specs.Held.{holding, putOf, puts}
+use Rattle.line.specs.Line.{holding, putOf, puts}
 use Rattle.line.proofs.Puts.{holds}
 use Rattle.text_line.specs.declared.Fault.the-variants.{LongLine}
 use Rattle.text_line.specs.Lines.{lineRead, judged, bad}

@@ -10,11 +10,11 @@ use lib.ListN.{length, getD, take, drop, drop-of-length-le}
 use lib.Seq.{drop-cons}
 use lib.Dec.{leb, eqb}
 use borrow.Author.Tests.{le-leb, lt-leb, eq-eqb, ne-eqb, leb-true, leb-false}
-use Rattle.line.specs.Decimal.{readOn}
-use Rattle.console_names.specs.Rows.{same}
-use Rattle.text_line.specs.declared.Field.{Field}
-use Rattle.text_line.specs.declared.Field.the-variants.{Is, Missing, Outside}
-use Rattle.text_line.specs.Lines.{isDigit, lead, digits, startsAt, endedAt, numberAt, fieldAt}
+use Rattle.ascii.specs.Decimal.{readOn, isDigit}
+use Rattle.ascii.specs.Same.{same}
+use Rattle.text_line.specs.declared.NumberRead.{NumberRead}
+use Rattle.text_line.specs.declared.NumberRead.the-variants.{Is, Missing, Outside}
+use Rattle.text_line.specs.Lines.{lead, digits, startsAt, endedAt, numberAt, fieldAt}
 
 and-false : (t : Bool) → (t && false) ≡ false
 and-false true = refl
@@ -98,17 +98,17 @@ pub begun : (l : List ℕ) (at : ℕ) → Reading l at 0 at
 begun l at = record { small = omega arith; from = omega arith; value = refl; end = refl }
 
 module _ (l : List ℕ) (low high at n i : ℕ) (have : Reading l at n i) where
-  stops : (r : Field) → digits (drop i l) ≡ [] → r ≡ endedAt low high at i n → r ≡ numberAt low high l at
+  stops : (r : NumberRead) → digits (drop i l) ≡ [] → r ≡ endedAt low high at i n → r ≡ numberAt low high l at
   unfolding numberAt readOn
   stops r e h =
       let a : n ≡ readOn 0 (digits (drop at l)) = rw e at (have .value) in
       let b : i ≡ at + length (digits (drop at l)) = omega (arith, ap length e, have .end) in
       rw (← b, ← a) h
 
-  pub stop-here : (r : Field) → i < length l → isDigit (getD l i 0) ≡ false → r ≡ endedAt low high at i n → r ≡ numberAt low high l at
+  pub stop-here : (r : NumberRead) → i < length l → isDigit (getD l i 0) ≡ false → r ≡ endedAt low high at i n → r ≡ numberAt low high l at
   stop-here r h e = stops r (lead-stop isDigit l i h e)
 
-  pub stop-end : (r : Field) → length l ≤ i → r ≡ endedAt low high at i n → r ≡ numberAt low high l at
+  pub stop-end : (r : NumberRead) → length l ≤ i → r ≡ endedAt low high at i n → r ≡ numberAt low high l at
   stop-end r h = stops r (lead-end isDigit l i h)
 
   module _ (d : ℕ) (h : i < length l) (t : isDigit (getD l i 0) ≡ true) (e : d ≡ getD l i 0 - 48) where
@@ -132,7 +132,7 @@ module _ (l : List ℕ) (low high at n i : ℕ) (have : Reading l at n i) where
 -- ---- a word with a number behind it
 
 module _ (w : List ℕ) (low high : ℕ) (l : List ℕ) (at : ℕ) (t : Bool) (s : t ≡ startsAt w l at) where
-  pub field-there : (r : Field) → t ≡ true → r ≡ numberAt low high l (at + length w) → r ≡ fieldAt w low high l at
+  pub field-there : (r : NumberRead) → t ≡ true → r ≡ numberAt low high l (at + length w) → r ≡ fieldAt w low high l at
   unfolding fieldAt
   field-there r e h = rw (sym s ∙ e) h
 

@@ -18,7 +18,7 @@ use Rattle.rules.specs.declared.Stream.{Stream}
 use Rattle.rules.specs.Streams.{offset, tuplesOf, streamOk}
 use Rattle.rules.specs.Valid.{Between, ValidCycle, ValidPlace, ValidStream}
 use Rattle.rules.proofs.Valid.{valid-stream}
-use Rattle.line.specs.Decimal.{letters, digitsOf, decimalOf}
+use Rattle.ascii.specs.Decimal.{letters, digitsOf, decimalOf}
 use Rattle.text_line.specs.Lines.{tupleText, placeText, streamText}
 
 -- a number below a power of ten has no more digits than the power has noughts

@@ -9,7 +9,7 @@ use Rattle.laws.specs.Lists.{flat}
 use Rattle.laws.proofs.Parts.{part, part-cons, part-nil}
 use Rattle.rules.specs.declared.TuplePlace.{TuplePlace}
 use Rattle.line.specs.declared.Line.{Line}
-use Rattle.line.specs.Held.{holding, puts}
+use Rattle.line.specs.Line.{holding, puts}
 use Rattle.line.proofs.Puts.{puts-append}
 use Rattle.text_line.specs.Lines.{placeText}
 

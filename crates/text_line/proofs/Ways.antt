@@ -13,21 +13,21 @@ use Rattle.rules.specs.declared.Stream.{Stream}
 use Rattle.rules.specs.Streams.{offset}
 use Rattle.text_line.specs.declared.Fault.{Fault}
 use Rattle.text_line.specs.declared.Fault.the-variants.{FiveTuples}
-use Rattle.text_line.specs.declared.Field.{Field}
-use Rattle.text_line.specs.declared.Field.the-variants.{Is, Missing, Outside}
+use Rattle.text_line.specs.declared.NumberRead.{NumberRead}
+use Rattle.text_line.specs.declared.NumberRead.the-variants.{Is, Missing, Outside}
 use Rattle.text_line.specs.declared.TupleRead.{TupleRead}
 use Rattle.text_line.specs.declared.TupleRead.the-variants.{Is as IsTuple, Bad as BadTuple}
 use Rattle.text_line.specs.declared.LineRead.{LineRead}
 use Rattle.rules.specs.Streams.{noStream}
 use Rattle.line.specs.declared.Line.{Line}
-use Rattle.line.specs.Decimal.{letters}
-use Rattle.text_line.specs.declared.Said.the-variants.{Nothing}
+use Rattle.ascii.specs.Decimal.{letters}
+use Rattle.text_line.specs.declared.Meaning.the-variants.{Nothing}
 use Rattle.text_line.specs.declared.Fault.the-variants.{NotTask, Task, LongLine}
 use Rattle.text_line.specs.Lines.{fieldAt, costAt, lineRead, judged, byField, byTuple, bad, finished, added, tupleAt, tuplesAt}
 
-module _ {A : Type 0} (x y : A) (g : ℕ → ℕ → A) (r : A) (v f : Field) (p : v ≡ f) where
-  by : (w : Field) → v ≡ w → byField f x y g ≡ byField w x y g
-  by w q = ap (λ (z : Field). byField z x y g) (sym p ∙ q)
+module _ {A : Type 0} (x y : A) (g : ℕ → ℕ → A) (r : A) (v f : NumberRead) (p : v ≡ f) where
+  by : (w : NumberRead) → v ≡ w → byField f x y g ≡ byField w x y g
+  by w q = ap (λ (z : NumberRead). byField z x y g) (sym p ∙ q)
 
   pub way-is : (n e : ℕ) → v ≡ Is n e → r ≡ g n e → r ≡ byField f x y g
   unfolding byField

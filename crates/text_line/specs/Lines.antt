@@ -13,16 +13,17 @@ use Rattle.rules.specs.declared.TuplePlace.{TuplePlace}
 use Rattle.rules.specs.declared.Stream.{Stream as StreamT}
 use Rattle.rules.specs.Streams.{noStream, offset, tuplesOf}
 use Rattle.line.specs.declared.Line.{Line}
-use Rattle.line.specs.Decimal.{letters, decimalOf, readOn}
-use Rattle.console_names.specs.Rows.{same}
+use Rattle.line.specs.Line.{lineRoom}
+use Rattle.ascii.specs.Decimal.{letters, decimalOf, readOn, isDigit}
+use Rattle.ascii.specs.Same.{same}
 use Rattle.text_line.specs.declared.Fault.{Fault}
 use Rattle.text_line.specs.declared.Fault.the-variants.{NotTask, Task, NotCost, Cost, NotDeadline, Deadline, NotTuple, Cycle, Offset, FiveTuples, LongLine}
-use Rattle.text_line.specs.declared.Field.{Field}
-use Rattle.text_line.specs.declared.Field.the-variants.{Is, Missing, Outside}
+use Rattle.text_line.specs.declared.NumberRead.{NumberRead}
+use Rattle.text_line.specs.declared.NumberRead.the-variants.{Is, Missing, Outside}
 use Rattle.text_line.specs.declared.TupleRead.{TupleRead}
 use Rattle.text_line.specs.declared.TupleRead.the-variants.{Is as IsTuple, Bad as BadTuple}
-use Rattle.text_line.specs.declared.Said.{Said}
-use Rattle.text_line.specs.declared.Said.the-variants.{Stream, Nothing, Bad}
+use Rattle.text_line.specs.declared.Meaning.{Meaning}
+use Rattle.text_line.specs.declared.Meaning.the-variants.{Stream, Nothing, Bad}
 use Rattle.text_line.specs.declared.LineRead.{LineRead}
 
 -- ---- the line of a stream
@@ -43,9 +44,6 @@ streamText s =
 
 -- ---- reading a line: l is the line, `at` the place where reading goes on
 
-abbrev pub isDigit : ℕ → Bool
-isDigit b = within (code "0") b (code "9")
-
 -- the bytes at the front that pass a test; the digits there
 unfoldable pub lead : (ℕ → Bool) → List ℕ → List ℕ
 lead p [] = []
@@ -59,20 +57,20 @@ unfoldable pub startsAt : List ℕ → List ℕ → ℕ → Bool
 startsAt w l at = leb (at + length w) (length l) && same (take (length w) (drop at l)) w
 
 -- a number whose digits stand from `at` to `end` and say n
-unfoldable pub endedAt : ℕ → ℕ → ℕ → ℕ → ℕ → Field
+unfoldable pub endedAt : ℕ → ℕ → ℕ → ℕ → ℕ → NumberRead
 endedAt low high at end n = cond (eqb end at) Missing (cond (within low n high) (Is n end) Outside)
 
 -- a number from low to high: as many digits as stand there, and at least one
-unfoldable pub numberAt : ℕ → ℕ → List ℕ → ℕ → Field
+unfoldable pub numberAt : ℕ → ℕ → List ℕ → ℕ → NumberRead
 numberAt low high l at = endedAt low high at (at + length (digits (drop at l))) (readOn 0 (digits (drop at l)))
 
 -- the word w, and a number from low to high behind it
-unfoldable pub fieldAt : List ℕ → ℕ → ℕ → List ℕ → ℕ → Field
+unfoldable pub fieldAt : List ℕ → ℕ → ℕ → List ℕ → ℕ → NumberRead
 fieldAt w low high l at = cond (startsAt w l at) (numberAt low high l (at + length w)) Missing
 
 -- what a field leads to: on with its number, or what to answer
 module _ {A : Type 0} where
-  unfoldable pub byField : Field → A → A → (ℕ → ℕ → A) → A
+  unfoldable pub byField : NumberRead → A → A → (ℕ → ℕ → A) → A
   byField (Is n end) missing outside next = next n end
   byField Missing missing outside next = missing
   byField Outside missing outside next = outside
@@ -137,6 +135,6 @@ lineRead l =
     cond (eqb (length l) 0) (record { said = Nothing; stream = noStream })
     (byField (fieldAt (letters "task ") 0 15 l 0) (bad NotTask) (bad Task) (λ task end. costAt task l end))
 
--- a line with all its 128 places used is longer than any stream's
+-- a line with all its places used is longer than any stream's
 unfoldable pub judged : Line → LineRead
-judged l = cond (ltb (l .len) 128) (lineRead (take (l .len) (l .bytes))) (bad LongLine)
+judged l = cond (ltb (l .len) lineRoom) (lineRead (take (l .len) (l .bytes))) (bad LongLine)

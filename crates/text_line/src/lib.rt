@@ -5,8 +5,8 @@ ghost use Prim.Native.Nat.{_-_, _≤_};
 ghost use lib.ListN.{drop, take};
 ghost use Rattle.laws.specs.Lists.{flat};
 ghost use Rattle.rules.specs.Streams.{tuplesOf, noTuple, noStream};
-ghost use Rattle.line.specs.Held.{holding, puts};
-ghost use Rattle.text_line.specs.Lines.{isDigit, startsAt, endedAt, numberAt, fieldAt, offsetAt, everyAt, tupleAt, opened, added, isStream, bad, finished, tuplesAt, deadlineAt, costAt, lineRead, judged, placeText, streamText};
+ghost use Rattle.line.specs.Line.{holding, puts};
+ghost use Rattle.text_line.specs.Lines.{startsAt, endedAt, numberAt, fieldAt, offsetAt, everyAt, tupleAt, opened, added, isStream, bad, finished, tuplesAt, deadlineAt, costAt, lineRead, judged, placeText, streamText};
 use line::Line;
 use rules::Stream;
 use rules::Tuple;
@@ -29,7 +29,7 @@ pub enum Fault {
 }
 
 // A word with a number behind it: the number and where it ends.
-pub enum Field {
+pub enum NumberRead {
     Is(u32, usize),
     Missing,
     Outside,
@@ -42,14 +42,14 @@ pub enum TupleRead {
 }
 
 // What a line says. The stream stands beside it, none where the line says another thing.
-pub enum Said {
+pub enum Meaning {
     Stream,
     Nothing,
     Bad(Fault),
 }
 
 pub struct LineRead {
-    pub said: Said,
+    pub said: Meaning,
     pub stream: Stream,
 }
 
@@ -66,51 +66,39 @@ fn starts(line: &[u8], at: usize, w: &[u8]) -> bool
         return false;
     }
     let end = at + w.len();
-    console_names::same(&line[at..end], w)
-}
-
-fn is_digit(b: u8) -> bool
-    ensures { λ r. ⌜ r ≡ isDigit b ⌝ }
-{
-    (48 <= b) & (b <= 57)
-}
-
-fn digit_of(b: u8) -> u64
-    ensures { λ r. ⌜ r ≡ b - 48 ⌝ }
-{
-    if b < 48 { 0 } else { (b - 48) as u64 }
+    ascii::same(&line[at..end], w)
 }
 
 // A number whose digits stand from `at` to `end`.
-fn ended(at: usize, end: usize, n: u64, low: u32, high: u32) -> Field
+fn ended(at: usize, end: usize, n: u64, low: u32, high: u32) -> NumberRead
     ensures { λ r. ⌜ r ≡ endedAt low high at end n ⌝ }
 {
     if end == at {
-        return Field::Missing;
+        return NumberRead::Missing;
     }
     if n < low as u64 {
-        return Field::Outside;
+        return NumberRead::Outside;
     }
     if n <= high as u64 {
-        Field::Is(n as u32, end)
+        NumberRead::Is(n as u32, end)
     } else {
-        Field::Outside
+        NumberRead::Outside
     }
 }
 
-fn number_at(line: &[u8], at: usize, low: u32, high: u32) -> Field
+fn number_at(line: &[u8], at: usize, low: u32, high: u32) -> NumberRead
     ensures { λ r. ⌜ r ≡ numberAt low high (now (line .entry)) at ⌝ }
 {
     let mut n: u64 = 0;
     let mut i = at;
     while i < line.len() {
         let b = line[i];
-        if !is_digit(b) {
+        if !ascii::is_digit(b) {
             return ended(at, i, n, low, high);
         }
-        n = n * 10 + digit_of(b);
+        n = n * 10 + ascii::digit_of(b);
         if 4294967295 < n {
-            return Field::Outside;
+            return NumberRead::Outside;
         }
         i += 1;
     }
@@ -118,13 +106,13 @@ fn number_at(line: &[u8], at: usize, low: u32, high: u32) -> Field
 }
 
 // The word w, and behind it a number from low to high.
-fn field_at(line: &[u8], at: usize, w: &[u8], low: u32, high: u32) -> Field
+fn field_at(line: &[u8], at: usize, w: &[u8], low: u32, high: u32) -> NumberRead
     ensures { λ r. ⌜ r ≡ fieldAt (now (w .entry)) low high (now (line .entry)) at ⌝ }
 {
     if starts(line, at, w) {
         number_at(line, at + w.len(), low, high)
     } else {
-        Field::Missing
+        NumberRead::Missing
     }
 }
 
@@ -132,9 +120,9 @@ fn offset_at(line: &[u8], at: usize, z: u32, low: u32, high: u32) -> TupleRead
     ensures { λ r. ⌜ r ≡ offsetAt z low high (now (line .entry)) at ⌝ }
 {
     match field_at(line, at, b"@", low, high) {
-        Field::Is(a, end) => TupleRead::Is(Tuple::Every(z, a), end),
-        Field::Missing => TupleRead::Bad(Fault::NotTuple),
-        Field::Outside => TupleRead::Bad(Fault::Offset),
+        NumberRead::Is(a, end) => TupleRead::Is(Tuple::Every(z, a), end),
+        NumberRead::Missing => TupleRead::Bad(Fault::NotTuple),
+        NumberRead::Outside => TupleRead::Bad(Fault::Offset),
     }
 }
 
@@ -142,9 +130,9 @@ fn every_at(line: &[u8], at: usize, low: u32, high: u32) -> TupleRead
     ensures { λ r. ⌜ r ≡ everyAt low high (now (line .entry)) at ⌝ }
 {
     match field_at(line, at, b" every ", 1, 1000000) {
-        Field::Is(z, end) => offset_at(line, end, z, low, high),
-        Field::Missing => TupleRead::Bad(Fault::NotTuple),
-        Field::Outside => TupleRead::Bad(Fault::Cycle),
+        NumberRead::Is(z, end) => offset_at(line, end, z, low, high),
+        NumberRead::Missing => TupleRead::Bad(Fault::NotTuple),
+        NumberRead::Outside => TupleRead::Bad(Fault::Cycle),
     }
 }
 
@@ -153,9 +141,9 @@ fn tuple_at(line: &[u8], at: usize, low: u32, high: u32) -> TupleRead
     ensures { λ r. ⌜ r ≡ tupleAt low high (now (line .entry)) at ⌝ }
 {
     match field_at(line, at, b" once@", low, high) {
-        Field::Is(a, end) => TupleRead::Is(Tuple::Once(a), end),
-        Field::Missing => every_at(line, at, low, high),
-        Field::Outside => TupleRead::Bad(Fault::Offset),
+        NumberRead::Is(a, end) => TupleRead::Is(Tuple::Once(a), end),
+        NumberRead::Missing => every_at(line, at, low, high),
+        NumberRead::Outside => TupleRead::Bad(Fault::Offset),
     }
 }
 
@@ -183,7 +171,7 @@ fn stream_read(s: Stream) -> LineRead
     ensures { λ r. ⌜ r ≡ isStream s ⌝ }
 {
     LineRead {
-        said: Said::Stream,
+        said: Meaning::Stream,
         stream: s,
     }
 }
@@ -193,7 +181,7 @@ fn bad_line(why: Fault) -> LineRead
 {
     let s = no_stream();
     LineRead {
-        said: Said::Bad(why),
+        said: Meaning::Bad(why),
         stream: s,
     }
 }
@@ -263,9 +251,9 @@ fn deadline_at(line: &[u8], at: usize, task: u32, cost: u32) -> LineRead
     ensures { λ r. ⌜ r ≡ deadlineAt task cost (now (line .entry)) at ⌝ }
 {
     match field_at(line, at, b" deadline ", 1, 200000) {
-        Field::Is(d, end) => tuples(line, end, open(task, cost, d), 0, 0, 4),
-        Field::Missing => bad_line(Fault::NotDeadline),
-        Field::Outside => bad_line(Fault::Deadline),
+        NumberRead::Is(d, end) => tuples(line, end, open(task, cost, d), 0, 0, 4),
+        NumberRead::Missing => bad_line(Fault::NotDeadline),
+        NumberRead::Outside => bad_line(Fault::Deadline),
     }
 }
 
@@ -273,9 +261,9 @@ fn cost_at(line: &[u8], at: usize, task: u32) -> LineRead
     ensures { λ r. ⌜ r ≡ costAt task (now (line .entry)) at ⌝ }
 {
     match field_at(line, at, b" cost ", 1, 65535) {
-        Field::Is(c, end) => deadline_at(line, end, task, c),
-        Field::Missing => bad_line(Fault::NotCost),
-        Field::Outside => bad_line(Fault::Cost),
+        NumberRead::Is(c, end) => deadline_at(line, end, task, c),
+        NumberRead::Missing => bad_line(Fault::NotCost),
+        NumberRead::Outside => bad_line(Fault::Cost),
     }
 }
 
@@ -286,24 +274,24 @@ pub fn read_line(line: &[u8]) -> LineRead
     if line.len() == 0 {
         let s = no_stream();
         return LineRead {
-            said: Said::Nothing,
+            said: Meaning::Nothing,
             stream: s,
         };
     }
     match field_at(line, 0, b"task ", 0, 15) {
-        Field::Is(task, end) => cost_at(line, end, task),
-        Field::Missing => bad_line(Fault::NotTask),
-        Field::Outside => bad_line(Fault::Task),
+        NumberRead::Is(task, end) => cost_at(line, end, task),
+        NumberRead::Missing => bad_line(Fault::NotTask),
+        NumberRead::Outside => bad_line(Fault::Task),
     }
 }
 
-// What the bytes of a line say; a line with all its 128 places used is longer than any stream's.
+// What the bytes of a line say; a line with all its places used is longer than any stream's.
 pub fn judge(l: Line) -> LineRead
     ensures { λ r. ⌜ r ≡ judged l ⌝ }
 {
     let n = l.len;
     let bytes = l.bytes;
-    if n < 128 {
+    if n < line::ROOM {
         read_line(&bytes[..n])
     } else {
         bad_line(Fault::LongLine)

@@ -20,7 +20,7 @@ use Rattle.rules.specs.declared.WriteAnswer.{WriteAnswer}
 use Rattle.rules.specs.declared.WriteAnswer.the-variants.{Wrote, Refused}
 use Rattle.rules.specs.Streams.{noStream, streamsOf, streamOk, streamUnused, valid}
 use Rattle.line.specs.declared.Line.{Line}
-use Rattle.line.specs.Held.{holding, putOf, puts}
+use Rattle.line.specs.Line.{holding, putOf, puts}
 use Rattle.line.proofs.Puts.{last, holds}
 use Rattle.text_line.specs.Lines.{streamText}
 use Rattle.text_line.proofs.Short.{stream-short}

@@ -12,7 +12,7 @@ use Rattle.rules.specs.declared.Refusal.the-variants.{OutOfRule, ShortBuffer}
 use Rattle.rules.specs.declared.WriteAnswer.{WriteAnswer}
 use Rattle.rules.specs.declared.WriteAnswer.the-variants.{Wrote, Refused}
 use Rattle.rules.specs.Streams.{streamsOf, valid}
-use Rattle.line.specs.Decimal.{newline}
+use Rattle.ascii.specs.Decimal.{newline}
 use Rattle.text_line.specs.Lines.{streamText}
 
 -- one stream a line, in order

@@ -5,7 +5,7 @@ ghost use mathlib.Core.List.{_++_, []};
 ghost use Prim.Native.Nat.{_≤_};
 ghost use lib.ListN.{length, drop};
 ghost use Rattle.rules.specs.Streams.{valid};
-ghost use Rattle.line.specs.Held.{holding, puts};
+ghost use Rattle.line.specs.Line.{holding, puts};
 ghost use Rattle.text_print.specs.Listed.{lineText, textOf, listOf, pageOf};
 use line::Line;
 use rules::Refusal;

@@ -13,12 +13,12 @@ use Rattle.rules.specs.declared.Set.{Set}
 use Rattle.rules.specs.Streams.{emptySet}
 use Rattle.text_line.specs.declared.Fault.{Fault}
 use Rattle.text_line.specs.declared.Fault.the-variants.{ManyStreams}
-use Rattle.text_line.specs.declared.Said.the-variants.{Stream as IsStream, Nothing, Bad as BadLine}
+use Rattle.text_line.specs.declared.Meaning.the-variants.{Stream as IsStream, Nothing, Bad as BadLine}
 use Rattle.text_line.specs.declared.LineRead.{LineRead}
 use Rattle.text_line.specs.Lines.{judged}
 use Rattle.text_tidy.specs.declared.Tidy.{Tidy}
 use Rattle.text_tidy.specs.Tidied.{fresh, keptOf}
-use Rattle.text_read.specs.declared.Found.the-variants.{Fine, Bad}
+use Rattle.text_read.specs.declared.Finding.the-variants.{Fine, Bad}
 use Rattle.text_read.specs.declared.Draft.{Draft}
 use Rattle.text_read.specs.declared.TextRead.{TextRead}
 use Rattle.text_read.specs.Texts.{bySaid, isFine, following, faulty, onward, withStream, lineEnded, startOf, stepOf, feedOf, closeOf}

@@ -14,18 +14,18 @@ use Rattle.rules.specs.declared.Stream.{Stream}
 use Rattle.rules.specs.declared.Set.{Set}
 use Rattle.rules.specs.Streams.{noStream, emptySet}
 use Rattle.rules.specs.Sheet.{setOf}
-use Rattle.line.specs.Held.{holding, puts}
+use Rattle.line.specs.Line.{holding, puts}
 use Rattle.text_line.specs.declared.Fault.{Fault}
 use Rattle.text_line.specs.declared.Fault.the-variants.{ManyStreams}
-use Rattle.text_line.specs.declared.Said.{Said}
-use Rattle.text_line.specs.declared.Said.the-variants.{Stream as IsStream, Nothing, Bad as BadLine}
+use Rattle.text_line.specs.declared.Meaning.{Meaning}
+use Rattle.text_line.specs.declared.Meaning.the-variants.{Stream as IsStream, Nothing, Bad as BadLine}
 use Rattle.text_line.specs.declared.LineRead.{LineRead}
 use Rattle.text_line.specs.Lines.{judged, lineRead}
 use Rattle.text_line.proofs.Judged.{judged-short, judged-long}
 use Rattle.text_tidy.specs.declared.Tidy.{Tidy}
 use Rattle.text_tidy.specs.Tidied.{tidied, fresh, keptOf}
 use Rattle.text_tidy.proofs.Whole.{kept, with, with-none, with-all, Next, next}
-use Rattle.text_read.specs.declared.Found.the-variants.{Fine, Bad}
+use Rattle.text_read.specs.declared.Finding.the-variants.{Fine, Bad}
 use Rattle.text_read.specs.declared.Draft.{Draft}
 use Rattle.text_read.specs.declared.TextRead.{TextRead}
 use Rattle.text_read.specs.Texts.{isNewline, firstLine, moreLines, lineSays, bySaid, following, isBad, linesRead, textRead, faulty, onward, withStream, lineEnded, startOf, stepOf, feedOf, closeOf}
@@ -70,7 +70,7 @@ told n ss r ls =
 module _ (f : Draft → TextRead) (ls : List (List ℕ)) (n : ℕ) (ss : List Stream) (t : Tidy)
     (on : (m : ℕ) (rs : List Stream) → f (drafted m rs fresh) ≡ linesRead m rs ls)
     (off : (m : ℕ) (why : Fault) → f (faulty m why) ≡ isBad m why) where
-  ends-as : (w : Said) (s : Stream)
+  ends-as : (w : Meaning) (s : Stream)
       → f (bySaid w (withStream (setOf ss) n s) (onward (setOf ss) n) (λ why. faulty n why))
       ≡ bySaid w (cond (ltb (length ss) 16) (linesRead (following n) (ss ++ (s ∷ [])) ls) (isBad n ManyStreams)) (linesRead (following n) ss ls) (λ why. isBad n why)
   unfolding withStream onward

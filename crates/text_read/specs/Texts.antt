@@ -10,15 +10,16 @@ use Rattle.rules.specs.declared.Stream.{Stream}
 use Rattle.rules.specs.declared.Set.{Set}
 use Rattle.rules.specs.Streams.{emptySet}
 use Rattle.rules.specs.Sheet.{setOf}
+use Rattle.line.specs.Line.{lineRoom}
 use Rattle.text_line.specs.declared.Fault.{Fault}
 use Rattle.text_line.specs.declared.Fault.the-variants.{LongLine, ManyStreams}
-use Rattle.text_line.specs.declared.Said.{Said}
-use Rattle.text_line.specs.declared.Said.the-variants.{Stream as IsStream, Nothing, Bad as BadLine}
+use Rattle.text_line.specs.declared.Meaning.{Meaning}
+use Rattle.text_line.specs.declared.Meaning.the-variants.{Stream as IsStream, Nothing, Bad as BadLine}
 use Rattle.text_line.specs.declared.LineRead.{LineRead}
 use Rattle.text_line.specs.Lines.{lineRead, judged, bad}
 use Rattle.text_tidy.specs.Tidied.{tidied, fresh, keptOf}
-use Rattle.text_read.specs.declared.Found.{Found}
-use Rattle.text_read.specs.declared.Found.the-variants.{Fine, Bad}
+use Rattle.text_read.specs.declared.Finding.{Finding}
+use Rattle.text_read.specs.declared.Finding.the-variants.{Fine, Bad}
 use Rattle.text_read.specs.declared.Draft.{Draft}
 use Rattle.text_read.specs.declared.TextRead.{TextRead}
 
@@ -38,11 +39,11 @@ moreLines (b ∷ l) = cond (isNewline b) (firstLine l ∷ moreLines l) (moreLine
 
 -- what a line says, once it is tidy; no stream's line has more than 127 bytes
 unfoldable pub lineSays : List ℕ → LineRead
-lineSays l = cond (ltb (length l) 128) (lineRead l) (bad LongLine)
+lineSays l = cond (ltb (length l) lineRoom) (lineRead l) (bad LongLine)
 
 -- what a line that says this leads to
 module _ {A : Type 0} where
-  abbrev pub bySaid : Said → A → A → (Fault → A) → A
+  abbrev pub bySaid : Meaning → A → A → (Fault → A) → A
   bySaid IsStream stream nothing faulty = stream
   bySaid Nothing stream nothing faulty = nothing
   bySaid (BadLine why) stream nothing faulty = faulty why
@@ -70,7 +71,7 @@ textRead l = linesRead 1 [] (firstLine l ∷ moreLines l)
 
 -- ---- the same, byte by byte
 
-abbrev pub isFine : Found → Bool
+abbrev pub isFine : Finding → Bool
 isFine Fine = true
 isFine (Bad n why) = false
 

@@ -4,11 +4,11 @@ ghost use Rattle.text_read.specs.Texts.{isFine, following, faulty, onwar
 use rules::Set;
 use rules::Stream;
 use text_line::Fault;
-use text_line::Said;
+use text_line::Meaning;
 use text_tidy::Tidy;
 
 // What has been found so far: the first bad line's number and what is wrong with it.
-pub enum Found {
+pub enum Finding {
     Fine,
     Bad(u64, Fault),
 }
@@ -18,12 +18,12 @@ pub struct Draft {
     pub set: Set,
     pub number: u64,
     pub tidy: Tidy,
-    pub found: Found,
+    pub found: Finding,
 }
 
 // A text's answer: its set, which is empty where a line is bad.
 pub struct TextRead {
-    pub found: Found,
+    pub found: Finding,
     pub set: Set,
 }
 
@@ -35,7 +35,7 @@ pub fn start() -> Draft
         set: stream_valid::empty_set(),
         number: 1,
         tidy: text_tidy::start(),
-        found: Found::Fine,
+        found: Finding::Fine,
     }
 }
 
@@ -45,12 +45,12 @@ fn next_number(n: u64) -> u64
     if n < u64::MAX { n + 1 } else { n }
 }
 
-fn fine(f: Found) -> bool
+fn fine(f: Finding) -> bool
     ensures { λ r. ⌜ r ≡ isFine f ⌝ }
 {
     match f {
-        Found::Fine => true,
-        Found::Bad(_, _) => false,
+        Finding::Fine => true,
+        Finding::Bad(_, _) => false,
     }
 }
 
@@ -62,7 +62,7 @@ fn spoilt(n: u64, why: Fault) -> Draft
         set: stream_valid::empty_set(),
         number: n,
         tidy: text_tidy::start(),
-        found: Found::Bad(n, why),
+        found: Finding::Bad(n, why),
     }
 }
 
@@ -74,7 +74,7 @@ fn go_on(x: Set, n: u64) -> Draft
         set: x,
         number: next_number(n),
         tidy: text_tidy::start(),
-        found: Found::Fine,
+        found: Finding::Fine,
     }
 }
 
@@ -105,9 +105,9 @@ fn end_line(d: Draft) -> Draft
     let said = read.said;
     let s = read.stream;
     match said {
-        Said::Stream => add(x, n, s),
-        Said::Nothing => go_on(x, n),
-        Said::Bad(why) => spoilt(n, why),
+        Meaning::Stream => add(x, n, s),
+        Meaning::Nothing => go_on(x, n),
+        Meaning::Bad(why) => spoilt(n, why),
     }
 }
 
@@ -130,7 +130,7 @@ pub fn step(d: Draft, b: u8) -> Draft
         set: x,
         number: n,
         tidy: next,
-        found: Found::Fine,
+        found: Finding::Fine,
     }
 }
 

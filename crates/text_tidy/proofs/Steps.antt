@@ -7,7 +7,7 @@ use mathlib.Core.List.{[]}
 use lib.Dec.{ltb, eqb}
 use borrow.Author.Tests.{lt-ltb, le-ltb, eq-eqb, ne-eqb}
 use Rattle.line.specs.declared.Line.{Line}
-use Rattle.line.specs.Held.{holding, putOf}
+use Rattle.line.specs.Line.{holding, putOf}
 use Rattle.text_tidy.specs.declared.Tidy.{Tidy}
 use Rattle.text_tidy.specs.Tidied.{isBlank, fresh, spacedFor, keptOf}
 

@@ -11,7 +11,7 @@ use lib.Dec.{ltb, eqb}
 use borrow.Author.Tests.{lt-ltb}
 use Rattle.laws.proofs.Sums.{by-test}
 use Rattle.line.specs.declared.Line.{Line}
-use Rattle.line.specs.Held.{holding, putOf, puts}
+use Rattle.line.specs.Line.{holding, putOf, puts}
 use Rattle.line.proofs.Puts.{puts-append, single}
 use Rattle.text_tidy.specs.declared.Tidy.{Tidy}
 use Rattle.text_tidy.specs.Tidied.{isBlank, uncommented, squeezed, tidied, fresh, spacedFor, keptOf, keptOn}

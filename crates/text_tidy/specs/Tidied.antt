@@ -7,7 +7,7 @@ use mathlib.Core.List.{List, [], _∷_}
 use lib.ListN.{length}
 use lib.Dec.{eqb, ltb}
 use Rattle.line.specs.declared.Line.{Line}
-use Rattle.line.specs.Held.{holding, putOf}
+use Rattle.line.specs.Line.{holding, putOf}
 use Rattle.text_tidy.specs.declared.Tidy.{Tidy}
 
 -- a comment runs from `#` to the end of the line

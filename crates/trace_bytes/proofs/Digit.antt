@@ -3,7 +3,7 @@
 use Prim.Native.Nat.{ℕ}
 use mathlib.Core.Path.{_≡_, refl, sym, ap, _∙_}
 use mathlib.Core.Bool.{Bool, true, false}
-use Rattle.line.specs.Hex.{isHex, hexOf}
+use Rattle.ascii.specs.Hex.{isHex, hexOf}
 use Rattle.rules.specs.declared.Call.the-variants.{Posts}
 use Rattle.trace_bytes.specs.declared.Heard.{Heard}
 use Rattle.trace_bytes.specs.declared.Heard.the-variants.{Makes, Bad}

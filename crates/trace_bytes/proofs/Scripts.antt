@@ -9,7 +9,7 @@ use lib.Dec.{eqb}
 use borrow.Author.Tests.{eqb-true}
 use Rattle.rules.specs.declared.Call.{Call}
 use Rattle.rules.specs.declared.Call.the-variants.{Posts, Units}
-use Rattle.line.specs.Hex.{isHex, hexOf}
+use Rattle.ascii.specs.Hex.{isHex, hexOf}
 use Rattle.trace_bytes.specs.declared.Heard.{Heard}
 use Rattle.trace_bytes.specs.declared.Heard.the-variants.{Skip, More, Makes, Bad}
 use Rattle.trace_bytes.specs.Steps.{heardOf, endOf, betweenSteps, afterP}

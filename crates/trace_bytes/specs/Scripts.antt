@@ -7,7 +7,7 @@ use mathlib.Core.List.{List, [], _∷_}
 use lib.Dec.{eqb}
 use Rattle.rules.specs.declared.Call.{Call}
 use Rattle.rules.specs.declared.Call.the-variants.{Posts, Units}
-use Rattle.line.specs.Hex.{isHex, hexOf}
+use Rattle.ascii.specs.Hex.{isHex, hexOf}
 use Rattle.trace_bytes.specs.declared.Heard.{Heard}
 use Rattle.trace_bytes.specs.declared.Heard.the-variants.{Skip, More, Makes, Bad}
 use Rattle.trace_bytes.specs.Steps.{heardOf, endOf}

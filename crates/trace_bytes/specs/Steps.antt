@@ -7,7 +7,7 @@ use lib.Dec.{eqb}
 use Rattle.rules.specs.declared.Call.the-variants.{Posts, Units}
 use Rattle.trace_bytes.specs.declared.Heard.{Heard}
 use Rattle.trace_bytes.specs.declared.Heard.the-variants.{Skip, More, Makes, Bad}
-use Rattle.line.specs.Hex.{isHex, hexOf}
+use Rattle.ascii.specs.Hex.{isHex, hexOf}
 
 -- "p and one lower-case hex digit posts, u is a unit, d a unit with done. Spaces and newlines between steps are skipped.
 -- Any other byte [is refused]"

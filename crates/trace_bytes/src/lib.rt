@@ -33,8 +33,8 @@ fn between_steps(b: u8) -> Heard
 fn after_p(b: u8) -> Heard
     ensures { λ r. ⌜ r ≡ afterP b ⌝ }
 {
-    if line::is_hex(b) {
-        Heard::Makes(Call::Posts(line::hex_of(b) as usize))
+    if ascii::is_hex(b) {
+        Heard::Makes(Call::Posts(ascii::hex_of(b) as usize))
     } else {
         Heard::Bad
     }

@@ -6,7 +6,7 @@ use Rattle.rules.specs.declared.ReadResult.{ReadResult}
 use Rattle.rules.specs.declared.Verdict.{Verdict}
 use Rattle.load_check.specs.Sheets.{SheetVerdict}
 use Rattle.line.specs.declared.Line.{Line}
-use Rattle.line.specs.Held.{holding}
+use Rattle.line.specs.Line.{holding}
 use Rattle.trace_steps.specs.declared.Tracing.{Tracing}
 use Rattle.trace_steps.specs.Turns.{verdictLine, wasRead, tracingFrom, Beginning}
 

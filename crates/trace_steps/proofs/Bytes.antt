@@ -15,9 +15,9 @@ use Rattle.rules.specs.declared.Refusal.the-variants.{BadByte}
 use Rattle.rules.specs.Numbers.{Says, number, refused, callSays}
 use Rattle.rules.specs.Steps.{callOf}
 use Rattle.line.specs.declared.Line.{Line}
-use Rattle.line.specs.Decimal.{decimalOf, spaced}
-use Rattle.line.specs.Held.{holding}
-use Rattle.line.proofs.Puts.{digits-short}
+use Rattle.ascii.specs.Decimal.{decimalOf, spaced}
+use Rattle.line.specs.Line.{holding}
+use Rattle.ascii.proofs.Digits.{digits-short}
 use Rattle.answer_words.specs.Words.{says, lineOf, stepLine}
 use Rattle.answer_words.proofs.Lengths.{says-short}
 use Rattle.trace_bytes.specs.declared.Heard.{Heard}

@@ -13,7 +13,7 @@ use Rattle.rules.specs.Sheet.{setOf, sheetOf}
 use Rattle.rules.proofs.Examples.{setB, stream, each, computed}
 use Rattle.rules.proofs.Cycles.{hOf}
 use Rattle.rules.proofs.Judge.{judgeFrom, judgeBy, judge, judge-right}
-use Rattle.line.specs.Decimal.{letters, digitsOf}
+use Rattle.ascii.specs.Decimal.{letters, digitsOf}
 use Rattle.answer_words.specs.Words.{says, stepLine}
 use Rattle.trace_bytes.specs.Scripts.{scriptOf}
 use Rattle.trace_steps.specs.Trace.{stepsPrinted, TraceOf}

@@ -8,13 +8,9 @@ use Rattle.laws.specs.Lists.{flat}
 use Rattle.rules.specs.declared.Set.{Set}
 use Rattle.rules.specs.declared.State.{State}
 use Rattle.rules.specs.declared.Call.{Call}
-use Rattle.rules.specs.declared.Call.the-variants.{Posts, Units}
-use Rattle.rules.specs.declared.PostAnswer.{PostAnswer}
-use Rattle.rules.specs.declared.PostAnswer.the-variants.{Posted, Refused as PostRefused}
-use Rattle.rules.specs.declared.UnitAnswer.{UnitAnswer}
-use Rattle.rules.specs.declared.UnitAnswer.the-variants.{Ran, Finished, Cut, Idle, Refused as UnitRefused}
-use Rattle.rules.specs.Steps.{postOf, unitOf, callOf}
-use Rattle.rules.specs.Runs.{Run, afterPost, afterUnit, stepOf, begin, runFrom, runOf, stepTo, stepsFrom, stepsOf}
+use Rattle.rules.specs.Steps.{callOf}
+use Rattle.rules.specs.Runs.{Run, stepOf, begin, runFrom, runOf, stepTo, stepsFrom, stepsOf}
+use Rattle.scheduler_run.proofs.Moments.{step-state}
 use Rattle.trace_bytes.specs.declared.Heard.{Heard}
 use Rattle.trace_bytes.specs.declared.Heard.the-variants.{Skip, More, Makes, Bad}
 use Rattle.trace_bytes.specs.Steps.{heardOf, endOf}
@@ -23,23 +19,6 @@ use Rattle.trace_bytes.proofs.Scripts.{script-heard}
 use Rattle.trace_steps.specs.declared.Tracing.{Tracing}
 use Rattle.trace_steps.specs.Turns.{tracingFrom, going, nextTracing, nine, nextText, tracingAfter, textAfter, tracingOn, textOn, textEnd, textToEnd}
 use Rattle.trace_steps.specs.Trace.{lineOfStep, nineIf, stepsPrinted, TraceIsRun}
-
--- a step of the run leaves the state that the call leaves
-post-state : (r : Run) (k : ℕ) (s : State) (a : PostAnswer) → afterPost r k s a .state ≡ s
-post-state r k s (Posted i d) = refl
-post-state r k s (PostRefused why) = refl
-
-unit-state : (r : Run) (s : State) (a : UnitAnswer) → afterUnit r s a .state ≡ s
-unit-state r s (Ran t k) = refl
-unit-state r s (Finished t k l) = refl
-unit-state r s (Cut t k l) = refl
-unit-state r s Idle = refl
-unit-state r s (UnitRefused why) = refl
-
-pub step-state : (r : Run) (c : Call) → stepOf r c .state ≡ callOf (r .state) c .state
-unfolding stepOf callOf
-step-state r (Posts k) = post-state r k (postOf (r .state) k .state) (postOf (r .state) k .answer)
-step-state r (Units done) = unit-state r (unitOf (r .state) done .state) (unitOf (r .state) done .answer)
 
 -- a trace that has stopped prints nothing, and stays
 module _ (t : Tracing) (e : t .live ≡ false) where

@@ -4,7 +4,7 @@ use mathlib.Core.Bool.{true, false}
 use mathlib.Core.List.{List, [], _∷_}
 use mathlib.Core.Path.{_≡_, refl}
 use Rattle.rules.specs.declared.State.{State}
-use Rattle.line.specs.Decimal.{letters, digitsOf}
+use Rattle.ascii.specs.Decimal.{letters, digitsOf}
 use Rattle.answer_words.specs.Words.{says}
 use Rattle.trace_bytes.specs.Steps.{betweenSteps, afterP}
 use Rattle.trace_steps.specs.Turns.{going, tracingAfter, textAfter, textEnd}

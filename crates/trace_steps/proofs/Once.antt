@@ -1,4 +1,4 @@
--- What is allowed for one input is one: the verdict of a sheet, how a trace begins, what a piece leaves, and all that is printed.
+-- What is allowed for one input is one: how a trace begins, what a piece leaves, and all that is printed.
 -- Assumes nothing.
 use Prim.Native.Nat.{ℕ, _*_, _≤_, _<_}
 use mathlib.Core.List.{List, _++_}
@@ -6,33 +6,24 @@ use mathlib.Core.Logic.{⊎-elim}
 use mathlib.Core.Path.{_≡_, sym, ap, ap₂, _∙_}
 use lib.ListN.{length}
 use Rattle.laws.proofs.Gates.{le-or-lt}
-use Rattle.rules.specs.declared.Set.{Set}
-use Rattle.rules.specs.declared.ReadAnswer.{ReadAnswer}
-use Rattle.rules.specs.declared.ReadAnswer.the-variants.{Read, Refused}
 use Rattle.rules.specs.declared.ReadResult.{ReadResult}
 use Rattle.rules.specs.declared.Verdict.{Verdict}
 use Rattle.rules.specs.Sheet.{readOf}
-use Rattle.rules.proofs.Verdicts.{verdict-unique}
-use Rattle.load_check.specs.Sheets.{SheetVerdict}
+use Rattle.load_check.proofs.Sheets.{sheet-verdict-unique}
 use Rattle.line.specs.declared.Line.{Line}
-use Rattle.line.specs.Held.{holding}
+use Rattle.line.specs.Line.{holding}
 use Rattle.trace_bytes.specs.Scripts.{scriptOf}
 use Rattle.trace_steps.specs.declared.Tracing.{Tracing}
 use Rattle.trace_steps.specs.declared.Turn.{Turn}
 use Rattle.trace_steps.specs.Turns.{verdictLine, Beginning, PieceTraced}
 use Rattle.trace_steps.specs.Trace.{stepsPrinted, behindVerdict, TraceOf}
 
--- two verdicts allowed for one sheet are the same
-sheet-verdict-once : (a : ReadAnswer) (x : Set) (v w : Verdict) → SheetVerdict a x v → SheetVerdict a x w → v ≡ w
-sheet-verdict-once Read x v w p q = verdict-unique x v w p q
-sheet-verdict-once (Refused why) x v w p q = p ∙ sym q
-
 -- the first line and the tracing behind it
 pub beginning-once : (r : ReadResult) (t u : Turn) → Beginning r t → Beginning r u → t ≡ u
 beginning-once r t u a b =
     ap₂ (λ (x : Tracing) (l : Line). record { tracing = x; line = l }) (a .tracing ∙ sym (b .tracing))
     (a .line
-    ∙ ap (λ (v : Verdict). holding (verdictLine v)) (sheet-verdict-once (r .answer) (r .set) (a .verdict) (b .verdict) (a .is-verdict) (b .is-verdict))
+    ∙ ap (λ (v : Verdict). holding (verdictLine v)) (sheet-verdict-unique (r .answer) (r .set) (a .verdict) (b .verdict) (a .is-verdict) (b .is-verdict))
     ∙ sym (b .line))
 
 -- the tracing behind a piece, the length and the page
@@ -51,5 +42,5 @@ pub trace-once : (sheet input out other : List ℕ) → TraceOf sheet input out 
 trace-once sheet input out other a b =
     a .whole
     ∙ ap (λ (v : Verdict). verdictLine v ++ behindVerdict (readOf sheet .answer) (stepsPrinted (readOf sheet .set) (scriptOf input)))
-    (sheet-verdict-once (readOf sheet .answer) (readOf sheet .set) (a .verdict) (b .verdict) (a .is-verdict) (b .is-verdict))
+    (sheet-verdict-unique (readOf sheet .answer) (readOf sheet .set) (a .verdict) (b .verdict) (a .is-verdict) (b .is-verdict))
     ∙ sym (b .whole)

@@ -17,7 +17,7 @@ use Rattle.rules.specs.Numbers.{number, refused, callSays, verdictSays}
 use Rattle.rules.specs.Steps.{startOf, callOf}
 use Rattle.load_check.specs.Sheets.{SheetVerdict}
 use Rattle.line.specs.declared.Line.{Line}
-use Rattle.line.specs.Held.{holding}
+use Rattle.line.specs.Line.{holding}
 use Rattle.answer_words.specs.Words.{says, lineOf, stepLine}
 use Rattle.trace_bytes.specs.declared.Heard.{Heard}
 use Rattle.trace_bytes.specs.declared.Heard.the-variants.{Skip, More, Makes, Bad}

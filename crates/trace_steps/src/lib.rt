@@ -5,8 +5,7 @@ ghost use mathlib.Core.List.{_++_, []};
 ghost use Prim.Native.Nat.{_+_, _*_, _≤_};
 ghost use lib.ListN.{length, drop};
 ghost use Rattle.rules.specs.Numbers.{callSays};
-ghost use Rattle.load_check.specs.Sheets.{SheetVerdict};
-ghost use Rattle.line.specs.Held.{holding};
+ghost use Rattle.line.specs.Line.{holding};
 ghost use Rattle.answer_words.specs.Words.{stepLine};
 ghost use Rattle.trace_steps.specs.Turns.{wasRead, tracingFrom, Beginning, going, nextTracing, nextText, tracingAfter, textAfter, tracingOn, textOn, Ending, PieceTraced};
 use line::Line;
@@ -44,15 +43,6 @@ fn was_read(a: ReadAnswer) -> bool
     }
 }
 
-fn sheet_verdict(a: ReadAnswer, x: Set) -> Verdict
-    ensures { λ v. ⌜ SheetVerdict a x v ⌝ }
-{
-    match a {
-        ReadAnswer::Read => load_check::verdict(x),
-        ReadAnswer::Refused(why) => Verdict::Refused(why),
-    }
-}
-
 fn tracing_from(x: Set, live: bool) -> Tracing
     ensures { λ r. ⌜ r ≡ tracingFrom x live ⌝ }
 {
@@ -71,7 +61,7 @@ pub fn begin_trace(r: ReadResult) -> Turn
 {
     let answer = r.answer;
     let set = r.set;
-    let line = answer_words::verdict_line(sheet_verdict(answer, set));
+    let line = answer_words::verdict_line(load_check::sheet_verdict(answer, set));
     let tracing = tracing_from(set, was_read(answer));
     Turn { tracing, line }
 }

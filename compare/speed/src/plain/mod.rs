@@ -24,8 +24,8 @@ pub fn verdict(sheet: &[u8]) -> u64 {
     match sheet::read(sheet) {
         Ok(set) => match load::verdict(&set) {
             load::Verdict::Accept => halves(0, 0),
-            load::Verdict::Late(length) => halves(13, length),
-            load::Verdict::Overload => halves(14, 0),
+            load::Verdict::Late(length) => halves(256, length),
+            load::Verdict::Overload => halves(257, 0),
             load::Verdict::Refused(number) => halves(number.into(), 0),
         },
         Err(number) => halves(number.into(), 0),

@@ -11,9 +11,6 @@ slice-aggregate-one c = search needs
 refusal-number-requires : tie.Need-refusal-number-requires
 refusal-number-requires c κs = search needs
 
-cast-one : tie.Need-cast-one
-cast-one c = search needs
-
 one-requires : tie.Need-one-requires
 one-requires c κs = search needs
 
@@ -23,4 +20,4 @@ returns c = rw (c .before .refusal-number .ensures) at (c .one .ensures)
 
 pub refused-spec : {M : Type 1} → statement M
 refused-spec =
-    tie.close (tie.spec slice-aggregate-one refusal-number-requires cast-one one-requires returns)
+    tie.close (tie.spec slice-aggregate-one refusal-number-requires one-requires returns)

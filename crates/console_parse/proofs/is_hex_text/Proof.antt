@@ -5,7 +5,7 @@ use mathlib.Core.Path.{_≡_, refl, sym, _∙_}
 use lib.ListN.{length, drop}
 use borrow.Author.Tests.{not-true, not-false}
 use Rattle.laws.specs.Lists.{all}
-use Rattle.line.specs.Hex.{isHex}
+use Rattle.ascii.specs.Hex.{isHex}
 use Rattle.console_parse.proofs.Tests.{hex-odd, hex-even, all-on, all-off, all-end}
 use native.Mathlib.Omega.{arith}
 use borrow.Author.Needs.{needs}

@@ -5,8 +5,8 @@ use mathlib.Core.Path.{_≡_, refl, sym, _∙_}
 use lib.ListN.{length, drop}
 use borrow.Author.Tests.{not-true, not-false}
 use Rattle.laws.specs.Lists.{all}
-use Rattle.line.specs.Decimal.{readOn}
-use Rattle.console_parse.specs.Bytes.{isDigit}
+use Rattle.ascii.specs.Decimal.{readOn}
+use Rattle.ascii.specs.Decimal.{isDigit}
 use Rattle.console_parse.proofs.Tests.{got-empty, got-long, got-other, got-is, all-on, all-off, all-end, read-end, too-large, next, past}
 use native.Mathlib.Omega.{arith}
 use borrow.Author.Needs.{needs}

@@ -1,7 +1,7 @@
 -- `exports::in_halves` meets its contract. Assumes nothing.
 use native.Mathlib.Omega.{arith}
 use borrow.Author.Needs.{needs}
-use Rattle.exports.specs.Told.{halves}
+use Rattle.exports.specs.Codes.{halves}
 use Rattle.exports.proofs.in_halves.Statement.{statement}
 use Rattle.exports.proofs.in_halves.Tie as tie
 

@@ -4,7 +4,7 @@ use Prim.Native.Nat.{ℕ}
 use mathlib.Core.Path.{ap, ap₂, _∙_}
 use Rattle.rules.specs.declared.ReadResult.{ReadResult}
 use Rattle.rules.specs.declared.Stream.{Stream}
-use Rattle.exports.specs.Told.{halves, readTold}
+use Rattle.exports.specs.Codes.{halves, readCode}
 use Rattle.exports.proofs.sheet_read.Statement.{statement}
 use Rattle.exports.proofs.sheet_read.Tie as tie
 
@@ -24,11 +24,11 @@ in-halves-requires : tie.Need-in-halves-requires
 in-halves-requires c κs = search needs
 
 returns : tie.Need-returns
-unfolding readTold
+unfolding readCode
 returns c =
     c .in-halves .ensures
     ∙ ap₂ (λ (n : ℕ) (s : Stream). halves n (s .deadline)) (c .before .before .answer-number .ensures) (c .before .before .before .stream-at .ensures)
-    ∙ ap (λ (r : ReadResult). readTold r (c .before .before .before .before .before .before .before .args .k)) (c .before .before .before .before .before .read .ensures)
+    ∙ ap (λ (r : ReadResult). readCode r (c .before .before .before .before .before .before .before .args .k)) (c .before .before .before .before .before .read .ensures)
 
 pub sheet-read-spec : {M : Type 1} → statement M
 sheet-read-spec =

@@ -1,7 +1,7 @@
 -- `line::blank` meets its contract.
 -- Assumes nothing.
 use mathlib.Core.Path.{refl}
-use Rattle.line.specs.Held.{holding}
+use Rattle.line.specs.Line.{holding}
 use Rattle.line.proofs.blank.Statement.{statement}
 use Rattle.line.proofs.blank.Tie as tie
 

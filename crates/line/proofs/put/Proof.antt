@@ -1,7 +1,7 @@
 -- `line::put` meets its contract.
 -- Assumes nothing.
 use borrow.Author.Tests.{lt-ltb, le-ltb}
-use Rattle.line.specs.Held.{putOf}
+use Rattle.line.specs.Line.{putOf}
 use borrow.Author.Needs.{needs}
 use Rattle.line.proofs.put.Statement.{statement}
 use Rattle.line.proofs.put.Tie as tie

@@ -3,7 +3,7 @@
 use Prim.Native.Nat.{_-_}
 use mathlib.Core.Path.{_≡_, refl}
 use lib.ListN.{length, drop}
-use Rattle.line.specs.Held.{puts}
+use Rattle.line.specs.Line.{puts}
 use Rattle.line.proofs.Puts.{turn, done}
 use native.Mathlib.Omega.{arith}
 use borrow.Author.Needs.{needs}

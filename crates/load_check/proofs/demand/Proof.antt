@@ -16,7 +16,7 @@ rows-of-requires : tie.Need-rows-of-requires
 rows-of-requires c κs = valid-set (c .before .before .args .x) (sym (c .before .is-valid .ensures) ∙ c .if1 .taken)
 
 rows-due-requires : tie.Need-rows-due-requires
-rows-due-requires c κs = c .rows-of .ensures .sound
+rows-due-requires c κs = c .rows-of .ensures .fit
 
 blockings-requires : tie.Need-blockings-requires
 blockings-requires c κs = valid-set (c .before .before .before .before .args .x) (sym (c .before .before .before .is-valid .ensures) ∙ c .before .before .if1 .taken)
@@ -26,7 +26,7 @@ add-t8 c =
     omega (
       arith,
       c .before .rows-due .ensures,
-      dues-fit (c .before .before .rows-of .result .costs) (c .before .before .rows-of .result .firsts) (c .before .before .rows-of .result .cycles) (c .before .before .rows-of .result .count) (c .before .before .before .before .before .args .i) (c .before .before .rows-of .ensures .sound) (omega arith),
+      dues-fit (c .before .before .rows-of .result .costs) (c .before .before .rows-of .result .firsts) (c .before .before .rows-of .result .cycles) (c .before .before .rows-of .result .count) (c .before .before .before .before .before .args .i) (c .before .before .rows-of .ensures .fit) (omega arith),
       blockings-fit _ _ _ (c .blockings .ensures) (valid-set (c .before .before .before .before .before .args .x) (sym (c .before .before .before .before .is-valid .ensures) ∙ c .before .before .before .if1 .taken) .streams),
     )
 

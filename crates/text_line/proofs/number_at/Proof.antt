@@ -9,9 +9,9 @@ use Rattle.text_line.proofs.number_at.Statement.{statement}
 use Rattle.text_line.proofs.number_at.Tie as tie
 use Rattle.text_line.proofs.number_at.Reads as reads
 use Rattle.text_line.proofs.number_at.Lts as lts
-use Rattle.text_line.proofs.digit_of.Reads as digit-of-reads
+use Rattle.ascii.proofs.digit_of.Reads as digit-of-reads
 use Rattle.text_line.proofs.ended.Reads as ended-reads
-use Rattle.text_line.proofs.is_digit.Reads as is-digit-reads
+use Rattle.ascii.proofs.is_digit.Reads as is-digit-reads
 
 abbrev Inv-loop : tie.InvT-loop
 Inv-loop line at low high n₀ i₀ n i = Reading line at n i

@@ -5,7 +5,7 @@ use Rattle.text_line.proofs.starts.Statement.{statement}
 use Rattle.text_line.proofs.starts.Tie as tie
 use Rattle.text_line.proofs.starts.Reads as reads
 use Rattle.text_line.proofs.starts.Lts as lts
-use Rattle.console_names.proofs.same.Reads as same-reads
+use Rattle.ascii.proofs.same.Reads as same-reads
 
 -- src/lib.rt:63:9
 returns : tie.Need-returns

@@ -5,7 +5,7 @@ use lib.ListN.{length}
 use Rattle.laws.specs.Lists.{flat}
 use Rattle.laws.proofs.Parts.{part, sized}
 use Rattle.rules.specs.Streams.{tuplesOf, noTuple}
-use Rattle.line.specs.Held.{puts}
+use Rattle.line.specs.Line.{puts}
 use Rattle.text_line.specs.Lines.{placeText}
 use Rattle.text_line.proofs.Texts.{text-go, text-end}
 use native.Mathlib.Omega.{arith}

@@ -32,7 +32,7 @@ put-tuple-requires : tie.Need-put-tuple-requires Inv-loop μ-loop
 put-tuple-requires c κs =
     let p : ValidPlace (getD (c .before .before .before .args .t2 .tuples) (c .before .before .loop .j) noTuple) =
     all-take-at ValidPlace (c .before .before .before .args .t2 .tuples) (c .before .before .before .args .t2 .count) (c .before .before .loop .j) noTuple (omega arith) (omega (arith, c .before .before .before .pre .2 .count .high)) (c .before .before .before .pre .2 .tuples) in
-    (omega (arith, c .before .before .loop .inv .2 .few, c .before .before .before .pre .0, c .before .before .before .pre .2 .count .high), c .before .before .loop .inv .2 .sound, c .before .before .before .pre .2 .cost .high, c .before .before .before .pre .2 .deadline, p .offset, p .cycle)
+    (omega (arith, c .before .before .loop .inv .2 .few, c .before .before .before .pre .0, c .before .before .before .pre .2 .count .high), c .before .before .loop .inv .2 .fit, c .before .before .before .pre .2 .cost .high, c .before .before .before .pre .2 .deadline, p .offset, p .cycle)
 
 add-j : tie.Need-add-j Inv-loop μ-loop
 add-j c = omega (arith, c .before .before .before .before .pre .2 .count .high)

@@ -34,7 +34,7 @@ element-copy-out-s c = omega (arith, c .before .before .before .pre .count)
 put-stream-requires : tie.Need-put-stream-requires Inv-loop μ-loop
 put-stream-requires c κs = (
   omega (arith, c .before .before .before .before .pre .count),
-  c .before .before .loop .inv .3 .sound,
+  c .before .before .loop .inv .3 .fit,
   all-take-at ValidStream (c .before .before .before .before .args .t1 .streams) (c .before .before .before .before .args .t1 .count) (c .before .before .loop .k) blank (omega arith) (omega (arith, c .before .before .before .before .pre .count)) (c .before .before .before .before .pre .streams),
 )
 

@@ -33,7 +33,7 @@ blockings-requires c κs = c .before .before .before .before .pre
 
 test-span-requires : tie.Need-test-span-requires Inv-loop μ-loop
 test-span-requires c κs = (
-  c .before .before .before .before .rows-of .ensures .sound,
+  c .before .before .before .before .rows-of .ensures .fit,
   blockings-fit _ _ _ (c .blockings .ensures) (c .before .before .before .before .before .pre .streams),
 )
 
