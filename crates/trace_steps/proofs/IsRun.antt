@@ -10,7 +10,7 @@ use Rattle.rules.specs.declared.State.{State}
 use Rattle.rules.specs.declared.Call.{Call}
 use Rattle.rules.specs.Steps.{callOf}
 use Rattle.rules.specs.Runs.{Run, stepOf, begin, runFrom, runOf, stepTo, stepsFrom, stepsOf}
-use Rattle.scheduler_run.proofs.Moments.{step-state}
+use Rattle.rules.proofs.Events.{step-state}
 use Rattle.trace_bytes.specs.declared.Heard.{Heard}
 use Rattle.trace_bytes.specs.declared.Heard.the-variants.{Skip, More, Makes, Bad}
 use Rattle.trace_bytes.specs.Steps.{heardOf, endOf}
