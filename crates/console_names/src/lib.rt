@@ -99,39 +99,38 @@ fn named(w: &[u8], name: &[u8], r: Row, other: Row) -> Row
     if ascii::same(w, name) { r } else { other }
 }
 
+fn of_set(k: SetCommand, count: usize, most: [u32; NUMBERS]) -> Row
+    ensures { λ r. ⌜ r ≡ record { command = Command.Set k; count = count; most = most; text = Text.Nothing } ⌝ }
+{
+    asks(Command::Set(k), count, most)
+}
+
+fn of_state(k: StateCommand, count: usize, most: [u32; NUMBERS]) -> Row
+    ensures { λ r. ⌜ r ≡ record { command = Command.State k; count = count; most = most; text = Text.Nothing } ⌝ }
+{
+    asks(Command::State(k), count, most)
+}
+
+fn of_question(q: Question, count: usize, most: [u32; NUMBERS]) -> Row
+    ensures { λ r. ⌜ r ≡ record { command = Command.Ask q; count = count; most = most; text = Text.Nothing } ⌝ }
+{
+    asks(Command::Ask(q), count, most)
+}
+
 fn set_row(w: &[u8], other: Row) -> Row
     ensures { λ r. ⌜ r ≡ setRow (now (w .entry)) other ⌝ }
 {
     let mut r = other;
-    r = named(w, b"read", asks_hex(Command::Set(SetCommand::Read)), r);
-    r = named(
-        w,
-        b"streams",
-        asks(Command::Set(SetCommand::Streams), 1, [TOP, 0, 0, 0, 0]),
-        r,
-    );
-    r = named(
-        w,
-        b"stream",
-        asks(
-            Command::Set(SetCommand::Stream),
-            5,
-            [15, TOP, TOP, TOP, TOP],
-        ),
-        r,
-    );
-    r = named(
-        w,
-        b"once",
-        asks(Command::Set(SetCommand::Once), 3, [15, 3, TOP, 0, 0]),
-        r,
-    );
-    r = named(
-        w,
-        b"every",
-        asks(Command::Set(SetCommand::Every), 4, [15, 3, TOP, TOP, 0]),
-        r,
-    );
+    let read = asks_hex(Command::Set(SetCommand::Read));
+    r = named(w, b"read", read, r);
+    let streams = of_set(SetCommand::Streams, 1, [TOP, 0, 0, 0, 0]);
+    r = named(w, b"streams", streams, r);
+    let stream = of_set(SetCommand::Stream, 5, [15, TOP, TOP, TOP, TOP]);
+    r = named(w, b"stream", stream, r);
+    let once = of_set(SetCommand::Once, 3, [15, 3, TOP, 0, 0]);
+    r = named(w, b"once", once, r);
+    let every = of_set(SetCommand::Every, 4, [15, 3, TOP, TOP, 0]);
+    r = named(w, b"every", every, r);
     r
 }
 
@@ -139,52 +138,20 @@ fn state_row(w: &[u8], other: Row) -> Row
     ensures { λ r. ⌜ r ≡ stateRow (now (w .entry)) other ⌝ }
 {
     let mut r = other;
-    r = named(
-        w,
-        b"start",
-        asks(Command::State(StateCommand::Start), 0, [0; NUMBERS]),
-        r,
-    );
-    r = named(
-        w,
-        b"clock",
-        asks(Command::State(StateCommand::Clock), 1, [TOP, 0, 0, 0, 0]),
-        r,
-    );
-    r = named(
-        w,
-        b"pending",
-        asks(Command::State(StateCommand::Pending), 1, [TOP, 0, 0, 0, 0]),
-        r,
-    );
-    r = named(
-        w,
-        b"message",
-        asks(
-            Command::State(StateCommand::Message),
-            4,
-            [63, TOP, TOP, TOP, 0],
-        ),
-        r,
-    );
-    r = named(
-        w,
-        b"post",
-        asks(Command::State(StateCommand::Post), 1, [TOP, 0, 0, 0, 0]),
-        r,
-    );
-    r = named(
-        w,
-        b"unit",
-        asks(Command::State(StateCommand::Unit), 0, [0; NUMBERS]),
-        r,
-    );
-    r = named(
-        w,
-        b"done",
-        asks(Command::State(StateCommand::Done), 0, [0; NUMBERS]),
-        r,
-    );
+    let start = of_state(StateCommand::Start, 0, [0; NUMBERS]);
+    r = named(w, b"start", start, r);
+    let clock = of_state(StateCommand::Clock, 1, [TOP, 0, 0, 0, 0]);
+    r = named(w, b"clock", clock, r);
+    let pending = of_state(StateCommand::Pending, 1, [TOP, 0, 0, 0, 0]);
+    r = named(w, b"pending", pending, r);
+    let message = of_state(StateCommand::Message, 4, [63, TOP, TOP, TOP, 0]);
+    r = named(w, b"message", message, r);
+    let post = of_state(StateCommand::Post, 1, [TOP, 0, 0, 0, 0]);
+    r = named(w, b"post", post, r);
+    let unit = of_state(StateCommand::Unit, 0, [0; NUMBERS]);
+    r = named(w, b"unit", unit, r);
+    let done = of_state(StateCommand::Done, 0, [0; NUMBERS]);
+    r = named(w, b"done", done, r);
     r
 }
 
@@ -192,60 +159,24 @@ fn question_row(w: &[u8], other: Row) -> Row
     ensures { λ r. ⌜ r ≡ questionRow (now (w .entry)) other ⌝ }
 {
     let mut r = other;
-    r = named(
-        w,
-        b"write",
-        asks(Command::Ask(Question::Write), 1, [MOST_BYTES, 0, 0, 0, 0]),
-        r,
-    );
-    r = named(
-        w,
-        b"valid",
-        asks(Command::Ask(Question::Valid), 0, [0; NUMBERS]),
-        r,
-    );
-    r = named(
-        w,
-        b"limit",
-        asks(Command::Ask(Question::Limit), 2, [TOP, TOP, 0, 0, 0]),
-        r,
-    );
-    r = named(
-        w,
-        b"demand",
-        asks(Command::Ask(Question::Demand), 1, [TOP, 0, 0, 0, 0]),
-        r,
-    );
-    r = named(
-        w,
-        b"jitter",
-        asks(Command::Ask(Question::Jitter), 2, [TOP, TOP, 0, 0, 0]),
-        r,
-    );
-    r = named(
-        w,
-        b"verdict",
-        asks(Command::Ask(Question::Verdict), 0, [0; NUMBERS]),
-        r,
-    );
-    r = named(
-        w,
-        b"choose",
-        asks(Command::Ask(Question::Choose), 0, [0; NUMBERS]),
-        r,
-    );
-    r = named(
-        w,
-        b"state",
-        asks(Command::Ask(Question::State), 0, [0; NUMBERS]),
-        r,
-    );
-    r = named(
-        w,
-        b"formed",
-        asks(Command::Ask(Question::Formed), 0, [0; NUMBERS]),
-        r,
-    );
+    let write = of_question(Question::Write, 1, [MOST_BYTES, 0, 0, 0, 0]);
+    r = named(w, b"write", write, r);
+    let valid = of_question(Question::Valid, 0, [0; NUMBERS]);
+    r = named(w, b"valid", valid, r);
+    let limit = of_question(Question::Limit, 2, [TOP, TOP, 0, 0, 0]);
+    r = named(w, b"limit", limit, r);
+    let demand = of_question(Question::Demand, 1, [TOP, 0, 0, 0, 0]);
+    r = named(w, b"demand", demand, r);
+    let jitter = of_question(Question::Jitter, 2, [TOP, TOP, 0, 0, 0]);
+    r = named(w, b"jitter", jitter, r);
+    let verdict = of_question(Question::Verdict, 0, [0; NUMBERS]);
+    r = named(w, b"verdict", verdict, r);
+    let choose = of_question(Question::Choose, 0, [0; NUMBERS]);
+    r = named(w, b"choose", choose, r);
+    let state = of_question(Question::State, 0, [0; NUMBERS]);
+    r = named(w, b"state", state, r);
+    let formed = of_question(Question::Formed, 0, [0; NUMBERS]);
+    r = named(w, b"formed", formed, r);
     r
 }
 

@@ -7,47 +7,47 @@ use borrow.Author.Needs.{needs}
 use Rattle.console_names.proofs.set_row.Statement.{statement}
 use Rattle.console_names.proofs.set_row.Tie as tie
 
-slice-aggregate-named : tie.Need-slice-aggregate-named
-slice-aggregate-named c = search needs
-
 asks-hex-requires : tie.Need-asks-hex-requires
 asks-hex-requires c κs = search needs
+
+slice-aggregate-named : tie.Need-slice-aggregate-named
+slice-aggregate-named c = search needs
 
 named-requires : tie.Need-named-requires
 named-requires c κs = search needs
 
+of-set-requires : tie.Need-of-set-requires
+of-set-requires c κs = search needs
+
 slice-aggregate-named-2 : tie.Need-slice-aggregate-named-2
 slice-aggregate-named-2 c = search needs
-
-asks-requires : tie.Need-asks-requires
-asks-requires c κs = search needs
 
 named-requires-2 : tie.Need-named-requires-2
 named-requires-2 c κs = search needs
 
+of-set-requires-2 : tie.Need-of-set-requires-2
+of-set-requires-2 c κs = search needs
+
 slice-aggregate-named-3 : tie.Need-slice-aggregate-named-3
 slice-aggregate-named-3 c = search needs
-
-asks-requires-2 : tie.Need-asks-requires-2
-asks-requires-2 c κs = search needs
 
 named-requires-3 : tie.Need-named-requires-3
 named-requires-3 c κs = search needs
 
+of-set-requires-3 : tie.Need-of-set-requires-3
+of-set-requires-3 c κs = search needs
+
 slice-aggregate-named-4 : tie.Need-slice-aggregate-named-4
 slice-aggregate-named-4 c = search needs
-
-asks-requires-3 : tie.Need-asks-requires-3
-asks-requires-3 c κs = search needs
 
 named-requires-4 : tie.Need-named-requires-4
 named-requires-4 c κs = search needs
 
+of-set-requires-4 : tie.Need-of-set-requires-4
+of-set-requires-4 c κs = search needs
+
 slice-aggregate-named-5 : tie.Need-slice-aggregate-named-5
 slice-aggregate-named-5 c = search needs
-
-asks-requires-4 : tie.Need-asks-requires-4
-asks-requires-4 c κs = search needs
 
 named-requires-5 : tie.Need-named-requires-5
 named-requires-5 c κs = search needs
@@ -59,29 +59,29 @@ returns c =
     let c3 = c4 .before .before .before in
     let c2 = c3 .before .before .before in
     let c1 = c2 .before .before .before in
-    or _ _ _ _ _ _ _ (c .named5 .ensures) (c .before .asks4 .ensures)
-    (or _ _ _ _ _ _ _ (c4 .named4 .ensures) (c4 .before .asks3 .ensures)
-    (or _ _ _ _ _ _ _ (c3 .named3 .ensures) (c3 .before .asks2 .ensures)
-    (or _ _ _ _ _ _ _ (c2 .named2 .ensures) (c2 .before .asks .ensures)
-    (or _ _ _ _ _ _ _ (c1 .named .ensures) (c1 .before .asks-hex .ensures) refl))))
+    or _ _ _ _ _ _ _ (c .named5 .ensures) (c .before .before .of-set4 .ensures)
+    (or _ _ _ _ _ _ _ (c4 .named4 .ensures) (c4 .before .before .of-set3 .ensures)
+    (or _ _ _ _ _ _ _ (c3 .named3 .ensures) (c3 .before .before .of-set2 .ensures)
+    (or _ _ _ _ _ _ _ (c2 .named2 .ensures) (c2 .before .before .of-set .ensures)
+    (or _ _ _ _ _ _ _ (c1 .named .ensures) (c1 .before .before .asks-hex .ensures) refl))))
 
 pub set-row-spec : {M : Type 1} → statement M
 set-row-spec =
     tie.close
     (tie.spec
-    slice-aggregate-named
     asks-hex-requires
+    slice-aggregate-named
     named-requires
+    of-set-requires
     slice-aggregate-named-2
-    asks-requires
     named-requires-2
+    of-set-requires-2
     slice-aggregate-named-3
-    asks-requires-2
     named-requires-3
+    of-set-requires-3
     slice-aggregate-named-4
-    asks-requires-3
     named-requires-4
+    of-set-requires-4
     slice-aggregate-named-5
-    asks-requires-4
     named-requires-5
     returns)

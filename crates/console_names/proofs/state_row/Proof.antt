@@ -7,65 +7,65 @@ use borrow.Author.Needs.{needs}
 use Rattle.console_names.proofs.state_row.Statement.{statement}
 use Rattle.console_names.proofs.state_row.Tie as tie
 
+of-state-requires : tie.Need-of-state-requires
+of-state-requires c κs = search needs
+
 slice-aggregate-named : tie.Need-slice-aggregate-named
 slice-aggregate-named c = search needs
-
-asks-requires : tie.Need-asks-requires
-asks-requires c κs = search needs
 
 named-requires : tie.Need-named-requires
 named-requires c κs = search needs
 
+of-state-requires-2 : tie.Need-of-state-requires-2
+of-state-requires-2 c κs = search needs
+
 slice-aggregate-named-2 : tie.Need-slice-aggregate-named-2
 slice-aggregate-named-2 c = search needs
-
-asks-requires-2 : tie.Need-asks-requires-2
-asks-requires-2 c κs = search needs
 
 named-requires-2 : tie.Need-named-requires-2
 named-requires-2 c κs = search needs
 
+of-state-requires-3 : tie.Need-of-state-requires-3
+of-state-requires-3 c κs = search needs
+
 slice-aggregate-named-3 : tie.Need-slice-aggregate-named-3
 slice-aggregate-named-3 c = search needs
-
-asks-requires-3 : tie.Need-asks-requires-3
-asks-requires-3 c κs = search needs
 
 named-requires-3 : tie.Need-named-requires-3
 named-requires-3 c κs = search needs
 
+of-state-requires-4 : tie.Need-of-state-requires-4
+of-state-requires-4 c κs = search needs
+
 slice-aggregate-named-4 : tie.Need-slice-aggregate-named-4
 slice-aggregate-named-4 c = search needs
-
-asks-requires-4 : tie.Need-asks-requires-4
-asks-requires-4 c κs = search needs
 
 named-requires-4 : tie.Need-named-requires-4
 named-requires-4 c κs = search needs
 
+of-state-requires-5 : tie.Need-of-state-requires-5
+of-state-requires-5 c κs = search needs
+
 slice-aggregate-named-5 : tie.Need-slice-aggregate-named-5
 slice-aggregate-named-5 c = search needs
-
-asks-requires-5 : tie.Need-asks-requires-5
-asks-requires-5 c κs = search needs
 
 named-requires-5 : tie.Need-named-requires-5
 named-requires-5 c κs = search needs
 
+of-state-requires-6 : tie.Need-of-state-requires-6
+of-state-requires-6 c κs = search needs
+
 slice-aggregate-named-6 : tie.Need-slice-aggregate-named-6
 slice-aggregate-named-6 c = search needs
-
-asks-requires-6 : tie.Need-asks-requires-6
-asks-requires-6 c κs = search needs
 
 named-requires-6 : tie.Need-named-requires-6
 named-requires-6 c κs = search needs
 
+of-state-requires-7 : tie.Need-of-state-requires-7
+of-state-requires-7 c κs = search needs
+
 slice-aggregate-named-7 : tie.Need-slice-aggregate-named-7
 slice-aggregate-named-7 c = search needs
-
-asks-requires-7 : tie.Need-asks-requires-7
-asks-requires-7 c κs = search needs
 
 named-requires-7 : tie.Need-named-requires-7
 named-requires-7 c κs = search needs
@@ -79,37 +79,37 @@ returns c =
     let c3 = c4 .before .before .before in
     let c2 = c3 .before .before .before in
     let c1 = c2 .before .before .before in
-    or _ _ _ _ _ _ _ (c .named7 .ensures) (c .before .asks7 .ensures)
-    (or _ _ _ _ _ _ _ (c6 .named6 .ensures) (c6 .before .asks6 .ensures)
-    (or _ _ _ _ _ _ _ (c5 .named5 .ensures) (c5 .before .asks5 .ensures)
-    (or _ _ _ _ _ _ _ (c4 .named4 .ensures) (c4 .before .asks4 .ensures)
-    (or _ _ _ _ _ _ _ (c3 .named3 .ensures) (c3 .before .asks3 .ensures)
-    (or _ _ _ _ _ _ _ (c2 .named2 .ensures) (c2 .before .asks2 .ensures)
-    (or _ _ _ _ _ _ _ (c1 .named .ensures) (c1 .before .asks .ensures) refl))))))
+    or _ _ _ _ _ _ _ (c .named7 .ensures) (c .before .before .of-state7 .ensures)
+    (or _ _ _ _ _ _ _ (c6 .named6 .ensures) (c6 .before .before .of-state6 .ensures)
+    (or _ _ _ _ _ _ _ (c5 .named5 .ensures) (c5 .before .before .of-state5 .ensures)
+    (or _ _ _ _ _ _ _ (c4 .named4 .ensures) (c4 .before .before .of-state4 .ensures)
+    (or _ _ _ _ _ _ _ (c3 .named3 .ensures) (c3 .before .before .of-state3 .ensures)
+    (or _ _ _ _ _ _ _ (c2 .named2 .ensures) (c2 .before .before .of-state2 .ensures)
+    (or _ _ _ _ _ _ _ (c1 .named .ensures) (c1 .before .before .of-state .ensures) refl))))))
 
 pub state-row-spec : {M : Type 1} → statement M
 state-row-spec =
     tie.close
     (tie.spec
+    of-state-requires
     slice-aggregate-named
-    asks-requires
     named-requires
+    of-state-requires-2
     slice-aggregate-named-2
-    asks-requires-2
     named-requires-2
+    of-state-requires-3
     slice-aggregate-named-3
-    asks-requires-3
     named-requires-3
+    of-state-requires-4
     slice-aggregate-named-4
-    asks-requires-4
     named-requires-4
+    of-state-requires-5
     slice-aggregate-named-5
-    asks-requires-5
     named-requires-5
+    of-state-requires-6
     slice-aggregate-named-6
-    asks-requires-6
     named-requires-6
+    of-state-requires-7
     slice-aggregate-named-7
-    asks-requires-7
     named-requires-7
     returns)
