@@ -15,11 +15,9 @@ use Rattle.rules.specs.declared.Refusal.the-variants.{BadByte}
 use Rattle.rules.specs.Numbers.{Says, number, refused, callSays}
 use Rattle.rules.specs.Steps.{callOf}
 use Rattle.line.specs.declared.Line.{Line}
-use Rattle.ascii.specs.Decimal.{decimalOf, spaced}
 use Rattle.line.specs.Line.{holding}
-use Rattle.ascii.proofs.Digits.{digits-short}
 use Rattle.answer_words.specs.Words.{says, lineOf, stepLine}
-use Rattle.answer_words.proofs.Lengths.{says-short}
+use Rattle.answer_words.proofs.Lengths.{says-short, step-short}
 use Rattle.trace_bytes.specs.declared.Heard.{Heard}
 use Rattle.trace_bytes.specs.declared.Heard.the-variants.{Skip, More, Makes, Bad}
 use Rattle.trace_bytes.specs.Steps.{heardOf, endOf as atEnd}
@@ -48,17 +46,6 @@ unfolding tracingAfter textAfter
 stopped r b l a e = rw (a, e)
 
 -- no byte prints more than a line has room for
-step-short : (n : ℕ) (s : Says) → length (stepLine n s) ≤ 128
-unfolding stepLine
-step-short n s =
-    omega (
-      arith,
-      length-append (decimalOf n ++ spaced (says s)) (10 ∷ []),
-      length-append (decimalOf n) (spaced (says s)),
-      digits-short 20 n,
-      says-short s,
-    )
-
 heard-short : (s : State) (h : Heard) → length (nextText s h) ≤ 128
 heard-short s Skip = omega arith
 heard-short s More = omega arith
