@@ -8,7 +8,7 @@ use native.Mathlib.Omega.{arith}
 use lib.ListN.{length, take, drop, getD}
 use lib.Seq.{getD-drop, getD-take}
 use lib.Dec.{eqb, leb, ltb}
-use borrow.Author.Tests.{eqb-false, eqb-true, le-leb, lt-leb, leb-true, ltb-false, ltb-true}
+use borrow.Author.Tests.{eqb-false, eqb-true, le-leb, lt-leb, leb-true, ltb-false, ltb-true, ne-eqb}
 use Rattle.laws.specs.Lists.{All, all, within}
 use Rattle.laws.proofs.Sums.{and-no, and-parts, by-test}
 use Rattle.sheet_read.specs.declared.SheetField.{SheetField}
@@ -71,6 +71,14 @@ refusal-row f =
 pub rule-high : (f n low v : ℕ) → inRuleOf f n low v ≡ true → v ≤ greatestOf f n
 unfolding inRuleOf
 rule-high f n low v e = leb-true v (greatestOf f n) (and-parts (leb (leastOf f low) v) (leb v (greatestOf f n)) e .1)
+
+pub rule-offset : (f n low v : ℕ) → f ≡ 7 → within low v (greatestOf 7 n) ≡ inRuleOf f n low v
+unfolding inRuleOf leastOf
+rule-offset f n low v e = ap (λ (g : ℕ). inRuleOf g n low v) (sym e)
+
+pub rule-other : (f n low v : ℕ) → (f ≡ 7 → ⊥) → within (rowOf f .least) v (rowOf f .greatest) ≡ inRuleOf f n low v
+unfolding inRuleOf leastOf greatestOf
+rule-other f n low v h = ap (λ (t : Bool). within (cond t low (rowOf f .least)) v (cond (t && eqb n 0) 0 (rowOf f .greatest))) (sym (ne-eqb f 7 h))
 
 pub within-zero : (v b : ℕ) → within 0 v b ≡ leb v b
 within-zero v b = ap (λ (t : Bool). t && leb v b) (le-leb 0 v (omega arith))

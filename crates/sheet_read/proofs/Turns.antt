@@ -237,17 +237,24 @@ module _ {n : Point} {vs : List ℕ} {ts : List TuplePlace} {x : Set} {c : Carri
     other-is : (f ≡ 7 → ⊥) → nextField f (n .tuples) vs ts x v ≡ c
     other-is h = ap (λ (t : Bool). cond t (behindOffset (n .tuples) vs ts x v) (nextField f (n .tuples) vs ts x v)) (sym (ne-eqb f 7 h)) ∙ on-is
 
-    pub turn-field : (f ≡ 7 → ⊥) → (new : Point) → new ≡ pointAt (followingOf f v) (n .tuples) → carried new (set vs f v) ts x ≡ c
-    unfolding nextField
-    turn-field h new i = ap (λ (y : Point). carried y (set vs f v) ts x) i ∙ other-is h
+    -- the count
+    pub turn-count : f ≡ 1 → (new : Point) → new ≡ pointAt (openedOf 0 v) (n .tuples) → carried new (set vs 1 v) ts x ≡ c
+    unfolding nextField followingOf
+    turn-count h new i =
+        ap₂ (λ (y : Point) (j : ℕ). carried y (set vs j v) ts x) i (sym h)
+        ∙ ap (λ (t : Bool). carried (pointAt (cond t (openedOf 0 v) (f + 1)) (n .tuples)) (set vs f v) ts x) (sym (eq-eqb f 1 h)) ∙ other-is (λ e. omega arith)
+
+    -- behind any other the next row comes
+    pub turn-field : (f ≡ 7 → ⊥) → (f ≡ 1 → ⊥) → (new : Point) → new ≡ pointAt (f + 1) (n .tuples) → carried new (set vs f v) ts x ≡ c
+    unfolding nextField followingOf
+    turn-field h k new i =
+        ap (λ (y : Point). carried y (set vs f v) ts x) i
+        ∙ ap (λ (t : Bool). carried (pointAt (cond t (openedOf 0 v) (f + 1)) (n .tuples)) (set vs f v) ts x) (sym (ne-eqb f 1 k)) ∙ other-is h
 
     -- padding has no value to keep
     pub turn-padding : 8 ≤ f → (new : Point) → new ≡ pointAt (f + 1) (n .tuples) → carried new vs ts x ≡ c
-    unfolding nextField followingOf
     turn-padding h new i =
-        ap (λ (y : Point). carried y vs ts x) i
-        ∙ ap₂ (λ (t : Bool) (l : List ℕ). carried (pointAt (cond t (openedOf 0 v) (f + 1)) (n .tuples)) l ts x) (sym (ne-eqb f 1 (λ e. omega arith)))
-        (sym (set-out vs f v (omega (arith, b .at .eight)))) ∙ other-is (λ e. omega arith)
+        ap (λ (l : List ℕ). carried new l ts x) (sym (set-out vs f v (omega (arith, b .at .eight)))) ∙ turn-field (λ e. omega arith) (λ e. omega arith) new i
 
     module _ (h : f ≡ 7) where
       at-offset : KeptAt 7 (n .tuples) vs ts x

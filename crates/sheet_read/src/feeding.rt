@@ -77,7 +77,16 @@ pub(crate) fn cleared(x: Set) -> Set
 fn front(values: [u32; 8]) -> [u32; 8]
     ensures { λ r. ⌜ r ≡ frontOf values ⌝ }
 {
-    [values[table::VERSION], values[table::COUNT], 0, 0, 0, 0, 0, 0]
+    [
+        values[table::VERSION],
+        values[table::COUNT],
+        0,
+        0,
+        0,
+        0,
+        0,
+        0,
+    ]
 }
 
 // ---- bits come
@@ -158,9 +167,12 @@ pub(crate) fn feed(s: Carried, piece: &[u8]) -> Carried
                     values = front(values);
                     places = no_tuples();
                 }
+            } else if f == table::COUNT {
+                values[table::COUNT] = v;
+                point = table::begun(table::opened(0, wide(v)), n);
             } else if f < table::PADDING {
-                point = table::begun(table::following(f, v), n);
                 values[f] = v;
+                point = table::begun(f + 1, n);
             } else {
                 point = table::begun(f + 1, n);
             }

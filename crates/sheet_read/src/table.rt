@@ -1,19 +1,25 @@
 // The fields of a sheet as data: a row for each, in document 01's order.
 ghost use mathlib.Core.Path.{_≡_};
-ghost use Prim.Native.Nat.{_<_};
-ghost use Rattle.sheet_read.specs.Table.{row, rowOf, rows, leastOf, greatestOf, inRuleOf, refusalOf, openedOf, followingOf};
+ghost use Rattle.sheet_read.specs.Table.{row, rowOf, greatestOf, inRuleOf, refusalOf, openedOf};
 ghost use Rattle.sheet_read.specs.Reader.{pointAt};
 use crate::Point;
 use crate::SheetField;
 
 // The rows that something else than the next row can come behind, or that a value is looked up by.
 pub(crate) const VERSION: usize = 0;
+
 pub(crate) const COUNT: usize = 1;
+
 pub(crate) const TASK: usize = 2;
+
 pub(crate) const COST: usize = 3;
+
 pub(crate) const DEADLINE: usize = 4;
+
 pub(crate) const TUPLES: usize = 5;
+
 pub(crate) const CYCLE: usize = 6;
+
 pub(crate) const OFFSET: usize = 7;
 // seven padding bits, and a bit of a further byte
 pub(crate) const PADDING: usize = 8;
@@ -49,36 +55,29 @@ fn row(f: usize) -> SheetField
     if REFUSED <= f {
         return field(0, 0, 0);
     }
-    if f == REFUSED - 1 { field(1, 1, 0) } else { field(1, 0, 0) }
-}
-
-fn least(f: usize, low: u32) -> u32
-    ensures { λ r. ⌜ r ≡ leastOf f low ⌝ }
-{
-    if f == OFFSET {
-        low
+    if f == REFUSED - 1 {
+        field(1, 1, 0)
     } else {
-        let r = row(f);
-        r.least
+        field(1, 0, 0)
     }
 }
 
-fn greatest(f: usize, n: usize) -> u32
-    ensures { λ r. ⌜ r ≡ greatestOf f n ⌝ }
+// "the first is 0 and they never fall": how large an offset behind `n` tuples may be.
+fn greatest_offset(n: usize) -> u32
+    ensures { λ r. ⌜ r ≡ greatestOf 7 n ⌝ }
 {
-    if (f == OFFSET) & (n == 0) {
-        0
-    } else {
-        let r = row(f);
-        r.greatest
-    }
+    if n == 0 { 0 } else { 100000 }
 }
 
 // Whether `v` may be the value of the field `f`, behind `n` tuples of which the last has the offset `low`.
 pub(crate) fn in_rule(f: usize, n: usize, low: u32, v: u32) -> bool
     ensures { λ r. ⌜ r ≡ inRuleOf f n low v ⌝ }
 {
-    (least(f, low) <= v) & (v <= greatest(f, n))
+    if f == OFFSET {
+        return (low <= v) & (v <= greatest_offset(n));
+    }
+    let r = row(f);
+    (r.least <= v) & (v <= r.greatest)
 }
 
 // The row of the refusal that any other value gets.
@@ -88,7 +87,11 @@ pub(crate) fn refusal(f: usize) -> usize
     if f == VERSION {
         return REFUSED;
     }
-    if f < PADDING { REFUSED + 1 } else { REFUSED + 2 }
+    if f < PADDING {
+        REFUSED + 1
+    } else {
+        REFUSED + 2
+    }
 }
 
 // What comes behind `k` whole streams of `n`.
@@ -96,18 +99,6 @@ pub(crate) fn opened(k: usize, n: usize) -> usize
     ensures { λ r. ⌜ r ≡ openedOf k n ⌝ }
 {
     if k < n { TASK } else { PADDING }
-}
-
-// What comes behind the field `f` with the value `v`.
-pub(crate) fn following(f: usize, v: u32) -> usize
-    requires { ⌜ f < rows ⌝ }
-    ensures { λ r. ⌜ r ≡ followingOf f v ⌝ }
-{
-    if f == COUNT {
-        opened(0, v as usize)
-    } else {
-        f + 1
-    }
 }
 
 // Before the field `f`, of which no bit has come, behind `n` tuples.

@@ -26,12 +26,12 @@ feed-requires c κs = subst Kept (sym (c .start .ensures)) kept-start
 
 -- src/lib.rt:40:5
 close-requires : tie.Need-close-requires
-close-requires c κs = 
+close-requires c κs =
     subst Kept (sym (c .feed .ensures ∙ ap (λ (s : Carried). run s (bits (c .before .before .before .args .bytes .now))) (c .before .start .ensures))) (kept-run startOf (bits (c .before .before .before .args .bytes .now)) kept-start (bits-bits (c .before .before .before .args .bytes .now)))
 
 -- src/lib.rt:37:1
 returns : tie.Need-returns
-returns c = 
+returns c =
     c .close .ensures ∙ ap closeOf (c .before .feed .ensures ∙ ap (λ (s : Carried). run s (bits (c .before .before .before .before .args .bytes .now))) (c .before .before .start .ensures)) ∙ by-field _
 
 pub read-spec : {M : Type 1} → statement M

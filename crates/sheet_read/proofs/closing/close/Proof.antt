@@ -26,7 +26,7 @@ enum-known-why c = search needs
 
 -- src/closing.rt:44:18
 cleared-requires : tie.Need-cleared-requires
-cleared-requires c κs = 
+cleared-requires c κs =
     let k = c .before .before .before .before .before .before .pre in (k .at .few, k .at .streams)
 
 -- src/closing.rt:31:1
@@ -37,7 +37,7 @@ returns c = ap (λ (a : ReadAnswer). closeAs a (c .before .before .before .befor
 -- src/closing.rt:31:1
 returns-2 : tie.Need-returns-2
 unfolding closeOf
-returns-2 c = 
+returns-2 c =
     ap (λ (x : Set). record { answer = Refused (c .before .before .why .given .0 .0); set = x }) (c .cleared .ensures)
     ∙ ap (λ (a : ReadAnswer). closeAs a (c .before .before .before .before .before .before .before .args .s .set)) (sym (c .before .before .why .given .1) ∙ c .before .before .before .before .answer .ensures)
 

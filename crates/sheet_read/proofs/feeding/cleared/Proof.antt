@@ -51,7 +51,7 @@ loop-less c = search needs
 
 -- src/feeding.rt:70:5
 loop-again : tie.Need-loop-again Inv-loop μ-loop
-loop-again c = 
+loop-again c =
     let x = c .before .before .before .before .args .x in
     let l = c .before .before .before .loop in
     let one : c .stream-in .result ≡ noStream = c .stream-in .ensures ∙ ap (streamIn noValues 0) (c .before .no-tuples .ensures) in (
@@ -62,7 +62,7 @@ loop-again c =
 
 -- src/feeding.rt:63:1
 returns : tie.Need-returns Inv-loop μ-loop
-returns c = 
+returns c =
     let x = c .before .before .args .x in
     let e : c .before .loop .k ≡ x .count = omega arith in
     ap (λ (ss : List Stream). record { count = 0; streams = ss })

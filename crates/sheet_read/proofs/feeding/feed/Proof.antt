@@ -10,7 +10,7 @@ use Rattle.sheet_read.specs.Table.{openedOf, refusalOf}
 use Rattle.sheet_read.specs.Reader.{pointAt, refusedOf, run}
 use Rattle.sheet_read.specs.Kept.{Kept}
 use Rattle.sheet_read.proofs.Rows.{refusal-row}
-use Rattle.sheet_read.proofs.Turns.{ahead-kept, ahead-runs, both-lt, carried, end-le, fits, got-few, got-some, refused-stays, rest, stream-room, tuple-room, turn-field, turn-padding, turn-part, turn-refused, turn-stream, turn-tuple, turn-whole, turned, turns-end}
+use Rattle.sheet_read.proofs.Turns.{ahead-kept, ahead-runs, both-lt, carried, end-le, fits, got-few, got-some, refused-stays, rest, stream-room, tuple-room, turn-count, turn-field, turn-padding, turn-part, turn-refused, turn-stream, turn-tuple, turn-whole, turned, turns-end}
 use native.Mathlib.Omega.{arith}
 use borrow.Author.Needs.{needs}
 use Rattle.sheet_read.proofs.feeding.feed.Statement.{statement}
@@ -26,13 +26,12 @@ use Rattle.sheet_read.proofs.feeding.stream_in.Reads as stream-in-reads
 use Rattle.sheet_read.proofs.feeding.tuple_of.Reads as tuple-of-reads
 use Rattle.sheet_read.proofs.feeding.wide.Reads as wide-reads
 use Rattle.sheet_read.proofs.table.begun.Reads as begun-reads
-use Rattle.sheet_read.proofs.table.following.Reads as following-reads
 use Rattle.sheet_read.proofs.table.in_rule.Reads as in-rule-reads
 use Rattle.sheet_read.proofs.table.opened.Reads as opened-reads
 use Rattle.sheet_read.proofs.table.refusal.Reads as refusal-reads
 
 abbrev Inv-loop : tie.InvT-loop
-Inv-loop piece point₀ values₀ places₀ set₀ byte₀ bit₀ point values places set byte bit = 
+Inv-loop piece point₀ values₀ places₀ set₀ byte₀ bit₀ point values places set byte bit =
     (bit < 8) × (8 * byte + bit ≤ 8 * length piece) × Kept (carried point values places set)
     × (run (carried point values places set) (rest piece (8 * byte + bit)) ≡ run (carried point₀ values₀ places₀ set₀) (bits piece))
 
@@ -49,7 +48,7 @@ gather-requires c κs = search needs
 
 -- src/feeding.rt:136:19
 add-end : tie.Need-add-end Inv-loop μ-loop
-add-end c = 
+add-end c =
     let a = c .before in
     let l = a .before .before .before .loop in
     let t : List ℕ = a .before .before .before .before .before .before .before .before .before .args .piece .now in
@@ -62,14 +61,14 @@ cast-byte c = search needs
 
 -- src/feeding.rt:137:9
 add-byte : tie.Need-add-byte Inv-loop μ-loop
-add-byte c = 
+add-byte c =
     let l = c .before .before .before .before .loop in
     let t : List ℕ = c .before .before .before .before .before .before .before .before .before .before .args .piece .now in
     omega (arith, got-few (turned (l .point) (l .values) (l .places) (l .set) t (l .byte) (l .bit) (c .before .gather .result) (l .inv .2) (c .before .before .if1 .taken) (c .before .gather .ensures)), end-le (turned (l .point) (l .values) (l .places) (l .set) t (l .byte) (l .bit) (c .before .gather .result) (l .inv .2) (c .before .before .if1 .taken) (c .before .gather .ensures)) (l .inv .1))
 
 -- src/feeding.rt:139:9
 joined-requires : tie.Need-joined-requires Inv-loop μ-loop
-joined-requires c κs = 
+joined-requires c κs =
     let a = c .before in
     let l = a .before .before .before .loop in
     let t : List ℕ = a .before .before .before .before .before .before .before .before .before .args .piece .now in
@@ -78,7 +77,7 @@ joined-requires c κs =
 
 -- src/feeding.rt:143:21
 cast-v : tie.Need-cast-v Inv-loop μ-loop
-cast-v c = 
+cast-v c =
     let a = c .before in
     let l = a .before .before .before .before .before .before .before .loop in
     let t : List ℕ = a .before .before .before .before .before .before .before .before .before .before .before .before .before .args .piece .now in
@@ -90,7 +89,7 @@ cast-v c =
 
 -- src/feeding.rt:144:38
 array-read-in-rule : tie.Need-array-read-in-rule Inv-loop μ-loop
-array-read-in-rule c = 
+array-read-in-rule c =
     let a = c .before in
     let l = a .before .before .before .before .before .before .before .loop in
     let t : List ℕ = a .before .before .before .before .before .before .before .before .before .before .before .before .before .args .piece .now in
@@ -109,7 +108,7 @@ refusal-requires c κs = search needs
 
 -- src/feeding.rt:145:17
 refused-requires : tie.Need-refused-requires Inv-loop μ-loop
-refused-requires c κs = 
+refused-requires c κs =
     let a = c .before .before .before .before in
     let l = a .before .before .before .before .before .before .before .loop in
     let t : List ℕ = a .before .before .before .before .before .before .before .before .before .before .before .before .before .args .piece .now in
@@ -121,7 +120,7 @@ refused-requires c κs =
 
 -- src/feeding.rt:145:17
 returns : tie.Need-returns Inv-loop μ-loop
-returns c = 
+returns c =
     let a = c .before .before .before .before .before in
     let l = a .before .before .before .before .before .before .before .loop in
     let t : List ℕ = a .before .before .before .before .before .before .before .before .before .before .before .before .before .args .piece .now in
@@ -135,7 +134,7 @@ returns c =
 
 -- src/feeding.rt:148:38
 array-read-tuple-of : tie.Need-array-read-tuple-of Inv-loop μ-loop
-array-read-tuple-of c = 
+array-read-tuple-of c =
     let a = c .before .before .before .before in
     let l = a .before .before .before .before .before .before .before .loop in
     let t : List ℕ = a .before .before .before .before .before .before .before .before .before .before .before .before .before .args .piece .now in
@@ -150,7 +149,7 @@ tuple-of-requires c κs = search needs
 
 -- src/feeding.rt:148:17
 mul-places : tie.Need-mul-places Inv-loop μ-loop
-mul-places c = 
+mul-places c =
     let a = c .before .before .before .before .before in
     let l = a .before .before .before .before .before .before .before .loop in
     let t : List ℕ = a .before .before .before .before .before .before .before .before .before .before .before .before .before .args .piece .now in
@@ -163,7 +162,7 @@ mul-places c =
 
 -- src/feeding.rt:148:17
 array-set-from-places : tie.Need-array-set-from-places Inv-loop μ-loop
-array-set-from-places c = 
+array-set-from-places c =
     let a = c .before .before .before .before .before in
     let l = a .before .before .before .before .before .before .before .loop in
     let t : List ℕ = a .before .before .before .before .before .before .before .before .before .before .before .before .before .args .piece .now in
@@ -176,7 +175,7 @@ array-set-from-places c =
 
 -- src/feeding.rt:149:29
 array-read-wide : tie.Need-array-read-wide Inv-loop μ-loop
-array-read-wide c = 
+array-read-wide c =
     let a = c .before .before .before .before .before in
     let l = a .before .before .before .before .before .before .before .loop in
     let t : List ℕ = a .before .before .before .before .before .before .before .before .before .before .before .before .before .args .piece .now in
@@ -191,7 +190,7 @@ wide-requires c κs = search needs
 
 -- src/feeding.rt:150:21
 array-write-values : tie.Need-array-write-values Inv-loop μ-loop
-array-write-values c = 
+array-write-values c =
     let a = c .before .before .before .before .before .before .before in
     let l = a .before .before .before .before .before .before .before .loop in
     let t : List ℕ = a .before .before .before .before .before .before .before .before .before .before .before .before .before .args .piece .now in
@@ -202,7 +201,7 @@ array-write-values c =
 
 -- src/feeding.rt:151:21
 array-write-values-2 : tie.Need-array-write-values-2 Inv-loop μ-loop
-array-write-values-2 c = 
+array-write-values-2 c =
     let a = c .before .before .before .before .before .before .before in
     let l = a .before .before .before .before .before .before .before .loop in
     let t : List ℕ = a .before .before .before .before .before .before .before .before .before .before .before .before .before .args .piece .now in
@@ -213,7 +212,7 @@ array-write-values-2 c =
 
 -- src/feeding.rt:152:56
 add-begun : tie.Need-add-begun Inv-loop μ-loop
-add-begun c = 
+add-begun c =
     let a = c .before .before .before .before .before .before .before in
     let l = a .before .before .before .before .before .before .before .loop in
     let t : List ℕ = a .before .before .before .before .before .before .before .before .before .before .before .before .before .args .piece .now in
@@ -230,7 +229,7 @@ begun-requires c κs = search needs
 
 -- src/feeding.rt:134:5
 loop-less : tie.Need-loop-less Inv-loop μ-loop
-loop-less c = 
+loop-less c =
     let a = c .before .before .before .before .before .before .before .before in
     let l = a .before .before .before .before .before .before .before .loop in
     let t : List ℕ = a .before .before .before .before .before .before .before .before .before .before .before .before .before .args .piece .now in
@@ -241,7 +240,7 @@ loop-less c =
 
 -- src/feeding.rt:134:5
 loop-again : tie.Need-loop-again Inv-loop μ-loop
-loop-again c = 
+loop-again c =
     let a = c .before .before .before .before .before .before .before .before in
     let l = a .before .before .before .before .before .before .before .loop in
     let t : List ℕ = a .before .before .before .before .before .before .before .before .before .before .before .before .before .args .piece .now in
@@ -259,7 +258,7 @@ loop-again c =
 
 -- src/feeding.rt:155:56
 add-stream-in : tie.Need-add-stream-in Inv-loop μ-loop
-add-stream-in c = 
+add-stream-in c =
     let a = c .before .before .before .before .before .before .before in
     let l = a .before .before .before .before .before .before .before .loop in
     let t : List ℕ = a .before .before .before .before .before .before .before .before .before .before .before .before .before .args .piece .now in
@@ -276,7 +275,7 @@ stream-in-requires c κs = search needs
 
 -- src/feeding.rt:155:21
 mul-t46 : tie.Need-mul-t46 Inv-loop μ-loop
-mul-t46 c = 
+mul-t46 c =
     let a = c .before .before .before .before .before .before .before .before in
     let l = a .before .before .before .before .before .before .before .loop in
     let t : List ℕ = a .before .before .before .before .before .before .before .before .before .before .before .before .before .args .piece .now in
@@ -289,7 +288,7 @@ mul-t46 c =
 
 -- src/feeding.rt:155:21
 element-set-from-set : tie.Need-element-set-from-set Inv-loop μ-loop
-element-set-from-set c = 
+element-set-from-set c =
     let a = c .before .before .before .before .before .before .before .before in
     let l = a .before .before .before .before .before .before .before .loop in
     let t : List ℕ = a .before .before .before .before .before .before .before .before .before .before .before .before .before .args .piece .now in
@@ -302,7 +301,7 @@ element-set-from-set c =
 
 -- src/feeding.rt:156:33
 add-set : tie.Need-add-set Inv-loop μ-loop
-add-set c = 
+add-set c =
     let a = c .before .before .before .before .before .before .before .before in
     let l = a .before .before .before .before .before .before .before .loop in
     let t : List ℕ = a .before .before .before .before .before .before .before .before .before .before .before .before .before .args .piece .now in
@@ -315,7 +314,7 @@ add-set c =
 
 -- src/feeding.rt:157:56
 add-opened : tie.Need-add-opened Inv-loop μ-loop
-add-opened c = 
+add-opened c =
     let a = c .before .before .before .before .before .before .before .before in
     let l = a .before .before .before .before .before .before .before .loop in
     let t : List ℕ = a .before .before .before .before .before .before .before .before .before .before .before .before .before .args .piece .now in
@@ -328,7 +327,7 @@ add-opened c =
 
 -- src/feeding.rt:157:68
 array-read-wide-2 : tie.Need-array-read-wide-2 Inv-loop μ-loop
-array-read-wide-2 c = 
+array-read-wide-2 c =
     let a = c .before .before .before .before .before .before .before .before in
     let l = a .before .before .before .before .before .before .before .loop in
     let t : List ℕ = a .before .before .before .before .before .before .before .before .before .before .before .before .before .args .piece .now in
@@ -359,7 +358,7 @@ no-tuples-requires c κs = search needs
 
 -- src/feeding.rt:134:5
 loop-less-2 : tie.Need-loop-less-2 Inv-loop μ-loop
-loop-less-2 c = 
+loop-less-2 c =
     let a = c .before .before .before .before .before .before .before .before .before .before .before .before .before in
     let l = a .before .before .before .before .before .before .before .loop in
     let t : List ℕ = a .before .before .before .before .before .before .before .before .before .before .before .before .before .args .piece .now in
@@ -370,7 +369,7 @@ loop-less-2 c =
 
 -- src/feeding.rt:134:5
 loop-again-2 : tie.Need-loop-again-2 Inv-loop μ-loop
-loop-again-2 c = 
+loop-again-2 c =
     let a = c .before .before .before .before .before .before .before .before .before .before .before .before .before in
     let l = a .before .before .before .before .before .before .before .loop in
     let t : List ℕ = a .before .before .before .before .before .before .before .before .before .before .before .before .before .args .piece .now in
@@ -387,49 +386,33 @@ loop-again-2 c =
       ahead-runs w _ _ (8 * (l .byte + (l .bit + g .got) / 8) + (l .bit + g .got) % 8) e (omega arith) (l .inv .3),
     )
 
--- src/feeding.rt:162:38
-following-requires : tie.Need-following-requires Inv-loop μ-loop
-following-requires c κs = 
+-- src/feeding.rt:162:17
+array-write-values-3 : tie.Need-array-write-values-3 Inv-loop μ-loop
+array-write-values-3 c =
     let a = c .before .before .before .before .before in
     let l = a .before .before .before .before .before .before .before .loop in
     let t : List ℕ = a .before .before .before .before .before .before .before .before .before .before .before .before .before .args .piece .now in
     let g : Gathered = a .before .before .before .before .gather .result in
     let n : Point = a .before .before .joined .result in
     let w = turned (l .point) (l .values) (l .places) (l .set) t (l .byte) (l .bit) g (l .inv .2) (a .before .before .before .before .before .if1 .taken) (a .before .before .before .before .gather .ensures) in
-    let b = turn-whole w n (a .before .before .joined .ensures) (a .if2 .taken) in
-    b .at .row
+    omega (arith, w .kept .at .eight)
 
--- src/feeding.rt:162:17
+-- src/feeding.rt:163:55
+wide-requires-3 : tie.Need-wide-requires-3 Inv-loop μ-loop
+wide-requires-3 c κs = search needs
+
+-- src/feeding.rt:163:38
+opened-requires-2 : tie.Need-opened-requires-2 Inv-loop μ-loop
+opened-requires-2 c κs = search needs
+
+-- src/feeding.rt:163:17
 begun-requires-3 : tie.Need-begun-requires-3 Inv-loop μ-loop
 begun-requires-3 c κs = search needs
 
--- src/feeding.rt:163:17
-mul-values : tie.Need-mul-values Inv-loop μ-loop
-mul-values c = 
-    let a = c .before .before .before .before .before .before .before in
-    let l = a .before .before .before .before .before .before .before .loop in
-    let t : List ℕ = a .before .before .before .before .before .before .before .before .before .before .before .before .before .args .piece .now in
-    let g : Gathered = a .before .before .before .before .gather .result in
-    let n : Point = a .before .before .joined .result in
-    let w = turned (l .point) (l .values) (l .places) (l .set) t (l .byte) (l .bit) g (l .inv .2) (a .before .before .before .before .before .if1 .taken) (a .before .before .before .before .gather .ensures) in
-    let b = turn-whole w n (a .before .before .joined .ensures) (a .if2 .taken) in
-    omega (arith, c .before .before .if6 .taken)
-
--- src/feeding.rt:163:17
-array-write-values-3 : tie.Need-array-write-values-3 Inv-loop μ-loop
-array-write-values-3 c = 
-    let a = c .before .before .before .before .before .before .before in
-    let l = a .before .before .before .before .before .before .before .loop in
-    let t : List ℕ = a .before .before .before .before .before .before .before .before .before .before .before .before .before .args .piece .now in
-    let g : Gathered = a .before .before .before .before .gather .result in
-    let n : Point = a .before .before .joined .result in
-    let w = turned (l .point) (l .values) (l .places) (l .set) t (l .byte) (l .bit) g (l .inv .2) (a .before .before .before .before .before .if1 .taken) (a .before .before .before .before .gather .ensures) in
-    omega (arith, w .kept .at .eight, c .before .before .if6 .taken)
-
 -- src/feeding.rt:134:5
 loop-less-3 : tie.Need-loop-less-3 Inv-loop μ-loop
-loop-less-3 c = 
-    let a = c .before .before .before .before .before .before .before in
+loop-less-3 c =
+    let a = c .before .before .before .before .before .before .before .before in
     let l = a .before .before .before .before .before .before .before .loop in
     let t : List ℕ = a .before .before .before .before .before .before .before .before .before .before .before .before .before .args .piece .now in
     let g : Gathered = a .before .before .before .before .gather .result in
@@ -439,42 +422,49 @@ loop-less-3 c =
 
 -- src/feeding.rt:134:5
 loop-again-3 : tie.Need-loop-again-3 Inv-loop μ-loop
-loop-again-3 c = 
-    let a = c .before .before .before .before .before .before .before in
+loop-again-3 c =
+    let a = c .before .before .before .before .before .before .before .before in
     let l = a .before .before .before .before .before .before .before .loop in
     let t : List ℕ = a .before .before .before .before .before .before .before .before .before .before .before .before .before .args .piece .now in
     let g : Gathered = a .before .before .before .before .gather .result in
     let n : Point = a .before .before .joined .result in
     let w = turned (l .point) (l .values) (l .places) (l .set) t (l .byte) (l .bit) g (l .inv .2) (a .before .before .before .before .before .if1 .taken) (a .before .before .before .before .gather .ensures) in
     let b = turn-whole w n (a .before .before .joined .ensures) (a .if2 .taken) in
-    let r = sym (c .before .before .before .before .before .in-rule .ensures) ∙ not-false _ (c .before .before .before .before .if3 .left) in
-    let e = turn-field b r (c .before .before .before .if4 .left) (c .begun3 .result) (c .begun3 .ensures ∙ ap (λ (i : ℕ). pointAt i (n .tuples)) (c .before .following .ensures)) in (
+    let r = sym (c .before .before .before .before .before .before .in-rule .ensures) ∙ not-false _ (c .before .before .before .before .before .if3 .left) in
+    let e = turn-count b r (c .before .before .before .if6 .taken) (c .begun3 .result) (c .begun3 .ensures ∙ ap (λ (i : ℕ). pointAt i (n .tuples)) (c .before .opened2 .ensures ∙ ap (openedOf 0) (c .before .before .wide3 .ensures))) in (
       omega arith,
       omega (arith, end-le w (l .inv .1)),
       ahead-kept w _ e,
       ahead-runs w _ _ (8 * (l .byte + (l .bit + g .got) / 8) + (l .bit + g .got) % 8) e (omega arith) (l .inv .3),
     )
 
--- src/feeding.rt:165:38
-add-begun-2 : tie.Need-add-begun-2 Inv-loop μ-loop
-add-begun-2 c = 
-    let a = c .before .before .before .before .before in
+-- src/feeding.rt:165:17
+mul-values : tie.Need-mul-values Inv-loop μ-loop
+mul-values c = omega (arith, c .if7 .taken)
+
+-- src/feeding.rt:165:17
+array-write-values-4 : tie.Need-array-write-values-4 Inv-loop μ-loop
+array-write-values-4 c =
+    let a = c .before .before .before .before .before .before in
     let l = a .before .before .before .before .before .before .before .loop in
     let t : List ℕ = a .before .before .before .before .before .before .before .before .before .before .before .before .before .args .piece .now in
     let g : Gathered = a .before .before .before .before .gather .result in
     let n : Point = a .before .before .joined .result in
     let w = turned (l .point) (l .values) (l .places) (l .set) t (l .byte) (l .bit) g (l .inv .2) (a .before .before .before .before .before .if1 .taken) (a .before .before .before .before .gather .ensures) in
-    let b = turn-whole w n (a .before .before .joined .ensures) (a .if2 .taken) in
-    omega (arith, b .row)
+    omega (arith, w .kept .at .eight, c .if7 .taken)
 
--- src/feeding.rt:165:17
+-- src/feeding.rt:166:38
+add-begun-2 : tie.Need-add-begun-2 Inv-loop μ-loop
+add-begun-2 c = omega (arith, c .if7 .taken)
+
+-- src/feeding.rt:166:17
 begun-requires-4 : tie.Need-begun-requires-4 Inv-loop μ-loop
 begun-requires-4 c κs = search needs
 
 -- src/feeding.rt:134:5
 loop-less-4 : tie.Need-loop-less-4 Inv-loop μ-loop
-loop-less-4 c = 
-    let a = c .before .before .before .before .before .before in
+loop-less-4 c =
+    let a = c .before .before .before .before .before .before .before in
     let l = a .before .before .before .before .before .before .before .loop in
     let t : List ℕ = a .before .before .before .before .before .before .before .before .before .before .before .before .before .args .piece .now in
     let g : Gathered = a .before .before .before .before .gather .result in
@@ -484,7 +474,25 @@ loop-less-4 c =
 
 -- src/feeding.rt:134:5
 loop-again-4 : tie.Need-loop-again-4 Inv-loop μ-loop
-loop-again-4 c = 
+loop-again-4 c =
+    let a = c .before .before .before .before .before .before .before in
+    let l = a .before .before .before .before .before .before .before .loop in
+    let t : List ℕ = a .before .before .before .before .before .before .before .before .before .before .before .before .before .args .piece .now in
+    let g : Gathered = a .before .before .before .before .gather .result in
+    let n : Point = a .before .before .joined .result in
+    let w = turned (l .point) (l .values) (l .places) (l .set) t (l .byte) (l .bit) g (l .inv .2) (a .before .before .before .before .before .if1 .taken) (a .before .before .before .before .gather .ensures) in
+    let b = turn-whole w n (a .before .before .joined .ensures) (a .if2 .taken) in
+    let r = sym (c .before .before .before .before .before .in-rule .ensures) ∙ not-false _ (c .before .before .before .before .if3 .left) in
+    let e = turn-field b r (c .before .before .before .if4 .left) (c .before .before .if6 .left) (c .begun4 .result) (c .begun4 .ensures) in (
+      omega arith,
+      omega (arith, end-le w (l .inv .1)),
+      ahead-kept w _ e,
+      ahead-runs w _ _ (8 * (l .byte + (l .bit + g .got) / 8) + (l .bit + g .got) % 8) e (omega arith) (l .inv .3),
+    )
+
+-- src/feeding.rt:168:38
+add-begun-3 : tie.Need-add-begun-3 Inv-loop μ-loop
+add-begun-3 c =
     let a = c .before .before .before .before .before .before in
     let l = a .before .before .before .before .before .before .before .loop in
     let t : List ℕ = a .before .before .before .before .before .before .before .before .before .before .before .before .before .args .piece .now in
@@ -492,18 +500,16 @@ loop-again-4 c =
     let n : Point = a .before .before .joined .result in
     let w = turned (l .point) (l .values) (l .places) (l .set) t (l .byte) (l .bit) g (l .inv .2) (a .before .before .before .before .before .if1 .taken) (a .before .before .before .before .gather .ensures) in
     let b = turn-whole w n (a .before .before .joined .ensures) (a .if2 .taken) in
-    let r = sym (c .before .before .before .before .in-rule .ensures) ∙ not-false _ (c .before .before .before .if3 .left) in
-    let e = turn-padding b r (c .before .if6 .left) (c .begun4 .result) (c .begun4 .ensures) in (
-      omega arith,
-      omega (arith, end-le w (l .inv .1)),
-      ahead-kept w _ e,
-      ahead-runs w _ _ (8 * (l .byte + (l .bit + g .got) / 8) + (l .bit + g .got) % 8) e (omega arith) (l .inv .3),
-    )
+    omega (arith, b .row)
+
+-- src/feeding.rt:168:17
+begun-requires-5 : tie.Need-begun-requires-5 Inv-loop μ-loop
+begun-requires-5 c κs = search needs
 
 -- src/feeding.rt:134:5
 loop-less-5 : tie.Need-loop-less-5 Inv-loop μ-loop
-loop-less-5 c = 
-    let a = c in
+loop-less-5 c =
+    let a = c .before .before .before .before .before .before .before in
     let l = a .before .before .before .before .before .before .before .loop in
     let t : List ℕ = a .before .before .before .before .before .before .before .before .before .before .before .before .before .args .piece .now in
     let g : Gathered = a .before .before .before .before .gather .result in
@@ -513,7 +519,36 @@ loop-less-5 c =
 
 -- src/feeding.rt:134:5
 loop-again-5 : tie.Need-loop-again-5 Inv-loop μ-loop
-loop-again-5 c = 
+loop-again-5 c =
+    let a = c .before .before .before .before .before .before .before in
+    let l = a .before .before .before .before .before .before .before .loop in
+    let t : List ℕ = a .before .before .before .before .before .before .before .before .before .before .before .before .before .args .piece .now in
+    let g : Gathered = a .before .before .before .before .gather .result in
+    let n : Point = a .before .before .joined .result in
+    let w = turned (l .point) (l .values) (l .places) (l .set) t (l .byte) (l .bit) g (l .inv .2) (a .before .before .before .before .before .if1 .taken) (a .before .before .before .before .gather .ensures) in
+    let b = turn-whole w n (a .before .before .joined .ensures) (a .if2 .taken) in
+    let r = sym (c .before .before .before .before .before .in-rule .ensures) ∙ not-false _ (c .before .before .before .before .if3 .left) in
+    let e = turn-padding b r (c .before .if7 .left) (c .begun5 .result) (c .begun5 .ensures) in (
+      omega arith,
+      omega (arith, end-le w (l .inv .1)),
+      ahead-kept w _ e,
+      ahead-runs w _ _ (8 * (l .byte + (l .bit + g .got) / 8) + (l .bit + g .got) % 8) e (omega arith) (l .inv .3),
+    )
+
+-- src/feeding.rt:134:5
+loop-less-6 : tie.Need-loop-less-6 Inv-loop μ-loop
+loop-less-6 c =
+    let a = c in
+    let l = a .before .before .before .before .before .before .before .loop in
+    let t : List ℕ = a .before .before .before .before .before .before .before .before .before .before .before .before .before .args .piece .now in
+    let g : Gathered = a .before .before .before .before .gather .result in
+    let n : Point = a .before .before .joined .result in
+    let w = turned (l .point) (l .values) (l .places) (l .set) t (l .byte) (l .bit) g (l .inv .2) (a .before .before .before .before .before .if1 .taken) (a .before .before .before .before .gather .ensures) in
+    omega (arith, end-le w (l .inv .1), got-some w (omega (arith, both-lt (l .byte) (length t) 0 (l .point .left) (a .before .before .before .before .before .if1 .taken) .0)))
+
+-- src/feeding.rt:134:5
+loop-again-6 : tie.Need-loop-again-6 Inv-loop μ-loop
+loop-again-6 c =
     let a = c in
     let l = a .before .before .before .before .before .before .before .loop in
     let t : List ℕ = a .before .before .before .before .before .before .before .before .before .before .before .before .before .args .piece .now in
@@ -575,16 +610,22 @@ feed-spec =
     no-tuples-requires
     loop-less-2
     loop-again-2
-    following-requires
-    begun-requires-3
-    mul-values
     array-write-values-3
+    wide-requires-3
+    opened-requires-2
+    begun-requires-3
     loop-less-3
     loop-again-3
+    mul-values
+    array-write-values-4
     add-begun-2
     begun-requires-4
     loop-less-4
     loop-again-4
+    add-begun-3
+    begun-requires-5
     loop-less-5
     loop-again-5
+    loop-less-6
+    loop-again-6
     returns-2)

@@ -30,7 +30,7 @@ cleared-requires c κs = search needs
 -- src/feeding.rt:121:1
 returns : tie.Need-returns
 unfolding refusedOf
-returns c = 
+returns c =
     ap₂ (λ (p : Point) (x : Set). record { point = p; values = noValues; places = c .before .no-tuples .result; set = x }) (c .before .before .begun .ensures) (c .cleared .ensures)
     ∙ ap (λ (ts : List TuplePlace). record { point = pointAt (c .before .before .before .args .f) 0; values = noValues; places = ts; set = emptySet }) (c .before .no-tuples .ensures)
 

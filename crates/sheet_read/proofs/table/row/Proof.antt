@@ -79,7 +79,7 @@ returns-7 c = c .field7 .ensures ∙ ap rowOf (sym (c .before .match .keys7))
 -- src/table.rt:38:9
 returns-8 : tie.Need-returns-8
 unfolding rowOf
-returns-8 c = 
+returns-8 c =
     let r = c .before .match .rest in
     c .field8 .ensures ∙ ap rowOf (sym (last-value _ (c .before .before .if1 .taken) (r .0 .0 .0 .0 .0 .0 .1) (r .0 .0 .0 .0 .0 .1) (r .0 .0 .0 .0 .1) (r .0 .0 .0 .1) (r .0 .0 .1) (r .0 .1) (r .1)))
 
