@@ -1,18 +1,17 @@
-use native.Mathlib.Omega.{arith}
-use borrow.Author.Needs.{needs}
 use Prim.Native.Nat.{ℕ, _-_, _≤_}
 use mathlib.Core.Path.{_≡_, refl, ap, ap₂, _∙_}
 use mathlib.Core.List.{List, _++_}
 use lib.ListN.{drop, replicate, set}
 use Rattle.rules.specs.declared.Stream.{Stream}
-use Rattle.sheet_read.specs.Reader.{streamIn}
+use Rattle.sheet_read.specs.Reader.{noValues, streamIn}
 use Rattle.sheet_read.proofs.Filled.{cleared-all, cleared-more, holds-length}
 use Rattle.rules.specs.Streams.{noStream}
-use Rattle.sheet_read.proofs.closing.cleared.Statement.{statement}
-use Rattle.sheet_read.proofs.closing.cleared.Tie as tie
-use Rattle.sheet_read.proofs.closing.cleared.Reads as reads
-use Rattle.sheet_read.proofs.closing.cleared.Lts as lts
-use Rattle.sheet_read.proofs.stages.fresh_head.Reads as fresh-head-reads
+use native.Mathlib.Omega.{arith}
+use borrow.Author.Needs.{needs}
+use Rattle.sheet_read.proofs.feeding.cleared.Statement.{statement}
+use Rattle.sheet_read.proofs.feeding.cleared.Tie as tie
+use Rattle.sheet_read.proofs.feeding.cleared.Reads as reads
+use Rattle.sheet_read.proofs.feeding.cleared.Lts as lts
 use Rattle.sheet_read.proofs.feeding.no_tuples.Reads as no-tuples-reads
 use Rattle.sheet_read.proofs.feeding.stream_in.Reads as stream-in-reads
 
@@ -22,50 +21,46 @@ Inv-loop set₀ n k₀ set k = (k ≤ n) × (set .streams ≡ replicate k noStre
 abbrev μ-loop : tie.MeasureT-loop
 μ-loop set₀ n k₀ set k = n - k
 
--- src/lib.rt:475:5
+-- src/feeding.rt:70:5
 loop-holds : tie.Need-loop-holds Inv-loop μ-loop
 loop-holds c = (omega arith, refl)
 
--- src/lib.rt:476:36
-fresh-head-requires : tie.Need-fresh-head-requires Inv-loop μ-loop
-fresh-head-requires c κs = search needs
-
--- src/lib.rt:476:50
+-- src/feeding.rt:71:47
 no-tuples-requires : tie.Need-no-tuples-requires Inv-loop μ-loop
 no-tuples-requires c κs = search needs
 
--- src/lib.rt:476:26
+-- src/feeding.rt:71:26
 stream-in-requires : tie.Need-stream-in-requires Inv-loop μ-loop
 stream-in-requires c κs = search needs
 
--- src/lib.rt:476:9
+-- src/feeding.rt:71:9
 mul-t9 : tie.Need-mul-t9 Inv-loop μ-loop
 mul-t9 c = search needs
 
--- src/lib.rt:476:9
+-- src/feeding.rt:71:9
 element-set-from-set : tie.Need-element-set-from-set Inv-loop μ-loop
 element-set-from-set c = search needs
 
--- src/lib.rt:477:9
+-- src/feeding.rt:72:9
 add-k : tie.Need-add-k Inv-loop μ-loop
 add-k c = search needs
 
--- src/lib.rt:475:5
+-- src/feeding.rt:70:5
 loop-less : tie.Need-loop-less Inv-loop μ-loop
 loop-less c = search needs
 
--- src/lib.rt:475:5
+-- src/feeding.rt:70:5
 loop-again : tie.Need-loop-again Inv-loop μ-loop
 loop-again c =
-    let x = c .before .before .before .before .before .args .x in
-    let l = c .before .before .before .before .loop in
-    let one : c .stream-in .result ≡ noStream = c .stream-in .ensures ∙ ap₂ streamIn (c .before .before .fresh-head .ensures) (c .before .no-tuples .ensures) in (
+    let x = c .before .before .before .before .args .x in
+    let l = c .before .before .before .loop in
+    let one : c .stream-in .result ≡ noStream = c .stream-in .ensures ∙ ap (streamIn noValues 0) (c .before .no-tuples .ensures) in (
       omega arith,
       ap₂ (λ (ss : List Stream) (s : Stream). set ss (l .k) s) (l .inv .1) one
-          ∙ cleared-more noStream (l .k) (x .streams) (omega (arith, holds-length 16 noStream (x .count) (x .streams) (c .before .before .before .before .before .pre .1) (c .before .before .before .before .before .pre .0))),
+          ∙ cleared-more noStream (l .k) (x .streams) (omega (arith, holds-length 16 noStream (x .count) (x .streams) (c .before .before .before .before .pre .1) (c .before .before .before .before .pre .0))),
     )
 
--- src/lib.rt:468:1
+-- src/feeding.rt:63:1
 returns : tie.Need-returns Inv-loop μ-loop
 returns c =
     let x = c .before .before .args .x in
@@ -80,7 +75,6 @@ cleared-spec =
     Inv-loop
     μ-loop
     loop-holds
-    fresh-head-requires
     no-tuples-requires
     stream-in-requires
     mul-t9
