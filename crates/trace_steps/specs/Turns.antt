@@ -9,6 +9,7 @@ use Rattle.rules.specs.declared.State.{State}
 use Rattle.rules.specs.declared.Refusal.the-variants.{BadByte}
 use Rattle.rules.specs.Numbers.{number, refused, postSays, unitSays}
 use Rattle.rules.specs.Steps.{postOf, unitOf}
+use Rattle.line.specs.Line.{lineRoom}
 use Rattle.answer_words.specs.Words.{says, lineOf, stepLine}
 use Rattle.trace_bytes.specs.declared.Heard.{Heard}
 use Rattle.trace_bytes.specs.declared.Heard.the-variants.{Skip, More, Post, Unit, Done, Bad}
@@ -57,9 +58,9 @@ unfoldable pub textEnd : Tracing → List ℕ
 textEnd r = cond (r .live) (nextText (r .state) (endOf (r .waiting))) []
 
 -- a piece of the trace that is taken: the run after it, and the page with what it prints at its
--- front and the rest as it was. With less than 128 bytes
+-- front and the rest as it was. With less than a line's room
 -- of the page for each byte of the piece nothing is taken.
 pub record PieceTraced (r : Tracing) (piece out : List ℕ) (s : Tracing) (len : ℕ) (page : List ℕ) : Type 0 where
-  pub room : length piece * 128 ≤ length out
+  pub room : length piece * lineRoom ≤ length out
       → (s ≡ runOn r piece) × ((len ≡ length (textOn r piece)) × (page ≡ textOn r piece ++ drop (length (textOn r piece)) out))
-  pub none : length out < length piece * 128 → (s ≡ r) × ((len ≡ 0) × (page ≡ out))
+  pub none : length out < length piece * lineRoom → (s ≡ r) × ((len ≡ 0) × (page ≡ out))

@@ -4,7 +4,7 @@ ghost use mathlib.Core.Bool.{true, false};
 ghost use mathlib.Core.List.{_++_, []};
 ghost use Prim.Native.Nat.{_+_, _*_, _≤_};
 ghost use lib.ListN.{length, drop};
-ghost use Rattle.line.specs.Line.{holding};
+ghost use Rattle.line.specs.Line.{lineRoom, holding};
 ghost use Rattle.trace_steps.specs.Turns.{nextRun, nextText, runAfter, textAfter, runOn, textOn, textEnd, PieceTraced};
 use line::Line;
 use rules::Refusal;
@@ -124,9 +124,9 @@ pub struct Fed {
     pub len: usize,
 }
 
-// The bytes of a piece one after the other, their lines on the page: 128 bytes of it for each are enough.
+// The bytes of a piece one after the other, their lines on the page: room for a line for each is enough.
 fn feed(run: Tracing, piece: &[u8], out: &mut [u8]) -> Fed
-    requires { ⌜ length (now piece) * 128 ≤ length (now out) ⌝ }
+    requires { ⌜ length (now piece) * lineRoom ≤ length (now out) ⌝ }
     ensures { λ r. ⌜ (r .run ≡ runOn run (now (piece .entry))) × ((r .len ≡ length (textOn run (now (piece .entry)))) × (now (out .exit) ≡ textOn run (now (piece .entry)) ++ drop (length (textOn run (now (piece .entry)))) (now (out .entry)))) ⌝ }
 {
     let mut r = run;
@@ -147,7 +147,7 @@ fn feed(run: Tracing, piece: &[u8], out: &mut [u8]) -> Fed
 pub fn take_piece(run: Tracing, piece: &[u8], out: &mut [u8]) -> Fed
     ensures { λ r. ⌜ PieceTraced run (now (piece .entry)) (now (out .entry)) (r .run) (r .len) (now (out .exit)) ⌝ }
 {
-    if piece.len() <= out.len() / 128 {
+    if piece.len() <= out.len() / line::ROOM {
         feed(run, piece, out)
     } else {
         Fed { run, len: 0 }
