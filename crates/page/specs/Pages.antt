@@ -26,7 +26,7 @@ printedEnd out at w = cond (roomFor out at (length w)) (at + length w) at
 abbrev pub Onto : List ℕ → ℕ → List ℕ → ℕ → List ℕ → Type 0
 Onto out at w end page = (end ≡ printedEnd out at w) × (page ≡ printed out at w)
 
--- there is room for the line, which is no longer than any
+-- there is room for the line, which has at most `lineRoom` bytes
 unfoldable pub hasRoom : List ℕ → ℕ → Line → Bool
 hasRoom out at l = leb (l .len) lineRoom && roomFor out at (l .len)
 

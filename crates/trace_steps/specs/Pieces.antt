@@ -8,6 +8,7 @@ use mathlib.Core.List.{List, [], _∷_, _++_}
 use lib.ListN.{length, take}
 use Rattle.rules.specs.Sheet.{readOf}
 use Rattle.line.specs.declared.Line.{Line}
+use Rattle.line.specs.Line.{lineRoom}
 use Rattle.trace_steps.specs.declared.Tracing.{Tracing}
 use Rattle.trace_steps.specs.declared.Turn.{Turn}
 use Rattle.trace_steps.specs.Turns.{Beginning, Ending, PieceTraced}
@@ -26,7 +27,7 @@ joinedOf (p ∷ ps) = p ++ joinedOf ps
 pub data Written : Tracing → List (List ℕ) → List ℕ → Type 0 where
   halts : {t : Tracing} {ps : List (List ℕ)} → t .live ≡ false → Written t ps []
   ends : {t : Tracing} (l : Line) → Ending t l → Written t [] (bytesOf l)
-  goes-on : {t next : Tracing} {p out page : List ℕ} {len : ℕ} {ps : List (List ℕ)} {w : List ℕ} → length p * 128 ≤ length out
+  goes-on : {t next : Tracing} {p out page : List ℕ} {len : ℕ} {ps : List (List ℕ)} {w : List ℕ} → length p * lineRoom ≤ length out
       → PieceTraced t p out next len page → Written next ps w → Written t (p ∷ ps) (take len page ++ w)
 
 -- the whole: the first line, and what is written of the pieces from there

@@ -17,7 +17,7 @@ use Rattle.rules.specs.Numbers.{number, refused, callSays, verdictSays}
 use Rattle.rules.specs.Steps.{startOf, callOf}
 use Rattle.load_check.specs.Sheets.{SheetVerdict}
 use Rattle.line.specs.declared.Line.{Line}
-use Rattle.line.specs.Line.{holding}
+use Rattle.line.specs.Line.{lineRoom, holding}
 use Rattle.answer_words.specs.Words.{says, lineOf, stepLine}
 use Rattle.trace_bytes.specs.declared.Heard.{Heard}
 use Rattle.trace_bytes.specs.declared.Heard.the-variants.{Skip, More, Makes, Bad}
@@ -98,9 +98,9 @@ textToEnd t l = textOn t l ++ textEnd (tracingOn t l)
 abbrev pub Ending : Tracing → Line → Type 0
 Ending t l = l ≡ holding (textEnd t)
 
--- a piece of the trace: the tracing after it, and the page with what it prints at its front and the rest as it was. With less than 128 bytes
+-- a piece of the trace: the tracing after it, and the page with what it prints at its front and the rest as it was. With less than a line's room
 -- of the page for each byte of the piece nothing is taken.
 pub record PieceTraced (t : Tracing) (piece out : List ℕ) (next : Tracing) (len : ℕ) (page : List ℕ) : Type 0 where
-  pub room : length piece * 128 ≤ length out
+  pub room : length piece * lineRoom ≤ length out
       → (next ≡ tracingOn t piece) × ((len ≡ length (textOn t piece)) × (page ≡ textOn t piece ++ drop (length (textOn t piece)) out))
-  pub none : length out < length piece * 128 → (next ≡ t) × ((len ≡ 0) × (page ≡ out))
+  pub none : length out < length piece * lineRoom → (next ≡ t) × ((len ≡ 0) × (page ≡ out))

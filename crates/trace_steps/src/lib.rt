@@ -5,7 +5,7 @@ ghost use mathlib.Core.List.{_++_, []};
 ghost use Prim.Native.Nat.{_+_, _*_, _≤_};
 ghost use lib.ListN.{length, drop};
 ghost use Rattle.rules.specs.Numbers.{callSays};
-ghost use Rattle.line.specs.Line.{holding};
+ghost use Rattle.line.specs.Line.{lineRoom, holding};
 ghost use Rattle.answer_words.specs.Words.{stepLine};
 ghost use Rattle.trace_steps.specs.Turns.{wasRead, tracingFrom, Beginning, going, nextTracing, nextText, tracingAfter, textAfter, tracingOn, textOn, Ending, PieceTraced};
 use line::Line;
@@ -156,9 +156,9 @@ pub struct Fed {
     pub len: usize,
 }
 
-// The bytes of a piece one after the other, their lines on the page: 128 bytes of it for each are enough.
+// The bytes of a piece one after the other, their lines on the page: a line's room for each is enough.
 fn feed(tracing: Tracing, piece: &[u8], out: &mut [u8]) -> Fed
-    requires { ⌜ length (now piece) * 128 ≤ length (now out) ⌝ }
+    requires { ⌜ length (now piece) * lineRoom ≤ length (now out) ⌝ }
     ensures { λ r. ⌜ (r .tracing ≡ tracingOn tracing (now (piece .entry))) × ((r .len ≡ length (textOn tracing (now (piece .entry)))) × (now (out .exit) ≡ textOn tracing (now (piece .entry)) ++ drop (length (textOn tracing (now (piece .entry)))) (now (out .entry)))) ⌝ }
 {
     let mut r = tracing;
@@ -182,7 +182,7 @@ fn feed(tracing: Tracing, piece: &[u8], out: &mut [u8]) -> Fed
 pub fn take_piece(tracing: Tracing, piece: &[u8], out: &mut [u8]) -> Fed
     ensures { λ r. ⌜ PieceTraced tracing (now (piece .entry)) (now (out .entry)) (r .tracing) (r .len) (now (out .exit)) ⌝ }
 {
-    if piece.len() <= out.len() / 128 {
+    if piece.len() <= out.len() / line::ROOM {
         feed(tracing, piece, out)
     } else {
         Fed { tracing, len: 0 }
