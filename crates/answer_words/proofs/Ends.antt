@@ -12,18 +12,17 @@ use mir.ValLaws.{toZ-ofZ}
 use Rattle.rules.specs.Numbers.{Says}
 use Rattle.line.specs.declared.Line.{Line}
 use Rattle.ascii.specs.Decimal.{decimalOf, signedOf, spaced}
-use Rattle.line.specs.Line.{holding, putOf, puts}
-use Rattle.ascii.proofs.Digits.{digits-short}
+use Rattle.line.specs.Line.{lineRoom, holding, putOf, puts}
 use Rattle.line.proofs.Puts.{then, first, last, holds}
 use Rattle.answer_words.specs.Words.{says, lineOf, stepLine}
-use Rattle.answer_words.proofs.Lengths.{says-short}
+use Rattle.answer_words.proofs.Lengths.{line-short, step-short}
 
 -- what was put on a blank line is what it holds
-held : (b r : Line) (w : List ℕ) → b ≡ holding [] → r ≡ puts b w → length w ≤ 128 → r ≡ holding w
+held : (b r : Line) (w : List ℕ) → b ≡ holding [] → r ≡ puts b w → length w ≤ lineRoom → r ≡ holding w
 held b r w e f h = f ∙ ap (λ (l : Line). puts l w) e ∙ holds [] w (omega arith)
 
 pub ended : (b m r : Line) (w : List ℕ) → length w ≤ 95 → b ≡ holding [] → m ≡ puts b w → r ≡ putOf m 10 → r ≡ holding (lineOf w)
-ended b m r w h e f g = held b r (lineOf w) e (last b m r w 10 f g) (omega (arith, length-append w (10 ∷ [])))
+ended b m r w h e f g = held b r (lineOf w) e (last b m r w 10 f g) (line-short w h)
 
 pub stepped : (b d f m r : Line) (n : ℕ) (s : Says) → b ≡ holding [] → d ≡ puts b (decimalOf n) → f ≡ putOf d 32
     → m ≡ puts f (says s) → r ≡ putOf m 10 → r ≡ holding (stepLine n s)
@@ -31,13 +30,7 @@ unfolding stepLine
 stepped b d f m r n s e p q x y =
     held b r (decimalOf n ++ spaced (says s) ++ (10 ∷ [])) e
     (last b m r (decimalOf n ++ spaced (says s)) 10 (then b d m (decimalOf n) (spaced (says s)) p (first d f m 32 (says s) q x)) y)
-    (omega (
-      arith,
-      length-append (decimalOf n ++ spaced (says s)) (10 ∷ []),
-      length-append (decimalOf n) (spaced (says s)),
-      digits-short 20 n,
-      says-short s,
-    ))
+    (step-short n s)
 
 -- a laxity behind a space: the machine's signed number is the number
 pub lax : (l m r : Line) (v : List ℕ) (z : ℤ) → SFits w64 z → m ≡ puts l v → r ≡ puts m (spaced (signedOf (toZ w64 (ofZ w64 z))))

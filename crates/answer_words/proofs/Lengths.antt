@@ -12,7 +12,8 @@ use Rattle.rules.specs.declared.ReadAnswer.the-variants.{Read, Refused}
 use Rattle.rules.specs.Numbers.{Says, number, refused, refused-with-0, started, posted, none, runs, ran, done, cut, idle, gives, tuples, accept, late, overload, read, wrote}
 use Rattle.ascii.specs.Decimal.{letters, decimalOf, signedOf, spaced}
 use Rattle.ascii.proofs.Digits.{digits-short}
-use Rattle.answer_words.specs.Words.{tupleWords, says, readWords}
+use Rattle.line.specs.Line.{lineRoom}
+use Rattle.answer_words.specs.Words.{tupleWords, says, readWords, lineOf, stepLine}
 
 -- a number with its space, behind a word
 one : (w : List ℕ) (n : ℕ) → length (w ++ spaced (decimalOf n)) ≤ length w + 21
@@ -63,3 +64,18 @@ says-short (wrote n) = omega (arith, one (letters "wrote") n)
 pub read-short : (a : ReadAnswer) (n : ℕ) → length (readWords a n) ≤ 95
 read-short Read n = omega (arith, one (letters "set") n)
 read-short (Refused why) n = says-short (refused (number why))
+
+-- a line has room for the words of an answer, with a clock before them too
+pub line-short : (w : List ℕ) → length w ≤ 95 → length (lineOf w) ≤ lineRoom
+line-short w h = omega (arith, length-append w (10 ∷ []))
+
+pub step-short : (clock : ℕ) (s : Says) → length (stepLine clock s) ≤ lineRoom
+unfolding stepLine
+step-short clock s =
+    omega (
+      arith,
+      length-append (decimalOf clock ++ spaced (says s)) (10 ∷ []),
+      length-append (decimalOf clock) (spaced (says s)),
+      digits-short 20 clock,
+      says-short s,
+    )

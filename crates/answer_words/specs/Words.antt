@@ -10,7 +10,7 @@ use Rattle.rules.specs.Numbers.{Says, number, refused, refused-with-0, started,
 use Rattle.ascii.specs.Decimal.{letters, decimalOf, signedOf, spaced, newline}
 
 -- a number behind a space
-abbrev nr : ℕ → List ℕ
+abbrev pub nr : ℕ → List ℕ
 nr n = spaced (decimalOf n)
 
 -- "prints the tuples as `once 0 every Z A`"

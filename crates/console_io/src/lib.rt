@@ -2,12 +2,15 @@
 // out.
 ghost use mathlib.Core.Path.{_≡_};
 ghost use Prim.Native.Nat.{_≤_};
-ghost use lib.ListN.{length};
 ghost use Rattle.console_obey.specs.Obeyed.{Obeyed};
+ghost use Rattle.console_io.specs.Room.{halfPage, Roomy};
+use console_obey::Desk;
 use console_obey::Step;
-use console_state::Desk;
 use libc::STDIN_FILENO;
 use libc::STDOUT_FILENO;
+
+// The page is written out beyond this.
+const HALF_PAGE: usize = 32768;
 
 // What is carried from one reading to the next: the desk, how many bytes of the line have come (4,097 stand for any more), how
 // many bytes stand on the page, and whether to go on.
@@ -30,9 +33,9 @@ fn flush(c: Carry, out: &[u8]) -> Carry
     next
 }
 
-// A line is always obeyed: no answer fills more than 8,448 bytes of the page, which has 65,536 and is written out beyond 32,768.
+// A line is always obeyed: the half of the page that is left has room for any answer.
 fn obey(d: Desk, line: &[u8], out: &mut [u8], at: usize) -> Step
-    requires { ⌜ (at ≤ 32768) × (length (now out) ≡ 65536) ⌝ }
+    requires { ⌜ Roomy at (now out) ⌝ }
     ensures { λ r. ⌜ Obeyed d (now (line .entry)) (now (out .entry)) at r (now (out .exit)) ⌝ }
 {
     console_obey::obey(d, line, out, at)
@@ -40,8 +43,8 @@ fn obey(d: Desk, line: &[u8], out: &mut [u8], at: usize) -> Step
 
 // The line that has come, obeyed.
 fn end_line(c: Carry, line: &[u8], out: &mut [u8]) -> Carry
-    requires { ⌜ (c .at ≤ 32768) × (length (now out) ≡ 65536) ⌝ }
-    ensures { λ r. ⌜ r .at ≤ 32768 ⌝ }
+    requires { ⌜ Roomy (c .at) (now out) ⌝ }
+    ensures { λ r. ⌜ r .at ≤ halfPage ⌝ }
 {
     let n = page::within(c.len, line);
     let before = c.desk;
@@ -54,7 +57,7 @@ fn end_line(c: Carry, line: &[u8], out: &mut [u8]) -> Carry
         at: s.at,
         live,
     };
-    if 32768 < next.at {
+    if HALF_PAGE < next.at {
         flush(next, out)
     } else {
         next
@@ -63,8 +66,8 @@ fn end_line(c: Carry, line: &[u8], out: &mut [u8]) -> Carry
 
 // One byte: a newline ends the line, any other joins it. Of a line longer than 4,096 bytes the first 4,097 are kept.
 fn take_byte(c: Carry, b: u8, line: &mut [u8], out: &mut [u8]) -> Carry
-    requires { ⌜ (c .at ≤ 32768) × (length (now out) ≡ 65536) ⌝ }
-    ensures { λ r. ⌜ r .at ≤ 32768 ⌝ }
+    requires { ⌜ Roomy (c .at) (now out) ⌝ }
+    ensures { λ r. ⌜ r .at ≤ halfPage ⌝ }
 {
     let len = c.len;
     if b == b'\n' {
@@ -79,8 +82,8 @@ fn take_byte(c: Carry, b: u8, line: &mut [u8], out: &mut [u8]) -> Carry
 }
 
 fn take_piece(c: Carry, piece: &[u8], line: &mut [u8], out: &mut [u8]) -> Carry
-    requires { ⌜ (c .at ≤ 32768) × (length (now out) ≡ 65536) ⌝ }
-    ensures { λ r. ⌜ r .at ≤ 32768 ⌝ }
+    requires { ⌜ Roomy (c .at) (now out) ⌝ }
+    ensures { λ r. ⌜ r .at ≤ halfPage ⌝ }
 {
     let mut next = c;
     let mut i = 0;
@@ -93,8 +96,8 @@ fn take_piece(c: Carry, piece: &[u8], line: &mut [u8], out: &mut [u8]) -> Carry
 
 // Reads once, obeys the lines that came, and writes what they print. The last line may lack its newline.
 fn go_on(c: Carry, line: &mut [u8], out: &mut [u8]) -> Carry
-    requires { ⌜ (c .at ≤ 32768) × (length (now out) ≡ 65536) ⌝ }
-    ensures { λ r. ⌜ r .at ≤ 32768 ⌝ }
+    requires { ⌜ Roomy (c .at) (now out) ⌝ }
+    ensures { λ r. ⌜ r .at ≤ halfPage ⌝ }
 {
     let mut bytes = io::buffer();
     let got = libc::read(STDIN_FILENO, &mut bytes);
@@ -109,7 +112,7 @@ fn go_on(c: Carry, line: &mut [u8], out: &mut [u8]) -> Carry
 
 // A proved loop has to end, and nothing says that the input does: the turns are counted down from a number that no run uses up.
 fn serve(first: Carry, line: &mut [u8], out: &mut [u8])
-    requires { ⌜ (first .at ≤ 32768) × (length (now out) ≡ 65536) ⌝ }
+    requires { ⌜ Roomy (first .at) (now out) ⌝ }
 {
     let mut c = first;
     let mut turns = u64::MAX;
@@ -124,14 +127,14 @@ fn serve(first: Carry, line: &mut [u8], out: &mut [u8])
 }
 
 pub fn run() {
-    let desk = console_state::first();
+    let desk = console_obey::first();
     let first = Carry {
         desk,
         len: 0,
         at: 0,
         live: true,
     };
-    let mut line = [0u8; 4097];
+    let mut line = [0u8; console_parse::LONGEST + 1];
     let mut out = io::large_buffer();
     serve(first, &mut line, &mut out);
 }

@@ -1,61 +1,103 @@
--- The console's page: its commands, and the numbers that each asks for.
+-- The console's page: its commands, and what each asks for.
 -- Assumes nothing.
 use Prim.Native.Nat.{ℕ, _-_}
 use Prim.Native.String.{String}
-use mathlib.Core.Bool.{Bool, true, false, cond, _&&_}
+use mathlib.Core.Bool.{cond}
 use mathlib.Core.List.{List, [], _∷_, _++_}
-use lib.ListN.{length}
+use lib.ListN.{length, getD}
 use Rattle.laws.specs.Bits.{zeros}
 use Rattle.ascii.specs.Decimal.{letters}
 use Rattle.ascii.specs.Same.{same}
-use Rattle.console_names.specs.declared.Kind.{Kind}
-use Rattle.console_names.specs.declared.Kind.the-variants.{Unknown, Write, Streams, Stream, Once, Every, Valid, Limit, Demand, Jitter, Verdict, Start, Clock, Pending, Message, Post, Unit, Done, Choose, Status, Formed}
+use Rattle.console_names.specs.declared.SetCommand.the-variants.{Read, Streams, Stream, Once, Every}
+use Rattle.console_names.specs.declared.StateCommand.the-variants.{Start, Clock, Pending, Message, Post, Unit, Done}
+use Rattle.console_names.specs.declared.Question.the-variants as ask
+use Rattle.console_names.specs.declared.Command.{Command}
+use Rattle.console_names.specs.declared.Command.the-variants.{Unknown, Set, State, Ask}
+use Rattle.console_names.specs.declared.Text.the-variants.{Nothing, Hex}
 use Rattle.console_names.specs.declared.Row.{Row}
 
--- a row of the page: a command, and what each of its numbers may at most be
-abbrev row : Kind → List ℕ → Row
-row k ms = record { kind = k; count = length ms; most = ms ++ zeros (5 - length ms) }
+-- no command has more numbers
+abbrev pub mostNumbers : ℕ
+mostNumbers = 5
+
+-- a command's numbers, the first at 0
+abbrev pub nth : List ℕ → ℕ → ℕ
+nth ns k = getD ns k 0
+
+-- "a buffer of LEN bytes (at most 1024 ..)"
+abbrev pub mostBytes : ℕ
+mostBytes = 1024
 
 -- "A number is .. at most 4294967295"
 abbrev top : ℕ
 top = 4294967295
 
-abbrev is : List ℕ → String → Row → Row → Row
-is w name r else = cond (same w (letters name)) r else
+-- a command, and what each of its numbers may at most be
+abbrev asks : Command → List ℕ → Row
+asks k ms = record { command = k; count = length ms; most = ms ++ zeros (mostNumbers - length ms); text = Nothing }
 
--- the rows, in the order of the page; `read` stands apart
-unfoldable pub stateRow : List ℕ → Row
+-- a row of the page: a name, and what it stands for; one with HEX behind its name
+record Named : Type 0 where
+  name : String
+  stands : Row
+
+abbrev row : String → Command → List ℕ → Named
+row name k ms = record { name = name; stands = asks k ms }
+
+abbrev hexRow : String → Command → Named
+hexRow name k = record { name = name; stands = record { command = k; count = 0; most = zeros mostNumbers; text = Hex } }
+
+-- the row r where w is this name, else the other
+unfoldable pub ifNamed : List ℕ → List ℕ → Row → Row → Row
+ifNamed w name r other = cond (same w name) r other
+
+-- the row among these that w names, else the other
+abbrev among : List ℕ → List Named → Row → Row
+among w [] other = other
+among w (n ∷ ns) other = among w ns (ifNamed w (letters (n .name)) (n .stands) other)
+
+-- **Set**
+unfoldable pub setRow : List ℕ → Row → Row
+setRow w =
+    among w (
+    hexRow "read" (Set Read)
+    ∷ row "streams" (Set Streams) (top ∷ [])
+    ∷ row "stream" (Set Stream) (15 ∷ top ∷ top ∷ top ∷ top ∷ [])
+    ∷ row "once" (Set Once) (15 ∷ 3 ∷ top ∷ [])
+    ∷ row "every" (Set Every) (15 ∷ 3 ∷ top ∷ top ∷ [])
+    ∷ []
+    )
+
+-- **State**
+unfoldable pub stateRow : List ℕ → Row → Row
 stateRow w =
-    is w "message" (row Message (63 ∷ top ∷ top ∷ top ∷ []))
-    (is w "choose" (row Choose [])
-    (is w "state" (row Status [])
-    (is w "formed" (row Formed [])
-    (row Unknown []))))
+    among w (
+    row "start" (State Start) []
+    ∷ row "clock" (State Clock) (top ∷ [])
+    ∷ row "pending" (State Pending) (top ∷ [])
+    ∷ row "message" (State Message) (63 ∷ top ∷ top ∷ top ∷ [])
+    ∷ row "post" (State Post) (top ∷ [])
+    ∷ row "unit" (State Unit) []
+    ∷ row "done" (State Done) []
+    ∷ []
+    )
 
-unfoldable pub stepRow : List ℕ → Row
-stepRow w =
-    is w "post" (row Post (top ∷ []))
-    (is w "unit" (row Unit [])
-    (is w "done" (row Done [])
-    (is w "start" (row Start [])
-    (is w "clock" (row Clock (top ∷ []))
-    (is w "pending" (row Pending (top ∷ []))
-    (stateRow w))))))
+-- what only asks, of the set and of the state
+unfoldable pub questionRow : List ℕ → Row → Row
+questionRow w =
+    among w (
+    row "write" (Ask ask.Write) (mostBytes ∷ [])
+    ∷ row "valid" (Ask ask.Valid) []
+    ∷ row "limit" (Ask ask.Limit) (top ∷ top ∷ [])
+    ∷ row "demand" (Ask ask.Demand) (top ∷ [])
+    ∷ row "jitter" (Ask ask.Jitter) (top ∷ top ∷ [])
+    ∷ row "verdict" (Ask ask.Verdict) []
+    ∷ row "choose" (Ask ask.Choose) []
+    ∷ row "state" (Ask ask.State) []
+    ∷ row "formed" (Ask ask.Formed) []
+    ∷ []
+    )
 
-unfoldable pub askRow : List ℕ → Row
-askRow w =
-    is w "valid" (row Valid [])
-    (is w "limit" (row Limit (top ∷ top ∷ []))
-    (is w "demand" (row Demand (top ∷ []))
-    (is w "jitter" (row Jitter (top ∷ top ∷ []))
-    (is w "verdict" (row Verdict [])
-    (stepRow w)))))
-
+-- "A line that is not one of those below .. prints `?`"
 unfoldable pub rowOf : List ℕ → Row
-rowOf w =
-    is w "write" (row Write (1024 ∷ []))
-    (is w "streams" (row Streams (top ∷ []))
-    (is w "stream" (row Stream (15 ∷ top ∷ top ∷ top ∷ top ∷ []))
-    (is w "once" (row Once (15 ∷ 3 ∷ top ∷ []))
-    (is w "every" (row Every (15 ∷ 3 ∷ top ∷ top ∷ []))
-    (askRow w)))))
+rowOf w = questionRow w (stateRow w (setRow w (asks Unknown [])))

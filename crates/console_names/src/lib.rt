@@ -1,25 +1,19 @@
-// The console's commands by name, and the numbers that each asks for.
+// The console's commands by name, in groups, and what each asks for.
 ghost use mathlib.Core.Path.{_≡_};
 ghost use mathlib.Core.List.{_∷_, []};
-ghost use Rattle.console_names.specs.Rows.{rowOf, askRow, stepRow, stateRow};
+ghost use Rattle.console_names.specs.Rows.{ifNamed, setRow, stateRow, questionRow, rowOf};
 
-// The console's commands.
-pub enum Kind {
-    // An empty line.
-    Nothing,
-    // No command: `?`.
-    Unknown,
+// The commands that change the set.
+pub enum SetCommand {
     Read,
-    Write,
     Streams,
     Stream,
     Once,
     Every,
-    Valid,
-    Limit,
-    Demand,
-    Jitter,
-    Verdict,
+}
+
+// The commands that change the state.
+pub enum StateCommand {
     Start,
     Clock,
     Pending,
@@ -27,111 +21,169 @@ pub enum Kind {
     Post,
     Unit,
     Done,
+}
+
+// The commands that ask, and change nothing.
+pub enum Question {
+    Write,
+    Valid,
+    Limit,
+    Demand,
+    Jitter,
+    Verdict,
     Choose,
-    Status,
+    State,
     Formed,
 }
 
-// A command, how many numbers it has, and what each may at most be.
-pub struct Row {
-    pub kind: Kind,
-    pub count: usize,
-    pub most: [u32; 5],
+// What a line asks for.
+pub enum Command {
+    // An empty line.
+    Nothing,
+    // No command: `?`.
+    Unknown,
+    Set(SetCommand),
+    State(StateCommand),
+    Ask(Question),
 }
+
+// What stands behind a command's numbers.
+pub enum Text {
+    Nothing,
+    Hex,
+}
+
+// No command has more numbers.
+pub const NUMBERS: usize = 5;
+
+// A command, how many numbers it has, what each may at most be, and what stands behind them.
+pub struct Row {
+    pub command: Command,
+    pub count: usize,
+    pub most: [u32; NUMBERS],
+    pub text: Text,
+}
+
+// The bytes of the longest buffer.
+pub const MOST_BYTES: u32 = 1024;
 
 // The largest number.
 const TOP: u32 = 4294967295;
 
-fn asks(kind: Kind, count: usize, a: u32, b: u32, c: u32, d: u32, e: u32) -> Row
-    ensures { λ r. ⌜ r ≡ record { kind = kind; count = count; most = a ∷ b ∷ c ∷ d ∷ e ∷ [] } ⌝ }
+fn asks(command: Command, count: usize, most: [u32; NUMBERS]) -> Row
+    ensures { λ r. ⌜ r ≡ record { command = command; count = count; most = most; text = Text.Nothing } ⌝ }
 {
     Row {
-        kind,
+        command,
         count,
-        most: [a, b, c, d, e],
+        most,
+        text: Text::Nothing,
     }
 }
 
-fn state_row(w: &[u8]) -> Row
-    ensures { λ r. ⌜ r ≡ stateRow (now (w .entry)) ⌝ }
+fn asks_hex(command: Command) -> Row
+    ensures { λ r. ⌜ r ≡ record { command = command; count = 0; most = 0 ∷ 0 ∷ 0 ∷ 0 ∷ 0 ∷ []; text = Text.Hex } ⌝ }
 {
-    if ascii::same(w, b"message") {
-        return asks(Kind::Message, 4, 63, TOP, TOP, TOP, 0);
+    Row {
+        command,
+        count: 0,
+        most: [0; NUMBERS],
+        text: Text::Hex,
     }
-    if ascii::same(w, b"choose") {
-        return asks(Kind::Choose, 0, 0, 0, 0, 0, 0);
-    }
-    if ascii::same(w, b"state") {
-        return asks(Kind::Status, 0, 0, 0, 0, 0, 0);
-    }
-    if ascii::same(w, b"formed") {
-        return asks(Kind::Formed, 0, 0, 0, 0, 0, 0);
-    }
-    asks(Kind::Unknown, 0, 0, 0, 0, 0, 0)
 }
 
-fn step_row(w: &[u8]) -> Row
-    ensures { λ r. ⌜ r ≡ stepRow (now (w .entry)) ⌝ }
+// The row r where w is this name, else the other.
+fn named(w: &[u8], name: &[u8], r: Row, other: Row) -> Row
+    ensures { λ x. ⌜ x ≡ ifNamed (now (w .entry)) (now (name .entry)) r other ⌝ }
 {
-    if ascii::same(w, b"post") {
-        return asks(Kind::Post, 1, TOP, 0, 0, 0, 0);
-    }
-    if ascii::same(w, b"unit") {
-        return asks(Kind::Unit, 0, 0, 0, 0, 0, 0);
-    }
-    if ascii::same(w, b"done") {
-        return asks(Kind::Done, 0, 0, 0, 0, 0, 0);
-    }
-    if ascii::same(w, b"start") {
-        return asks(Kind::Start, 0, 0, 0, 0, 0, 0);
-    }
-    if ascii::same(w, b"clock") {
-        return asks(Kind::Clock, 1, TOP, 0, 0, 0, 0);
-    }
-    if ascii::same(w, b"pending") {
-        return asks(Kind::Pending, 1, TOP, 0, 0, 0, 0);
-    }
-    state_row(w)
+    if ascii::same(w, name) { r } else { other }
 }
 
-fn ask_row(w: &[u8]) -> Row
-    ensures { λ r. ⌜ r ≡ askRow (now (w .entry)) ⌝ }
+fn of_set(k: SetCommand, count: usize, most: [u32; NUMBERS]) -> Row
+    ensures { λ r. ⌜ r ≡ record { command = Command.Set k; count = count; most = most; text = Text.Nothing } ⌝ }
 {
-    if ascii::same(w, b"valid") {
-        return asks(Kind::Valid, 0, 0, 0, 0, 0, 0);
-    }
-    if ascii::same(w, b"limit") {
-        return asks(Kind::Limit, 2, TOP, TOP, 0, 0, 0);
-    }
-    if ascii::same(w, b"demand") {
-        return asks(Kind::Demand, 1, TOP, 0, 0, 0, 0);
-    }
-    if ascii::same(w, b"jitter") {
-        return asks(Kind::Jitter, 2, TOP, TOP, 0, 0, 0);
-    }
-    if ascii::same(w, b"verdict") {
-        return asks(Kind::Verdict, 0, 0, 0, 0, 0, 0);
-    }
-    step_row(w)
+    asks(Command::Set(k), count, most)
 }
 
+fn of_state(k: StateCommand, count: usize, most: [u32; NUMBERS]) -> Row
+    ensures { λ r. ⌜ r ≡ record { command = Command.State k; count = count; most = most; text = Text.Nothing } ⌝ }
+{
+    asks(Command::State(k), count, most)
+}
+
+fn of_question(q: Question, count: usize, most: [u32; NUMBERS]) -> Row
+    ensures { λ r. ⌜ r ≡ record { command = Command.Ask q; count = count; most = most; text = Text.Nothing } ⌝ }
+{
+    asks(Command::Ask(q), count, most)
+}
+
+fn set_row(w: &[u8], other: Row) -> Row
+    ensures { λ r. ⌜ r ≡ setRow (now (w .entry)) other ⌝ }
+{
+    let mut r = other;
+    let read = asks_hex(Command::Set(SetCommand::Read));
+    r = named(w, b"read", read, r);
+    let streams = of_set(SetCommand::Streams, 1, [TOP, 0, 0, 0, 0]);
+    r = named(w, b"streams", streams, r);
+    let stream = of_set(SetCommand::Stream, 5, [15, TOP, TOP, TOP, TOP]);
+    r = named(w, b"stream", stream, r);
+    let once = of_set(SetCommand::Once, 3, [15, 3, TOP, 0, 0]);
+    r = named(w, b"once", once, r);
+    let every = of_set(SetCommand::Every, 4, [15, 3, TOP, TOP, 0]);
+    r = named(w, b"every", every, r);
+    r
+}
+
+fn state_row(w: &[u8], other: Row) -> Row
+    ensures { λ r. ⌜ r ≡ stateRow (now (w .entry)) other ⌝ }
+{
+    let mut r = other;
+    let start = of_state(StateCommand::Start, 0, [0; NUMBERS]);
+    r = named(w, b"start", start, r);
+    let clock = of_state(StateCommand::Clock, 1, [TOP, 0, 0, 0, 0]);
+    r = named(w, b"clock", clock, r);
+    let pending = of_state(StateCommand::Pending, 1, [TOP, 0, 0, 0, 0]);
+    r = named(w, b"pending", pending, r);
+    let message = of_state(StateCommand::Message, 4, [63, TOP, TOP, TOP, 0]);
+    r = named(w, b"message", message, r);
+    let post = of_state(StateCommand::Post, 1, [TOP, 0, 0, 0, 0]);
+    r = named(w, b"post", post, r);
+    let unit = of_state(StateCommand::Unit, 0, [0; NUMBERS]);
+    r = named(w, b"unit", unit, r);
+    let done = of_state(StateCommand::Done, 0, [0; NUMBERS]);
+    r = named(w, b"done", done, r);
+    r
+}
+
+fn question_row(w: &[u8], other: Row) -> Row
+    ensures { λ r. ⌜ r ≡ questionRow (now (w .entry)) other ⌝ }
+{
+    let mut r = other;
+    let write = of_question(Question::Write, 1, [MOST_BYTES, 0, 0, 0, 0]);
+    r = named(w, b"write", write, r);
+    let valid = of_question(Question::Valid, 0, [0; NUMBERS]);
+    r = named(w, b"valid", valid, r);
+    let limit = of_question(Question::Limit, 2, [TOP, TOP, 0, 0, 0]);
+    r = named(w, b"limit", limit, r);
+    let demand = of_question(Question::Demand, 1, [TOP, 0, 0, 0, 0]);
+    r = named(w, b"demand", demand, r);
+    let jitter = of_question(Question::Jitter, 2, [TOP, TOP, 0, 0, 0]);
+    r = named(w, b"jitter", jitter, r);
+    let verdict = of_question(Question::Verdict, 0, [0; NUMBERS]);
+    r = named(w, b"verdict", verdict, r);
+    let choose = of_question(Question::Choose, 0, [0; NUMBERS]);
+    r = named(w, b"choose", choose, r);
+    let state = of_question(Question::State, 0, [0; NUMBERS]);
+    r = named(w, b"state", state, r);
+    let formed = of_question(Question::Formed, 0, [0; NUMBERS]);
+    r = named(w, b"formed", formed, r);
+    r
+}
+
+// The row of the command that has this name.
 pub fn row_of(w: &[u8]) -> Row
     ensures { λ r. ⌜ r ≡ rowOf (now (w .entry)) ⌝ }
 {
-    if ascii::same(w, b"write") {
-        return asks(Kind::Write, 1, 1024, 0, 0, 0, 0);
-    }
-    if ascii::same(w, b"streams") {
-        return asks(Kind::Streams, 1, TOP, 0, 0, 0, 0);
-    }
-    if ascii::same(w, b"stream") {
-        return asks(Kind::Stream, 5, 15, TOP, TOP, TOP, TOP);
-    }
-    if ascii::same(w, b"once") {
-        return asks(Kind::Once, 3, 15, 3, TOP, 0, 0);
-    }
-    if ascii::same(w, b"every") {
-        return asks(Kind::Every, 4, 15, 3, TOP, TOP, 0);
-    }
-    ask_row(w)
+    let none = asks(Command::Unknown, 0, [0; NUMBERS]);
+    question_row(w, state_row(w, set_row(w, none)))
 }

@@ -1,2 +1,3 @@
+pub mod Texts
 pub mod Obeys
-pub mod Sheets
+pub mod Fits

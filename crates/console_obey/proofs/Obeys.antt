@@ -1,63 +1,108 @@
--- A line's command, from the order that it is and the bytes behind it; and that it is obeyed in one way.
+-- A command of each group, obeyed; and that a line is obeyed in one way.
 -- Assumes nothing.
-use Prim.Native.Nat.{ℕ, _+_, _*_, _≤_, _<_}
+use Prim.Native.Nat.{ℕ, _+_, _*_, _/_, _≤_}
 use native.Mathlib.Omega.{arith}
 use mathlib.Core.Path.{_≡_, refl, sym, ap, ap₂, _∙_}
 use mathlib.Core.Bool.{Bool, true, false}
 use mathlib.Core.List.{List, []}
-use mathlib.Core.Logic.{⊎-elim}
-use lib.ListN.{length}
-use Rattle.laws.proofs.Gates.{le-or-lt}
-use borrow.Author.Tests.{lt-ltb, ne-eqb}
-use Rattle.console_names.specs.declared.Kind.the-variants.{Unknown}
+use lib.ListN.{length, drop}
+use Rattle.rules.specs.declared.Set.{Set as Streams}
+use Rattle.rules.specs.declared.State.{State as Sched}
+use Rattle.rules.specs.declared.StartResult.{StartResult}
+use Rattle.rules.specs.Streams.{emptySet}
+use Rattle.rules.specs.Steps.{startOf}
+use Rattle.ascii.specs.Decimal.{letters}
+use Rattle.ascii.specs.Hex.{unhexed}
+use Rattle.line.specs.declared.Line.{Line}
+use Rattle.line.specs.Line.{lineRoom, holding}
+use Rattle.answer_words.specs.Words.{lineOf}
+use Rattle.page.specs.Pages.{roomFor, Onto, appended, endOf}
+use Rattle.page.proofs.Pieces.{onto-line, onto-none, onto-once}
+use Rattle.console_names.specs.declared.Command.{Command}
+use Rattle.console_names.specs.declared.Command.the-variants.{Nothing, Unknown, Set, State, Ask}
+use Rattle.console_names.specs.declared.SetCommand.{SetCommand}
+use Rattle.console_names.specs.declared.StateCommand.{StateCommand}
+use Rattle.console_names.specs.declared.Question.{Question}
 use Rattle.console_parse.specs.declared.Order.{Order}
-use Rattle.console_parse.specs.Lines.{orderAt, orderOf}
-use Rattle.console_state.specs.declared.Desk.{Desk}
-use Rattle.console_state.specs.declared.Left.{Left}
-use Rattle.console_state.specs.Leaves.{leaves, answers}
-use Rattle.page.specs.Pages.{roomFor}
-use Rattle.console_print.specs.Prints.{Told, Tells, answerRoom}
-use Rattle.console_print.proofs.Once.{told-once}
+use Rattle.console_parse.specs.Lines.{longest, orderOf}
+use Rattle.console_parse.proofs.Orders.{text-short}
+use Rattle.console_set.specs.declared.SetAfter.{SetAfter}
+use Rattle.console_set.specs.SetCommands.{setAfter, setLine}
+use Rattle.console_set.proofs.Puts.{set-short}
+use Rattle.console_state.specs.declared.StateAfter.{StateAfter}
+use Rattle.console_state.specs.StateCommands.{stateAfter, stateLine}
+use Rattle.console_state.proofs.Steps.{state-short}
+use Rattle.console_ask.specs.Questions.{Asks, Answered, answerRoom}
+use Rattle.console_ask.proofs.Once.{prints-once}
+use Rattle.console_obey.specs.declared.Desk.{Desk}
 use Rattle.console_obey.specs.declared.Step.{Step}
-use Rattle.console_obey.specs.Obeyed.{sheetIn, deskAfter, answerTo, Obeyed, ObeysIf, Obeys}
+use Rattle.console_obey.specs.Obeyed.{firstDesk, leaves, Prints, Stepped, textOf, Obeyed, ObeysIf, Obeys}
 
--- a line that is too long is no command, and the bytes behind it do not matter
-too-long : (l : List ℕ) → 4096 < length l → orderOf l ≡ orderAt Unknown []
-unfolding orderOf
-too-long l h = rw (ne-eqb (length l) 0 (λ e. omega arith), lt-ltb 4096 (length l) h)
+pub begun : (x : Streams) (s : StartResult) → x ≡ emptySet → s ≡ startOf x → _≡_ {A = Desk} (record { set = x; state = s .state }) firstDesk
+begun x s e f = rw (f, e)
 
--- what an order leaves and answers
-abbrev left : Desk → Order → List ℕ → Left
-left d o bytes = record { desk = leaves (o .kind) (o .numbers) bytes d; answer = answers (o .kind) (o .numbers) bytes d }
+-- ---- a command of each group
 
-same-sheet : (d : Desk) (l bytes : List ℕ) → (length l ≤ 5 + 2 * 2048 → bytes ≡ sheetIn l)
-    → left d (orderOf l) bytes ≡ left d (orderOf l) (sheetIn l)
-same-sheet d l bytes f =
-    ⊎-elim
-    (λ (h : length l ≤ 5 + 2 * 2048). ap (left d (orderOf l)) (f h))
-    (λ (h : 5 + 2 * 2048 < length l).
-    let none : orderOf l ≡ orderAt Unknown [] = too-long l (omega arith) in
-    ap (λ (o : Order). left d o bytes) none ∙ sym (ap (λ (o : Order). left d o (sheetIn l)) none))
-    (le-or-lt (length l) (5 + 2 * 2048))
+module _ (d : Desk) (ns text out : List ℕ) (at : ℕ) where
+  pub nothing-step : (k : Command) → k ≡ Nothing → Stepped d k ns text out at (record { desk = d; at = at }) out
+  nothing-step k e = rw e (record { left = refl; bytes = []; prints = refl; onto = onto-none out at })
 
-obeyed : (d : Desk) (l bytes : List ℕ) (o : Order) (r : Left) → (length l ≤ 5 + 2 * 2048 → bytes ≡ sheetIn l) → o ≡ orderOf l
-    → r ≡ left d o bytes → r ≡ left d (orderOf l) (sheetIn l)
-obeyed d l bytes o r f e g = g ∙ ap (λ (x : Order). left d x bytes) e ∙ same-sheet d l bytes f
+  module _ (end : ℕ) (page : List ℕ) where
+    pub unknown-step : (l : Line) → l ≡ holding (lineOf (letters "?")) → (end ≡ endOf out at l) × (page ≡ appended out at l)
+        → Stepped d Unknown ns text out at (record { desk = d; at = end }) page
+    unknown-step l e p =
+        record {
+          left = refl;
+          bytes = lineOf (letters "?");
+          prints = refl;
+          onto = onto-line out (lineOf (letters "?")) at l end page (let short : length (lineOf (letters "?")) ≤ lineRoom = omega arith in short) e p;
+        }
 
--- with room
+    pub set-step : (k : SetCommand) (a : SetAfter) → a ≡ record { set = setAfter k ns text (d .set); line = holding (setLine k text) }
+        → (end ≡ endOf out at (a .line)) × (page ≡ appended out at (a .line))
+        → Stepped d (Set k) ns text out at (record { desk = record { set = a .set; state = d .state }; at = end }) page
+    set-step k a e p =
+        record {
+          left = ap (λ (b : SetAfter). record { set = b .set; state = d .state }) e;
+          bytes = setLine k text;
+          prints = refl;
+          onto = onto-line out (setLine k text) at (a .line) end page (set-short k text) (ap (λ (b : SetAfter). b .line) e) p;
+        }
+
+    pub state-step : (k : StateCommand) (a : StateAfter)
+        → a ≡ record { state = stateAfter k ns (d .set) (d .state); line = holding (stateLine k ns (d .set) (d .state)) }
+        → (end ≡ endOf out at (a .line)) × (page ≡ appended out at (a .line))
+        → Stepped d (State k) ns text out at (record { desk = record { set = d .set; state = a .state }; at = end }) page
+    state-step k a e p =
+        record {
+          left = ap (λ (b : StateAfter). record { set = d .set; state = b .state }) e;
+          bytes = stateLine k ns (d .set) (d .state);
+          prints = refl;
+          onto =
+              onto-line out (stateLine k ns (d .set) (d .state)) at (a .line) end page (state-short k ns (d .set) (d .state))
+              (ap (λ (b : StateAfter). b .line) e) p;
+        }
+
+    pub question-step : (q : Question) → roomFor out at answerRoom ≡ true → Asks q ns (d .set) (d .state) out at end page
+        → Stepped d (Ask q) ns text out at (record { desk = d; at = end }) page
+    question-step q room a =
+        let t : Answered q ns (d .set) (d .state) out at end page = rw room at a in
+        record { left = refl; bytes = t .bytes; prints = t .prints; onto = t .onto }
+
+  pub by-command : (k c : Command) (r : Step) (page : List ℕ) → k ≡ c → Stepped d c ns text out at r page → Stepped d k ns text out at r page
+  by-command k c r page e t = rw e t
+
+-- ---- a line
+
 module _ (d : Desk) (line out : List ℕ) (at : ℕ) where
-  pub obeys : (bytes : List ℕ) (o : Order) (l : Left) (end : ℕ) (page : List ℕ) → roomFor out at answerRoom ≡ true
-      → (length line ≤ 5 + 2 * 2048 → bytes ≡ sheetIn line) → o ≡ orderOf line → l ≡ left d o bytes
-      → Tells d (l .answer) out at end page → Obeys d line out at (record { desk = l .desk; at = end }) page
-  unfolding deskAfter answerTo
-  obeys bytes o l end page room f e g t =
-      let all : l ≡ left d (orderOf line) (sheetIn line) = obeyed d line bytes o l f e g in
-      let told : Told d (l .answer) out at end page = rw room at t in
-      rw room
-      (record {
-        left = ap (λ (x : Left). x .desk) all;
-        told = rw (ap (λ (x : Left). x .answer) all) at told;
-      })
+  -- with room, where the buffer takes the bytes of the longest text
+  pub obeys : (o : Order) (bytes : List ℕ) (r : Step) (page : List ℕ) → roomFor out at answerRoom ≡ true → o ≡ orderOf line
+      → (length line ≤ o .text + 2 * (longest / 2) → bytes ≡ unhexed (drop (o .text) line))
+      → Stepped d (o .command) (o .numbers) bytes out at r page → Obeys d line out at r page
+  obeys o bytes r page room e f t =
+      let fits : length line ≤ o .text + 2 * (longest / 2) = omega (arith, text-short line, ap (λ (x : Order). x .text) e) in
+      let all : bytes ≡ textOf line = f fits ∙ ap (λ (x : Order). unhexed (drop (x .text) line)) e in
+      rw room (rw (all, e) at t)
 
   -- what is allowed with room
   pub with-room : (r : Step) (page : List ℕ) → roomFor out at answerRoom ≡ true → Obeys d line out at r page → Obeyed d line out at r page
@@ -67,12 +112,22 @@ module _ (d : Desk) (line out : List ℕ) (at : ℕ) where
   pub stays : roomFor out at answerRoom ≡ false → Obeys d line out at (record { desk = d; at = at }) out
   stays e = rw e (refl, refl)
 
-  -- two results that are allowed for one input are the same
+-- ---- two results that are allowed for one input are the same
+
+command-once : (k : Command) (ns text : List ℕ) (d : Desk) (v w : List ℕ) → Prints k ns text d v → Prints k ns text d w → v ≡ w
+command-once Nothing ns text d v w p q = p ∙ sym q
+command-once Unknown ns text d v w p q = p ∙ sym q
+command-once (Set k) ns text d v w p q = p ∙ sym q
+command-once (State k) ns text d v w p q = p ∙ sym q
+command-once (Ask a) ns text d v w p q = prints-once a ns (d .set) (d .state) v w p q
+
+module _ (d : Desk) (line out : List ℕ) (at : ℕ) where
   pub obeys-once : (r s : Step) (p q : List ℕ) → Obeys d line out at r p → Obeys d line out at s q → (r ≡ s) × (p ≡ q)
   obeys-once r s p q = go (roomFor out at answerRoom)
     where
       go : (room : Bool) → ObeysIf room d line out at r p → ObeysIf room d line out at s q → (r ≡ s) × (p ≡ q)
       go true t u =
-          let same = told-once d (answerTo d line) out at (r .at) (s .at) p q (t .told) (u .told) in
+          let bytes = command-once (orderOf line .command) (orderOf line .numbers) (textOf line) d (t .bytes) (u .bytes) (t .prints) (u .prints) in
+          let same = onto-once out (t .bytes) (u .bytes) at (r .at) (s .at) p q bytes (t .onto) (u .onto) in
           (ap₂ (λ (x : Desk) (n : ℕ). record { desk = x; at = n }) (t .left ∙ sym (u .left)) (same .0), same .1)
       go false t u = (t .0 ∙ sym (u .0), t .1 ∙ sym (u .1))

@@ -1,11 +1,27 @@
-// The console's desk: a line's command is obeyed, and its answer goes on the page. Which command a line is is decided in `orders`, what
-// the command leaves and answers in `held`, and what the answer prints in `told`.
+// The console's desk: a line's command is obeyed, and what it prints goes on the page. Which command a line is is decided in
+// `console_parse`, what it leaves and prints in the crate of its group.
 ghost use mathlib.Core.Path.{_≡_};
+ghost use mathlib.Core.Bool.{true};
 ghost use Prim.Native.Nat.{_+_, _*_, _≤_};
 ghost use lib.ListN.{length, take, drop};
 ghost use Rattle.ascii.specs.Hex.{unhexed};
-ghost use Rattle.console_obey.specs.Obeyed.{Obeys};
-use console_state::Desk;
+ghost use Rattle.page.specs.Pages.{roomFor};
+ghost use Rattle.console_ask.specs.Questions.{answerRoom};
+ghost use Rattle.console_obey.specs.Obeyed.{firstDesk, Stepped, Obeys};
+use console_names::Command;
+use console_names::NUMBERS;
+use console_names::Question;
+use console_names::SetCommand;
+use console_names::StateCommand;
+use console_parse::Order;
+use rules::Set;
+use rules::State;
+
+// What the console holds.
+pub struct Desk {
+    pub set: Set,
+    pub state: State,
+}
 
 // What the console holds after a command, and where the page ends.
 pub struct Step {
@@ -13,33 +29,121 @@ pub struct Step {
     pub at: usize,
 }
 
-// The bytes that stand in hex from byte 5 of the line on, in the first places of a buffer, and how many they are.
-fn hex_behind(line: &[u8], bytes: &mut [u8]) -> usize
-    ensures { λ r. ⌜ r ≤ length (now (bytes .exit)) ⌝ }
-    ensures { λ r. ⌜ (length (now (line .entry)) ≤ 5 + 2 * length (now (bytes .entry)) → take r (now (bytes .exit)) ≡ unhexed (drop 5 (now (line .entry)))) ⌝ }
+// What the console holds at first.
+pub fn first() -> Desk
+    ensures { λ r. ⌜ r ≡ firstDesk ⌝ }
 {
-    if line.len() < 5 {
-        return 0;
-    }
-    page_hex::unhex(&line[5..], bytes)
+    let set = stream_valid::empty_set();
+    let r = scheduler::start(set);
+    let state = r.state;
+    Desk { set, state }
 }
 
-// A line's command, obeyed: what the console then holds, and the answer behind the first `at` bytes of a page. On a page that has not room
-// for any answer nothing happens. A line has at most 4,091 hex digits; no command but `read` looks at their bytes.
+// ---- a command of each group
+
+fn unknown_step(d: Desk, n: [u32; NUMBERS], bytes: &[u8], out: &mut [u8], at: usize) -> Step
+    ensures { λ r. ⌜ Stepped d Command.Unknown n (now (bytes .entry)) (now (out .entry)) at r (now (out .exit)) ⌝ }
+{
+    let end = page::append(out, at, console_words::unknown_line());
+    Step { desk: d, at: end }
+}
+
+fn set_step(
+    d: Desk,
+    k: SetCommand,
+    n: [u32; NUMBERS],
+    bytes: &[u8],
+    out: &mut [u8],
+    at: usize,
+) -> Step
+    ensures { λ r. ⌜ Stepped d (Command.Set k) n (now (bytes .entry)) (now (out .entry)) at r (now (out .exit)) ⌝ }
+{
+    let a = console_set::after(d.set, k, n, bytes);
+    let set = a.set;
+    let state = d.state;
+    let end = page::append(out, at, a.line);
+    let desk = Desk { set, state };
+    Step { desk, at: end }
+}
+
+fn state_step(
+    d: Desk,
+    k: StateCommand,
+    n: [u32; NUMBERS],
+    bytes: &[u8],
+    out: &mut [u8],
+    at: usize,
+) -> Step
+    ensures { λ r. ⌜ Stepped d (Command.State k) n (now (bytes .entry)) (now (out .entry)) at r (now (out .exit)) ⌝ }
+{
+    let a = console_state::after(d.set, d.state, k, n);
+    let set = d.set;
+    let state = a.state;
+    let end = page::append(out, at, a.line);
+    let desk = Desk { set, state };
+    Step { desk, at: end }
+}
+
+fn question_step(
+    d: Desk,
+    q: Question,
+    n: [u32; NUMBERS],
+    bytes: &[u8],
+    out: &mut [u8],
+    at: usize,
+) -> Step
+    requires { ⌜ roomFor (now out) at answerRoom ≡ true ⌝ }
+    ensures { λ r. ⌜ Stepped d (Command.Ask q) n (now (bytes .entry)) (now (out .entry)) at r (now (out .exit)) ⌝ }
+{
+    let end = console_ask::ask(d.set, d.state, q, n, out, at);
+    Step { desk: d, at: end }
+}
+
+// ---- every command
+
+fn command_step(
+    d: Desk,
+    k: Command,
+    n: [u32; NUMBERS],
+    bytes: &[u8],
+    out: &mut [u8],
+    at: usize,
+) -> Step
+    requires { ⌜ roomFor (now out) at answerRoom ≡ true ⌝ }
+    ensures { λ r. ⌜ Stepped d k n (now (bytes .entry)) (now (out .entry)) at r (now (out .exit)) ⌝ }
+{
+    match k {
+        Command::Nothing => Step { desk: d, at },
+        Command::Unknown => unknown_step(d, n, bytes, out, at),
+        Command::Set(c) => set_step(d, c, n, bytes, out, at),
+        Command::State(c) => state_step(d, c, n, bytes, out, at),
+        Command::Ask(q) => question_step(d, q, n, bytes, out, at),
+    }
+}
+
+// The bytes that stand in hex in the line from `from` on, in the first places of a buffer, and how many they are.
+fn text_bytes(line: &[u8], from: usize, bytes: &mut [u8]) -> usize
+    ensures { λ r. ⌜ r ≤ length (now (bytes .exit)) ⌝ }
+    ensures { λ r. ⌜ (length (now (line .entry)) ≤ from + 2 * length (now (bytes .entry)) → take r (now (bytes .exit)) ≡ unhexed (drop from (now (line .entry)))) ⌝ }
+{
+    if line.len() < from {
+        return 0;
+    }
+    page_hex::unhex(&line[from..], bytes)
+}
+
+// A line's command, obeyed: what the console then holds, and what is printed behind the first `at` bytes of a page. On a page that has
+// not room for any answer nothing happens.
 pub fn obey(d: Desk, line: &[u8], out: &mut [u8], at: usize) -> Step
     ensures { λ r. ⌜ Obeys d (now (line .entry)) (now (out .entry)) at r (now (out .exit)) ⌝ }
 {
-    if !page::has_room(out, at, console_print::ROOM) {
+    if !page::has_room(out, at, console_ask::ROOM) {
         return Step { desk: d, at };
     }
-    let mut bytes = [0u8; 2048];
-    let n = hex_behind(line, &mut bytes);
-    let l = console_state::after(d, console_parse::parse(line), &bytes[..n]);
-    let next = l.desk;
-    let answer = l.answer;
-    let end = console_print::tell(d, answer, out, at);
-    Step {
-        desk: next,
-        at: end,
-    }
+    let o = console_parse::parse(line);
+    let command = o.command;
+    let numbers = o.numbers;
+    let mut bytes = [0u8; console_parse::LONGEST / 2];
+    let n = text_bytes(line, o.text, &mut bytes);
+    command_step(d, command, numbers, &bytes[..n], out, at)
 }

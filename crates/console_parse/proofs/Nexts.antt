@@ -8,15 +8,18 @@ use mathlib.Core.Bool.{Bool, true, false, cond, _&&_}
 use mathlib.Core.List.{List, [], _∷_}
 use lib.ListN.{length, getD, take, drop, drop-of-length-le, length-drop}
 use lib.Seq.{drop-cons, take-all}
-use lib.Dec.{eqb, ltb}
-use borrow.Author.Tests.{eq-eqb, ne-eqb, lt-ltb}
+use lib.Dec.{eqb, leb, ltb}
+use borrow.Author.Tests.{eq-eqb, ne-eqb, lt-ltb, leb-true, leb-false}
+use Rattle.laws.proofs.Sums.{by-test}
+use Rattle.console_names.specs.declared.Text.{Text}
+use Rattle.console_names.specs.declared.Text.the-variants.{Nothing as NoText, Hex}
 use Rattle.ascii.specs.Decimal.{readOn}
 use Rattle.console_parse.specs.declared.Got.{Got}
 use Rattle.console_parse.specs.declared.Got.the-variants.{Is, Bad}
 use Rattle.console_parse.specs.declared.Next.{Next}
 use Rattle.console_parse.specs.declared.Next.the-variants.{Is as IsTo, Bad as BadNext}
 use Rattle.console_parse.specs.Bytes.{front, isNumber, isHexText}
-use Rattle.console_parse.specs.Lines.{hexBehind}
+use Rattle.console_parse.specs.Lines.{hexBehind, textOk}
 use Rattle.console_parse.specs.Scan.{gotOf, nextOf}
 use Rattle.console_parse.proofs.Words.{front-take, front-short}
 
@@ -93,3 +96,15 @@ module _ (l : List ℕ) (at : ℕ) where
           rw
           (drop-cons l at 0 h, eq-eqb (getD l at 0) 32 g, ← add-one at, lt-ltb 0 (length (drop (at + 1) l)) some)
           (rw (take-all (length l - (at + 1)) (drop (at + 1) l) whole) at e)
+
+-- the text behind the numbers, by what the command asks for
+module _ (t : Text) (l : List ℕ) (at : ℕ) where
+  pub no-text : t ≡ NoText → leb (length l) at ≡ textOk t (drop at l)
+  no-text e =
+      rw e
+      (by-test (leb (length l) at)
+      (λ h. h ∙ sym (eq-eqb (length (drop at l)) 0 (omega (arith, length-drop at l, leb-true (length l) at h))))
+      (λ h. h ∙ sym (ne-eqb (length (drop at l)) 0 (λ z. omega (arith, z, length-drop at l, leb-false (length l) at h)))))
+
+  pub a-hex-text : (b : Bool) → t ≡ Hex → b ≡ hexBehind (drop at l) → b ≡ textOk t (drop at l)
+  a-hex-text b e f = rw e f

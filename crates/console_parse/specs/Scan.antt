@@ -7,15 +7,16 @@ use mathlib.Core.List.{List, [], _∷_, _++_}
 use lib.ListN.{length, set}
 use lib.Dec.{eqb}
 use Rattle.ascii.specs.Decimal.{readOn}
-use Rattle.console_names.specs.declared.Kind.{Kind}
-use Rattle.console_names.specs.declared.Kind.the-variants.{Unknown}
+use Rattle.console_names.specs.declared.Command.{Command}
+use Rattle.console_names.specs.declared.Command.the-variants.{Unknown}
+use Rattle.console_names.specs.declared.Text.{Text}
 use Rattle.console_parse.specs.declared.Order.{Order}
 use Rattle.console_parse.specs.declared.Got.{Got}
 use Rattle.console_parse.specs.declared.Got.the-variants.{Is, Bad}
 use Rattle.console_parse.specs.declared.Next.{Next}
 use Rattle.console_parse.specs.declared.Next.the-variants.{Is as IsTo, Bad as BadNext}
 use Rattle.console_parse.specs.Bytes.{front, behind, isNumber}
-use Rattle.console_parse.specs.Lines.{orderAt}
+use Rattle.console_parse.specs.Lines.{textOk, textStart, orderAt}
 
 unfoldable pub gotOf : ℕ → List ℕ → Got
 gotOf most w = cond (isNumber most w) (Is (readOn 0 w)) Bad
@@ -26,12 +27,13 @@ nextOf most at [] = BadNext
 nextOf most at (b ∷ l) =
     cond (eqb b (code " ") && isNumber most (front l)) (IsTo (readOn 0 (front l)) (at + 1 + length (front l))) BadNext
 
--- the order, where numbers with these limits are still to come, the next for place k, and what was read stands in ns
-unfoldable pub filled : ℕ → Kind → List ℕ → List ℕ → List ℕ → Order
-filled k kind [] [] ns = record { kind = kind; numbers = ns }
-filled k kind [] (b ∷ l) ns = orderAt Unknown []
-filled k kind (m ∷ ms) [] ns = orderAt Unknown []
-filled k kind (m ∷ ms) (b ∷ l) ns =
+-- the order of a line of this size, where numbers with these limits are still to come, the next for place k, and what was read stands in
+-- ns
+unfoldable pub filled : ℕ → Command → Text → ℕ → List ℕ → List ℕ → List ℕ → Order
+filled size command t k [] l ns =
+    cond (textOk t l) (record { command = command; numbers = ns; text = textStart size l }) (orderAt Unknown [] size)
+filled size command t k (m ∷ ms) [] ns = orderAt Unknown [] size
+filled size command t k (m ∷ ms) (b ∷ l) ns =
     cond (eqb b (code " ") && isNumber m (front l))
-    (filled (suc k) kind ms (behind l) (set ns k (readOn 0 (front l))))
-    (orderAt Unknown [])
+    (filled size command t (suc k) ms (behind l) (set ns k (readOn 0 (front l))))
+    (orderAt Unknown [] size)

@@ -5,14 +5,20 @@ ghost use Prim.Native.Nat.{_+_, _-_, _≤_};
 ghost use lib.ListN.{length, drop};
 ghost use Rattle.console_parse.specs.Bytes.{front, isHexText};
 ghost use Rattle.console_parse.specs.Scan.{gotOf, nextOf, filled};
-ghost use Rattle.console_parse.specs.Lines.{asked, hexBehind, orderOf, orderAt};
-use console_names::Kind;
+ghost use Rattle.console_parse.specs.Lines.{asked, hexBehind, textOk, textStart, orderOf, orderAt};
+use console_names::Command;
+use console_names::NUMBERS;
 use console_names::Row;
+use console_names::Text;
 
-// A command with its numbers, zeros behind them. Of `read` the hex digits stand in the line from byte 5 on.
+// The bytes of the longest line that can be a command.
+pub const LONGEST: usize = 4096;
+
+// A command with its numbers, zeros behind them, and where its text starts in the line: at the line's end where it has none.
 pub struct Order {
-    pub kind: Kind,
-    pub numbers: [u32; 5],
+    pub command: Command,
+    pub numbers: [u32; NUMBERS],
+    pub text: usize,
 }
 
 // Where the word that begins at `at` ends: at the next space, or at the line's end.
@@ -88,29 +94,32 @@ fn next_number(line: &[u8], at: usize, most: u32) -> Next
     }
 }
 
-fn bare(kind: Kind) -> Order
-    ensures { λ r. ⌜ r ≡ orderAt kind [] ⌝ }
+// A command with no numbers in a line of this length.
+fn bare(command: Command, size: usize) -> Order
+    ensures { λ r. ⌜ r ≡ orderAt command [] size ⌝ }
 {
     Order {
-        kind,
-        numbers: [0; 5],
+        command,
+        numbers: [0; NUMBERS],
+        text: size,
     }
 }
 
 // The numbers that a row asks for, in what stands behind the command's name.
 fn numbers(line: &[u8], from: usize, r: Row) -> Order
     requires { ⌜ from ≤ length (now line) ⌝ }
-    ensures { λ o. ⌜ o ≡ asked r (drop from (now (line .entry))) ⌝ }
+    ensures { λ o. ⌜ o ≡ asked (length (now (line .entry))) r (drop from (now (line .entry))) ⌝ }
 {
     let count = r.count;
     let most = r.most;
-    let kind = r.kind;
-    let mut ns = [0u32; 5];
+    let command = r.command;
+    let text = r.text;
+    let mut ns = [0u32; NUMBERS];
     let mut at = from;
     let mut k = 0;
-    while k < 5 {
+    while k < NUMBERS {
         if count <= k {
-            return ending(line, at, kind, ns);
+            return ending(line, at, command, text, ns);
         }
         match next_number(line, at, most[k]) {
             Next::Is(n, end) => {
@@ -118,23 +127,45 @@ fn numbers(line: &[u8], from: usize, r: Row) -> Order
                 at = end;
             }
             Next::Bad => {
-                return bare(Kind::Unknown);
+                return bare(Command::Unknown, line.len());
             }
         }
         k += 1;
     }
-    ending(line, at, kind, ns)
+    ending(line, at, command, text, ns)
 }
 
-// Behind the last number the line ends.
-fn ending(line: &[u8], at: usize, kind: Kind, ns: [u32; 5]) -> Order
+// Behind the last number stands the command's text, and nothing else.
+fn ending(line: &[u8], at: usize, command: Command, text: Text, ns: [u32; NUMBERS]) -> Order
     requires { ⌜ at ≤ length (now line) ⌝ }
-    ensures { λ r. ⌜ r ≡ filled 0 kind [] (drop at (now (line .entry))) ns ⌝ }
+    ensures { λ r. ⌜ r ≡ filled (length (now (line .entry))) command text 0 [] (drop at (now (line .entry))) ns ⌝ }
 {
-    if line.len() <= at {
-        Order { kind, numbers: ns }
+    if text_behind(line, at, text) {
+        Order {
+            command,
+            numbers: ns,
+            text: text_start(line, at),
+        }
     } else {
-        bare(Kind::Unknown)
+        bare(Command::Unknown, line.len())
+    }
+}
+
+// Where the text behind the space at `at` starts.
+fn text_start(line: &[u8], at: usize) -> usize
+    requires { ⌜ at ≤ length (now line) ⌝ }
+    ensures { λ r. ⌜ r ≡ textStart (length (now (line .entry))) (drop at (now (line .entry))) ⌝ }
+{
+    if at < line.len() { at + 1 } else { at }
+}
+
+fn text_behind(line: &[u8], at: usize, text: Text) -> bool
+    requires { ⌜ at ≤ length (now line) ⌝ }
+    ensures { λ r. ⌜ r ≡ textOk text (drop at (now (line .entry))) ⌝ }
+{
+    match text {
+        Text::Nothing => line.len() <= at,
+        Text::Hex => hex_behind(line, at),
     }
 }
 
@@ -176,19 +207,11 @@ pub fn parse(line: &[u8]) -> Order
     ensures { λ r. ⌜ r ≡ orderOf (now (line .entry)) ⌝ }
 {
     if line.len() == 0 {
-        return bare(Kind::Nothing);
+        return bare(Command::Nothing, 0);
     }
-    if 4096 < line.len() {
-        return bare(Kind::Unknown);
+    if LONGEST < line.len() {
+        return bare(Command::Unknown, line.len());
     }
     let end = word_end(line, 0);
-    if ascii::same(&line[..end], b"read") {
-        if hex_behind(line, end) {
-            bare(Kind::Read)
-        } else {
-            bare(Kind::Unknown)
-        }
-    } else {
-        numbers(line, end, console_names::row_of(&line[..end]))
-    }
+    numbers(line, end, console_names::row_of(&line[..end]))
 }

@@ -1,149 +1,23 @@
-// What the console holds, and what each command leaves of it and answers.
+// The console's commands that change the state: what each leaves of it, and what it prints.
 ghost use mathlib.Core.Path.{_≡_};
-ghost use mathlib.Core.List.{_∷_, []};
-ghost use mathlib.Core.Bool.{cond};
-ghost use Rattle.rules.specs.Streams.{valid, limitOf, jitterOf};
-ghost use Rattle.rules.specs.States.{wellFormed};
-ghost use Rattle.rules.specs.Steps.{startOf, postOf, unitOf, chooseOf};
-ghost use Rattle.rules.specs.Load.{demandOf};
-ghost use Rattle.rules.specs.Sheet.{readOf};
-ghost use Rattle.console_state.specs.Leaves.{firstDesk, withSet, withState, streamPut, placePut, tuplePut, messagePut, streamsPut, clockPut, pendingPut, leaves, answers};
-use console_names::Kind;
-use console_parse::Order;
-use rules::ChooseAnswer;
-use rules::CountAnswer;
-use rules::JitterAnswer;
+ghost use Rattle.ascii.specs.Decimal.{letters};
+ghost use Rattle.line.specs.Line.{holding};
+ghost use Rattle.answer_words.specs.Words.{lineOf};
+ghost use Rattle.console_state.specs.StateCommands.{clockPut, pendingPut, messagePut, started, posted, ran, stateAfter, stateLine};
+use console_names::NUMBERS;
+use console_names::StateCommand;
+use line::Line;
 use rules::Message;
-use rules::PostAnswer;
-use rules::ReadAnswer;
 use rules::Set;
-use rules::StartAnswer;
 use rules::State;
-use rules::Stream;
-use rules::Tuple;
-use rules::TuplePlace;
-use rules::UnitAnswer;
 
-// What the console holds.
-pub struct Desk {
-    pub set: Set,
+// The state after a command, and the line that is printed.
+pub struct StateAfter {
     pub state: State,
+    pub line: Line,
 }
 
-// An answer that is one line.
-pub enum Said {
-    Unknown,
-    Put,
-    // the answer, and how many streams the set then has
-    Read(ReadAnswer, usize),
-    Valid,
-    Invalid,
-    Count(CountAnswer),
-    Jitter(JitterAnswer),
-    Start(StartAnswer),
-    // the clock before the step, and the answer
-    Post(u32, PostAnswer),
-    Unit(u32, UnitAnswer),
-    Choose(ChooseAnswer),
-    Formed,
-    IllFormed,
-}
-
-// What a command answers. What the sheet in a buffer of that length, the verdict and the state are is looked up by whoever prints.
-pub enum Answer {
-    Nothing,
-    Says(Said),
-    Write(u32),
-    Verdict,
-    State,
-}
-
-// What a command leaves, and what it answers.
-pub struct Left {
-    pub desk: Desk,
-    pub answer: Answer,
-}
-
-pub fn first() -> Desk
-    ensures { λ r. ⌜ r ≡ firstDesk ⌝ }
-{
-    let set = stream_valid::empty_set();
-    let r = scheduler::start(set);
-    let state = r.state;
-    Desk { set, state }
-}
-
-fn with_set(d: Desk, x: Set) -> Desk
-    ensures { λ r. ⌜ r ≡ withSet d x ⌝ }
-{
-    let state = d.state;
-    Desk { set: x, state }
-}
-
-fn with_state(d: Desk, s: State) -> Desk
-    ensures { λ r. ⌜ r ≡ withState d s ⌝ }
-{
-    let set = d.set;
-    Desk { set, state: s }
-}
-
-fn leaving(d: Desk, a: Answer) -> Left
-    ensures { λ r. ⌜ r ≡ record { desk = d; answer = a } ⌝ }
-{
-    Left { desk: d, answer: a }
-}
-
-fn saying(d: Desk, s: Said) -> Left
-    ensures { λ r. ⌜ r ≡ record { desk = d; answer = Answer.Says s } ⌝ }
-{
-    leaving(d, Answer::Says(s))
-}
-
-// ---- what is put into the set and the state; a place that there is not stays out
-
-fn put_streams(x: Set, n: usize) -> Set
-    ensures { λ r. ⌜ r ≡ streamsPut x n ⌝ }
-{
-    let mut next = x;
-    next.count = n;
-    next
-}
-
-fn put_stream(x: Set, i: usize, task: usize, cost: u32, deadline: u32, count: usize) -> Set
-    ensures { λ r. ⌜ r ≡ streamPut x i task cost deadline count ⌝ }
-{
-    let mut next = x;
-    if i < 16 {
-        let mut s = next.streams[i];
-        s.task = task;
-        s.cost = cost;
-        s.deadline = deadline;
-        s.count = count;
-        next.streams[i] = s;
-    }
-    next
-}
-
-fn put_place(s: Stream, j: usize, t: Tuple) -> Stream
-    ensures { λ r. ⌜ r ≡ placePut s j t ⌝ }
-{
-    let mut next = s;
-    if j < 4 {
-        next.tuples[j] = TuplePlace { tuple: t };
-    }
-    next
-}
-
-fn put_tuple(x: Set, i: usize, j: usize, t: Tuple) -> Set
-    ensures { λ r. ⌜ r ≡ tuplePut x i j t ⌝ }
-{
-    let mut next = x;
-    if i < 16 {
-        let s = put_place(next.streams[i], j, t);
-        next.streams[i] = s;
-    }
-    next
-}
+// ---- what is put into the state; a place that there is not stays out
 
 fn put_clock(s: State, n: u32) -> State
     ensures { λ r. ⌜ r ≡ clockPut s n ⌝ }
@@ -175,140 +49,68 @@ fn put_message(s: State, i: usize, stream: usize, deadline: u32, used: u32) -> S
     next
 }
 
-fn put_into_set(d: Desk, x: Set) -> Left
-    ensures { λ r. ⌜ r ≡ record { desk = withSet d x; answer = Answer.Says Said.Put } ⌝ }
-{
-    saying(with_set(d, x), Said::Put)
-}
+// ---- every command
 
-fn put_into_state(d: Desk, s: State) -> Left
-    ensures { λ r. ⌜ r ≡ record { desk = withState d s; answer = Answer.Says Said.Put } ⌝ }
+fn put(s: State) -> StateAfter
+    ensures { λ r. ⌜ r ≡ record { state = s; line = holding (lineOf (letters "put")) } ⌝ }
 {
-    saying(with_state(d, s), Said::Put)
-}
-
-// ---- the commands that ask or step
-
-fn read(d: Desk, bytes: &[u8]) -> Left
-    ensures { λ r. ⌜ r ≡ record { desk = leaves Kind.Read [] (now (bytes .entry)) d; answer = answers Kind.Read [] (now (bytes .entry)) d } ⌝ }
-{
-    let r = sheet_read::read(bytes);
-    let answer = r.answer;
-    let set = r.set;
-    let count = set.count;
-    saying(with_set(d, set), Said::Read(answer, count))
-}
-
-fn is_valid(d: Desk) -> Left
-    ensures { λ r. ⌜ r ≡ record { desk = d; answer = answers Kind.Valid [] [] d } ⌝ }
-{
-    let set = d.set;
-    if stream_valid::is_valid(set) {
-        saying(d, Said::Valid)
-    } else {
-        saying(d, Said::Invalid)
+    StateAfter {
+        state: s,
+        line: console_words::put_line(),
     }
 }
 
-fn is_formed(d: Desk) -> Left
-    ensures { λ r. ⌜ r ≡ record { desk = d; answer = answers Kind.Formed [] [] d } ⌝ }
+fn start(x: Set) -> StateAfter
+    ensures { λ r. ⌜ r ≡ started x ⌝ }
 {
-    let state = d.state;
-    if state_formed::well_formed(state) {
-        saying(d, Said::Formed)
-    } else {
-        saying(d, Said::IllFormed)
-    }
-}
-
-fn start(d: Desk) -> Left
-    ensures { λ r. ⌜ r ≡ record { desk = leaves Kind.Start [] [] d; answer = answers Kind.Start [] [] d } ⌝ }
-{
-    let set = d.set;
-    let r = scheduler::start(set);
+    let r = scheduler::start(x);
     let answer = r.answer;
     let state = r.state;
-    saying(with_state(d, state), Said::Start(answer))
+    StateAfter {
+        state,
+        line: console_words::start_line(answer),
+    }
 }
 
-fn post(d: Desk, k: u32) -> Left
-    ensures { λ r. ⌜ r ≡ record { desk = leaves Kind.Post (k ∷ []) [] d; answer = answers Kind.Post (k ∷ []) [] d } ⌝ }
+fn post(s: State, k: u32) -> StateAfter
+    ensures { λ r. ⌜ r ≡ posted s k ⌝ }
 {
-    let s = d.state;
     let clock = s.clock;
     let r = scheduler::post(s, k as usize);
     let answer = r.answer;
     let state = r.state;
-    saying(with_state(d, state), Said::Post(clock, answer))
+    StateAfter {
+        state,
+        line: answer_words::post_line(clock, answer),
+    }
 }
 
-fn unit(d: Desk, done: bool) -> Left
-    ensures { λ r. ⌜ r ≡ record { desk = withState d (unitOf (d .state) done .state); answer = Answer.Says (Said.Unit (d .state .clock) (unitOf (d .state) done .answer)) } ⌝ }
+fn unit(s: State, done: bool) -> StateAfter
+    ensures { λ r. ⌜ r ≡ ran s done ⌝ }
 {
-    let s = d.state;
     let clock = s.clock;
     let r = scheduler::unit(s, done);
     let answer = r.answer;
     let state = r.state;
-    saying(with_state(d, state), Said::Unit(clock, answer))
+    StateAfter {
+        state,
+        line: answer_words::unit_line(clock, answer),
+    }
 }
 
-fn choose(d: Desk) -> Left
-    ensures { λ r. ⌜ r ≡ record { desk = d; answer = answers Kind.Choose [] [] d } ⌝ }
+// A command with its numbers, where the console holds the set x and the state s.
+pub fn after(x: Set, s: State, k: StateCommand, n: [u32; NUMBERS]) -> StateAfter
+    ensures { λ r. ⌜ r ≡ record { state = stateAfter k n x s; line = holding (stateLine k n x s) } ⌝ }
 {
-    let s = d.state;
-    saying(d, Said::Choose(scheduler::choose(s)))
-}
-
-fn limit(d: Desk, k: u32, i: u32) -> Left
-    ensures { λ r. ⌜ r ≡ record { desk = d; answer = answers Kind.Limit (k ∷ i ∷ []) [] d } ⌝ }
-{
-    let x = d.set;
-    saying(d, Said::Count(stream_limits::event_limit(x, k as usize, i)))
-}
-
-fn demand(d: Desk, i: u32) -> Left
-    ensures { λ r. ⌜ r ≡ record { desk = d; answer = answers Kind.Demand (i ∷ []) [] d } ⌝ }
-{
-    let x = d.set;
-    saying(d, Said::Count(load_check::demand(x, i)))
-}
-
-// ---- every command
-
-// A command with its numbers; `bytes` is the sheet behind `read`, and no other looks at it.
-pub fn after(d: Desk, o: Order, bytes: &[u8]) -> Left
-    ensures { λ r. ⌜ r ≡ record { desk = leaves (o .kind) (o .numbers) (now (bytes .entry)) d; answer = answers (o .kind) (o .numbers) (now (bytes .entry)) d } ⌝ }
-{
-    let k = o.kind;
-    let n = o.numbers;
-    let x = d.set;
-    let s = d.state;
     let i = n[0] as usize;
     let j = n[1] as usize;
     match k {
-        Kind::Nothing => leaving(d, Answer::Nothing),
-        Kind::Unknown => saying(d, Said::Unknown),
-        Kind::Read => read(d, bytes),
-        Kind::Write => leaving(d, Answer::Write(n[0])),
-        Kind::Streams => put_into_set(d, put_streams(x, i)),
-        Kind::Stream => put_into_set(d, put_stream(x, i, j, n[2], n[3], n[4] as usize)),
-        Kind::Once => put_into_set(d, put_tuple(x, i, j, Tuple::Once(n[2]))),
-        Kind::Every => put_into_set(d, put_tuple(x, i, j, Tuple::Every(n[2], n[3]))),
-        Kind::Valid => is_valid(d),
-        Kind::Limit => limit(d, n[0], n[1]),
-        Kind::Demand => demand(d, n[0]),
-        Kind::Jitter => saying(d, Said::Jitter(stream_limits::jittered(n[0], n[1]))),
-        Kind::Verdict => leaving(d, Answer::Verdict),
-        Kind::Start => start(d),
-        Kind::Clock => put_into_state(d, put_clock(s, n[0])),
-        Kind::Pending => put_into_state(d, put_pending(s, i)),
-        Kind::Message => put_into_state(d, put_message(s, i, j, n[2], n[3])),
-        Kind::Post => post(d, n[0]),
-        Kind::Unit => unit(d, false),
-        Kind::Done => unit(d, true),
-        Kind::Choose => choose(d),
-        Kind::Status => leaving(d, Answer::State),
-        Kind::Formed => is_formed(d),
+        StateCommand::Start => start(x),
+        StateCommand::Clock => put(put_clock(s, n[0])),
+        StateCommand::Pending => put(put_pending(s, i)),
+        StateCommand::Message => put(put_message(s, i, j, n[2], n[3])),
+        StateCommand::Post => post(s, n[0]),
+        StateCommand::Unit => unit(s, false),
+        StateCommand::Done => unit(s, true),
     }
 }

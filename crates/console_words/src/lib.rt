@@ -1,8 +1,13 @@
-// The lines of the answers that only the console prints; the words of words/specs/Words.antt.
+// The lines of the answers that only the console prints.
 ghost use mathlib.Core.Path.{_≡_};
+ghost use Prim.Native.Nat.{_≤_};
+ghost use lib.ListN.{length};
 ghost use Rattle.rules.specs.Numbers.{startSays, chooseSays, countSays, jitterSays, writeSays};
 ghost use Rattle.line.specs.Line.{holding, puts};
+ghost use mathlib.Core.List.{[]};
+ghost use Rattle.ascii.specs.Decimal.{letters};
 ghost use Rattle.answer_words.specs.Words.{tupleWords, says, readWords, lineOf};
+ghost use Rattle.console_words.specs.Words.{validWords, formedWords};
 use line::Line;
 use rules::ChooseAnswer;
 use rules::CountAnswer;
@@ -115,4 +120,50 @@ pub fn read_line(a: ReadAnswer, n: usize) -> Line
     ensures { λ r. ⌜ r ≡ holding (lineOf (readWords a n)) ⌝ }
 {
     line::put(read_words(line::blank(), a, n), b'\n')
+}
+
+// A word as a line.
+fn word_line(w: &[u8]) -> Line
+    requires { ⌜ length (now w) ≤ 95 ⌝ }
+    ensures { λ r. ⌜ r ≡ holding (lineOf (now (w .entry))) ⌝ }
+{
+    line::put(line::word(line::blank(), w), b'\n')
+}
+
+pub fn empty_line() -> Line
+    ensures { λ r. ⌜ r ≡ holding (lineOf []) ⌝ }
+{
+    word_line(b"")
+}
+
+pub fn unknown_line() -> Line
+    ensures { λ r. ⌜ r ≡ holding (lineOf (letters "?")) ⌝ }
+{
+    word_line(b"?")
+}
+
+pub fn put_line() -> Line
+    ensures { λ r. ⌜ r ≡ holding (lineOf (letters "put")) ⌝ }
+{
+    word_line(b"put")
+}
+
+pub fn valid_line(valid: bool) -> Line
+    ensures { λ r. ⌜ r ≡ holding (lineOf (validWords valid)) ⌝ }
+{
+    if valid {
+        word_line(b"valid")
+    } else {
+        word_line(b"invalid")
+    }
+}
+
+pub fn formed_line(formed: bool) -> Line
+    ensures { λ r. ⌜ r ≡ holding (lineOf (formedWords formed)) ⌝ }
+{
+    if formed {
+        word_line(b"well formed")
+    } else {
+        word_line(b"refused 12")
+    }
 }

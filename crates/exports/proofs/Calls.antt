@@ -4,16 +4,12 @@ use Prim.Native.Nat.{ℕ}
 use mathlib.Core.Path.{_≡_, ap, sym, _∙_}
 use mathlib.Core.List.{List}
 use Rattle.rules.specs.declared.State.{State}
-use Rattle.rules.specs.declared.ReadAnswer.{ReadAnswer}
-use Rattle.rules.specs.declared.ReadAnswer.the-variants.{Read, Refused}
 use Rattle.rules.specs.declared.ReadResult.{ReadResult}
-use Rattle.rules.specs.declared.Set.{Set}
-use Rattle.rules.specs.declared.Verdict.{Verdict}
 use Rattle.rules.specs.Runs.{runOf}
 use Rattle.rules.specs.Sheet.{readOf}
-use Rattle.rules.proofs.Verdicts.{verdict-unique}
 use Rattle.scheduler_run.specs.Calls.{callsOf}
-use Rattle.exports.specs.Codes.{halves, stateCode, runCode, verdictCode, SheetVerdict, VerdictOfSheet}
+use Rattle.load_check.proofs.Sheets.{sheet-verdict-unique}
+use Rattle.exports.specs.Codes.{halves, stateCode, runCode, verdictCode, VerdictOfSheet}
 
 -- the calls, from the start of the set that was read
 pub run-code : (sheet calls : List ℕ) (x : ReadResult) (s : State) (n : ℕ)
@@ -21,11 +17,7 @@ pub run-code : (sheet calls : List ℕ) (x : ReadResult) (s : State) (n : ℕ)
 unfolding runCode stateCode
 run-code sheet calls x s n read made code = code ∙ ap stateCode (made ∙ ap (λ (y : ReadResult). runOf (y .set) (callsOf calls) .state) read)
 
-one-verdict : (a : ReadAnswer) (x : Set) (v w : Verdict) → SheetVerdict a x v → SheetVerdict a x w → v ≡ w
-one-verdict Read x v w p q = verdict-unique x v w p q
-one-verdict (Refused why) x v w p q = p ∙ sym q
-
 -- two numbers allowed to be told of one sheet's verdict are the same
 pub code-once : (r : ReadResult) (m n : ℕ) → VerdictOfSheet r m → VerdictOfSheet r n → m ≡ n
 code-once r m n p q =
-    p .code ∙ ap verdictCode (one-verdict (r .answer) (r .set) (p .given) (q .given) (p .is-verdict) (q .is-verdict)) ∙ sym (q .code)
+    p .code ∙ ap verdictCode (sheet-verdict-unique (r .answer) (r .set) (p .given) (q .given) (p .is-verdict) (q .is-verdict)) ∙ sym (q .code)

@@ -3,7 +3,6 @@
 use Prim.Native.Nat.{ℕ, _+_, _*_, _%_}
 use mathlib.Core.List.{List}
 use mathlib.Core.Path.{_≡_}
-use Rattle.rules.specs.declared.Set.{Set}
 use Rattle.rules.specs.declared.State.{State}
 use Rattle.rules.specs.declared.ReadAnswer.{ReadAnswer}
 use Rattle.rules.specs.declared.ReadAnswer.the-variants.{Read, Refused as ReadRefused}
@@ -13,9 +12,9 @@ use Rattle.rules.specs.declared.Verdict.the-variants.{Accept, Late, Overload, R
 use Rattle.rules.specs.Streams.{streamAt}
 use Rattle.rules.specs.Runs.{runOf}
 use Rattle.scheduler_run.specs.Calls.{callsOf}
-use Rattle.rules.specs.Load.{VerdictOf}
 use Rattle.rules.specs.Sheet.{readOf}
 use Rattle.rules.specs.Numbers.{number}
+use Rattle.load_check.specs.Sheets.{SheetVerdict}
 
 -- two numbers in one of 64 bits, each by its lowest 32
 unfoldable pub halves : ℕ → ℕ → ℕ
@@ -51,11 +50,7 @@ lengthOf (Refused why) = 0
 unfoldable pub verdictCode : Verdict → ℕ
 verdictCode v = halves (kindOf v) (lengthOf v)
 
--- the verdict of the set that was read; a sheet that is refused has no other verdict than that
-abbrev pub SheetVerdict : ReadAnswer → Set → Verdict → Type 0
-SheetVerdict Read x v = VerdictOf x v
-SheetVerdict (ReadRefused why) x v = v ≡ Refused why
-
+-- the verdict of the sheet
 pub record VerdictOfSheet (r : ReadResult) (n : ℕ) : Type 0 where
   pub given : Verdict
   pub is-verdict : SheetVerdict (r .answer) (r .set) given

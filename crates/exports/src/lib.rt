@@ -1,9 +1,8 @@
 // Questions about a sheet for a caller in another language: bytes come in, one number goes out.
 ghost use mathlib.Core.Path.{_≡_};
 ghost use Rattle.rules.specs.Sheet.{readOf};
-ghost use Rattle.exports.specs.Codes.{halves, answerNumber, readCode, kindOf, lengthOf, verdictCode, SheetVerdict, VerdictOfSheet, runCode};
+ghost use Rattle.exports.specs.Codes.{halves, answerNumber, readCode, kindOf, lengthOf, verdictCode, VerdictOfSheet, runCode};
 use rules::ReadAnswer;
-use rules::Set;
 use rules::Verdict;
 
 // Two numbers in one, each by its lowest 32 bits.
@@ -60,15 +59,6 @@ fn length_of(v: Verdict) -> u64
     }
 }
 
-fn verdict_by(a: ReadAnswer, x: Set) -> Verdict
-    ensures { λ r. ⌜ SheetVerdict a x r ⌝ }
-{
-    match a {
-        ReadAnswer::Read => load_check::verdict(x),
-        ReadAnswer::Refused(why) => Verdict::Refused(why),
-    }
-}
-
 // The verdict of the sheet: 0 accept, 256 late, 257 overload or the refusal's number, and the late length.
 #[no_mangle]
 pub extern "C" fn sheet_verdict(bytes: &[u8]) -> u64
@@ -77,7 +67,7 @@ pub extern "C" fn sheet_verdict(bytes: &[u8]) -> u64
     let r = sheet_read::read(bytes);
     let a = r.answer;
     let set = r.set;
-    let v = verdict_by(a, set);
+    let v = load_check::sheet_verdict(a, set);
     in_halves(kind_of(v), length_of(v))
 }
 

@@ -14,7 +14,7 @@ pub fn say(l: Line) -> bool {
 // The sheet in the file set.bin; a missing file is read as no bytes. No sheet has more than 378 bytes, so of a longer file 379
 // tell all: `long-sheet` of crates/writing.
 pub fn read_sheet() -> ReadResult {
-    let mut bytes = [0u8; 379];
+    let mut bytes = [0u8; rules::LONGEST_SHEET + 1];
     let fd = os::open_read(b"set.bin");
     if fd < 0 {
         return sheet_read::read(&bytes[..0]);

@@ -4,3 +4,4 @@ pub mod RowLaws
 pub mod Steady
 pub mod Ranges
 pub mod Settle
+pub mod Sheets

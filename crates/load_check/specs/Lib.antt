@@ -1,3 +1,4 @@
 pub mod Dues
 pub mod Blocked
 pub mod Lengths
+pub mod Sheets

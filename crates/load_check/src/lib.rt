@@ -6,8 +6,10 @@ mod lengths; // lengths.rt: the testing of a range of lengths
 ghost use mathlib.Core.Path.{_≡_};
 ghost use Prim.Native.Nat.{max};
 ghost use Rattle.rules.specs.Load.{demandOf, VerdictOf};
+ghost use Rattle.load_check.specs.Sheets.{SheetVerdict};
 use load_cycles::Opening;
 use rules::CountAnswer;
+use rules::ReadAnswer;
 use rules::Refusal;
 use rules::Set;
 use rules::Verdict;
@@ -64,5 +66,15 @@ pub fn verdict(x: Set) -> Verdict
                 Tested::Late(i, w) => Verdict::Late(i, w),
             }
         }
+    }
+}
+
+// The verdict of a sheet, from what it reads as: a refused sheet's is its refusal.
+pub fn sheet_verdict(a: ReadAnswer, x: Set) -> Verdict
+    ensures { λ r. ⌜ SheetVerdict a x r ⌝ }
+{
+    match a {
+        ReadAnswer::Read => verdict(x),
+        ReadAnswer::Refused(why) => Verdict::Refused(why),
     }
 }

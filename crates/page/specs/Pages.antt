@@ -3,6 +3,7 @@
 use Prim.Native.Nat.{ℕ, _+_, _-_}
 use mathlib.Core.Bool.{Bool, cond, _&&_}
 use mathlib.Core.List.{List}
+use mathlib.Core.Path.{_≡_}
 use lib.ListN.{length}
 use lib.Seq.{paste}
 use lib.Dec.{leb}
@@ -21,7 +22,11 @@ printed out at w = cond (roomFor out at (length w)) (paste out at w (length w)) 
 unfoldable pub printedEnd : List ℕ → ℕ → List ℕ → ℕ
 printedEnd out at w = cond (roomFor out at (length w)) (at + length w) at
 
--- there is room for the line, which is no longer than any
+-- the bytes w were printed behind the first `at` of the page out: where they end, and the page then
+abbrev pub Onto : List ℕ → ℕ → List ℕ → ℕ → List ℕ → Type 0
+Onto out at w end page = (end ≡ printedEnd out at w) × (page ≡ printed out at w)
+
+-- there is room for the line, which has at most `lineRoom` bytes
 unfoldable pub hasRoom : List ℕ → ℕ → Line → Bool
 hasRoom out at l = leb (l .len) lineRoom && roomFor out at (l .len)
 

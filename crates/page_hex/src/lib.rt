@@ -3,7 +3,7 @@ ghost use mathlib.Core.Path.{_≡_};
 ghost use mathlib.Core.List.{_∷_, []};
 ghost use Prim.Native.Nat.{_+_, _*_, _/_, _%_};
 ghost use Rattle.ascii.specs.Hex.{hexOf, hexDigit, hexed};
-ghost use Rattle.page.specs.Pages.{printed, printedEnd};
+ghost use Rattle.page.specs.Pages.{Onto};
 ghost use Rattle.page_hex.specs.Unhexed.{fitting, unhexedIn};
 ghost use Rattle.line.specs.Line.{holding};
 use line::Line;
@@ -42,7 +42,7 @@ fn pair(b: u8) -> Line
 // The digits of the bytes, behind the first `at` bytes of a page, and where they end; a page that has no room for all of them stays as
 // it is.
 pub fn print(bytes: &[u8], out: &mut [u8], at: usize) -> usize
-    ensures { λ r. ⌜ (r ≡ printedEnd (now (out .entry)) at (hexed (now (bytes .entry)))) × (now (out .exit) ≡ printed (now (out .entry)) at (hexed (now (bytes .entry)))) ⌝ }
+    ensures { λ r. ⌜ Onto (now (out .entry)) at (hexed (now (bytes .entry))) r (now (out .exit)) ⌝ }
 {
     if out.len() < at {
         return at;

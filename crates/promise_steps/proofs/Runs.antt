@@ -9,18 +9,15 @@ use Rattle.laws.specs.Lists.{All, all, sum, count, scan}
 use Rattle.laws.proofs.Sums.{by-test}
 use Rattle.rules.specs.declared.Set.{Set}
 use Rattle.rules.specs.declared.State.{State}
-use Rattle.rules.specs.declared.PostAnswer.{PostAnswer}
-use Rattle.rules.specs.declared.PostAnswer.the-variants.{Posted, Refused as PostRefused}
-use Rattle.rules.specs.declared.UnitAnswer.{UnitAnswer}
-use Rattle.rules.specs.declared.UnitAnswer.the-variants.{Ran, Finished, Cut, Idle, Refused as UnitRefused}
 use Rattle.rules.specs.Streams.{Placed, FourTuples, noStream, emptySet, tupleUnused, streamUnused, valid}
 use Rattle.rules.specs.States.{messagesOk, startedOnce, messageUnused}
-use Rattle.rules.specs.Steps.{fresh, startOf, postOf, unitOf}
+use Rattle.rules.specs.Steps.{fresh, startOf, postOf, unitOf, callOf}
 use Rattle.rules.specs.declared.Call.{Call}
 use Rattle.rules.specs.declared.Call.the-variants.{Posts, Units}
 use Rattle.rules.specs.declared.PostResult.{PostResult}
 use Rattle.rules.specs.declared.UnitResult.{UnitResult}
 use Rattle.rules.specs.Runs.{Run, afterPost, afterUnit, stepOf, begin, runFrom, runOf}
+use Rattle.rules.proofs.Events.{step-state}
 use Rattle.state_formed.proofs.WellFormed.{well-formed-back}
 use Rattle.promise_steps.specs.Formed.{Formed, StartGives, PostKeeps, UnitKeeps, RunKeeps, TimeIsClock}
 use Rattle.promise_steps.proofs.Cases.{PostCase, refuses, accepts, post-case, UnitCase, stops, idles, finishes, cuts, runs, unit-case}
@@ -54,21 +51,10 @@ start-gives S placed = by-test (valid S)
 
 -- ---- the calls
 
-post-state : (r : Run) (k : ℕ) (s : State) (a : PostAnswer) → afterPost r k s a .state ≡ s
-post-state r k s (Posted j d) = refl
-post-state r k s (PostRefused why) = refl
-
-unit-state : (r : Run) (s : State) (a : UnitAnswer) → afterUnit r s a .state ≡ s
-unit-state r s (Ran t k) = refl
-unit-state r s (Finished t k l) = refl
-unit-state r s (Cut t k l) = refl
-unit-state r s Idle = refl
-unit-state r s (UnitRefused why) = refl
-
 step-keeps : (r : Run) (c : Call) → Formed (r .state) → Formed (stepOf r c .state)
-unfolding stepOf PostKeeps UnitKeeps
-step-keeps r (Posts k) f = subst Formed (sym (post-state r k (postOf (r .state) k .state) (postOf (r .state) k .answer))) (post-keeps (r .state) k f)
-step-keeps r (Units done) f = subst Formed (sym (unit-state r (unitOf (r .state) done .state) (unitOf (r .state) done .answer))) (unit-keeps (r .state) done f)
+unfolding callOf PostKeeps UnitKeeps
+step-keeps r (Posts k) f = subst Formed (sym (step-state r (Posts k))) (post-keeps (r .state) k f)
+step-keeps r (Units done) f = subst Formed (sym (step-state r (Units done))) (unit-keeps (r .state) done f)
 
 from-keeps : (r : Run) (cs : List Call) → Formed (r .state) → Formed (runFrom r cs .state)
 unfolding runFrom

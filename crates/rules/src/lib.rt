@@ -47,6 +47,9 @@ pub struct State {
 // "the clock is at most 4,000,000,000"
 pub const LAST_CLOCK: u32 = 4000000000;
 
+// "A full sheet is 378 bytes."
+pub const LONGEST_SHEET: usize = 378;
+
 // Why a call is refused. specs/Numbers.antt gives the number that the cab prints for each.
 pub enum Refusal {
     NoStream,

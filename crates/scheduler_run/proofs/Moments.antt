@@ -20,32 +20,11 @@ use Rattle.rules.specs.declared.Set.{Set}
 use Rattle.rules.specs.declared.StartResult.{StartResult}
 use Rattle.rules.specs.declared.PostResult.{PostResult}
 use Rattle.rules.specs.declared.UnitResult.{UnitResult}
-use Rattle.rules.specs.declared.PostAnswer.{PostAnswer}
-use Rattle.rules.specs.declared.PostAnswer.the-variants.{Posted, Refused as PostRefused}
-use Rattle.rules.specs.declared.UnitAnswer.{UnitAnswer}
-use Rattle.rules.specs.declared.UnitAnswer.the-variants.{Ran, Finished, Cut, Idle, Refused as UnitRefused}
 use Rattle.rules.specs.States.{noMessage, pending}
 use Rattle.rules.specs.Steps.{sooner, startOf, postOf, unitOf, callOf}
-use Rattle.rules.specs.Runs.{Run, afterPost, afterUnit, stepOf, startAt, begin, runFrom, runOf, overdue, missedNow, missedFrom, missedIn}
+use Rattle.rules.specs.Runs.{Run, stepOf, startAt, begin, runFrom, runOf, overdue, missedNow, missedFrom, missedIn}
+use Rattle.rules.proofs.Events.{step-state}
 use Rattle.scheduler_run.specs.Calls.{callByte, callsOf, EndOf}
-
--- ---- a call leaves the state that the step of the run has
-
-post-state : (r : Run) (k : ℕ) (s : State) (a : PostAnswer) → afterPost r k s a .state ≡ s
-post-state r k s (Posted j d) = refl
-post-state r k s (PostRefused why) = refl
-
-unit-state : (r : Run) (s : State) (a : UnitAnswer) → afterUnit r s a .state ≡ s
-unit-state r s (Ran t k) = refl
-unit-state r s (Finished t k l) = refl
-unit-state r s (Cut t k l) = refl
-unit-state r s Idle = refl
-unit-state r s (UnitRefused why) = refl
-
-pub step-state : (r : Run) (c : Call) → stepOf r c .state ≡ callOf (r .state) c .state
-unfolding stepOf callOf
-step-state r (Posts k) = post-state r k (postOf (r .state) k .state) (postOf (r .state) k .answer)
-step-state r (Units done) = unit-state r (unitOf (r .state) done .state) (unitOf (r .state) done .answer)
 
 -- ---- one call more
 

@@ -1,149 +1,259 @@
 -- Every bit keeps what the reader's states keep.
 -- Assumes nothing.
 use Prim.Native.Nat.{ℕ, zero, suc, _+_, _-_, _*_, _^_, _≤_, _<_}
-use mathlib.Core.List.{List, [], _∷_, _++_}
+use mathlib.Core.List.{List, [], _∷_}
 use mathlib.Core.Path.{_≡_, refl, sym, ap, _∙_, subst}
-use mathlib.Core.Bool.{Bool, true, false, cond, _&&_}
+use mathlib.Core.Bool.{Bool, true, false, cond}
 use native.Mathlib.Omega.{arith}
 use native.Mathlib.Nat.{pow-suc}
-use lib.ListN.{length, take, set, replicate}
-use lib.Dec.{eqb, leb, ltb}
-use lib.Pow.{pow-pos, pow-mono}
-use borrow.Author.Tests.{leb-true, ltb-true}
-use Rattle.laws.specs.Lists.{within}
-use Rattle.laws.proofs.Sums.{and-parts}
+use lib.ListN.{length, set, length-set}
+use lib.Seq.{getD-set-other, getD-set-same}
+use lib.Dec.{eqb, ltb}
+use lib.Pow.{pow-pos}
+use borrow.Author.Tests.{eqb-false, eqb-true, ltb-false, ltb-true}
+use Rattle.laws.proofs.Sums.{by-test}
 use Rattle.laws.proofs.Fields.{AreBits}
 use Rattle.rules.specs.declared.Stream.{Stream}
 use Rattle.rules.specs.declared.TuplePlace.{TuplePlace}
 use Rattle.rules.specs.declared.Set.{Set}
-use Rattle.rules.specs.declared.Refusal.{Refusal}
-use Rattle.rules.specs.declared.Refusal.the-variants.{BadVersion, OutOfRule, Leftover}
 use Rattle.rules.specs.Streams.{emptySet, noStream, noTuple}
 use Rattle.rules.specs.Sheet.{tupleOf}
-use Rattle.sheet_read.specs.declared.Field.{Field}
-use Rattle.sheet_read.specs.declared.Field.the-variants.{Version, Count, Task, Cost, Deadline, Tuples, Cycle, Offset, Whole, Padding, Stopped}
-use Rattle.sheet_read.specs.declared.Head.{Head}
-use Rattle.sheet_read.specs.declared.Stage.{Stage}
 use Rattle.sheet_read.specs.declared.Carried.{Carried}
-use Rattle.sheet_read.specs.Reader.{afterCost, afterCount, afterCycle, afterDeadline, afterOf, afterOffset, afterPadding, afterTask, afterTuples, afterVersion, begun, fresh, goesOn, leftOf, nextOf, openedOf, placedOf, reading, run, settledOf, staged, startOf, stepBy, stepOf, stoppedOf, storedOf, streamIn, tupledOf, widthOf, withCost, withCycle, withDeadline, withMore, withPad, withStream, withStreams, withTask, withTuple}
-use Rattle.sheet_read.specs.Kept.{Blank, Drafted, Holds, Kept, KeptBy, Room}
+use Rattle.sheet_read.specs.Table.{followingOf, greatestOf, inRuleOf, openedOf, refusalOf, rowOf, widthOf}
+use Rattle.sheet_read.specs.Reader.{begun, behindOffset, frontOf, goesOn, nextField, nextOf, nextStream, nextTuple, noTuples, noValues, placedIn, reading, refusedOf, run, startOf, stepBy, stepOf, streamIn, tupled, valueAt, withStream}
+use Rattle.sheet_read.specs.Kept.{Holds, Kept, KeptAt}
 use Rattle.sheet_read.proofs.Filled.{cond-elim, holds-more, holds-none}
+use Rattle.sheet_read.proofs.Rows.{refusal-row, row-some, rule-high}
 
-abbrev pub Tidy : Set → Type 0
-Tidy x = Holds 16 noStream (x .count) (x .streams)
+pub kept-begun : (f n : ℕ) (vs : List ℕ) (ts : List TuplePlace) (x : Set) → KeptAt f n vs ts x → Kept (begun f n vs ts x)
+kept-begun f n vs ts x k = record { at = k; some = λ h. h; left = omega arith; came = pow-pos (widthOf f - widthOf f) }
 
-pub kept-begun : (s : Stage) (ts : List TuplePlace) (x : Set) → Tidy x → s .head .count < 4 → KeptBy (s .field) (s .head) ts x → Kept (begun s ts x)
-kept-begun s ts x t r k =
-    record { held = t; room = r; by = k; some = λ h. h; left = omega arith; came = pow-pos (widthOf (s .field) - widthOf (s .field)) }
+-- ---- nothing read yet, and nothing kept
 
--- there is no stream too many
-pub kept-few : (f : Field) (h : Head) (ts : List TuplePlace) (x : Set) → KeptBy f h ts x → x .count ≤ 16
-kept-few Version h ts x k = omega (arith, k .1)
-kept-few Count h ts x k = omega (arith, k .1)
-kept-few Task h ts x k = omega (arith, k .1)
-kept-few Cost h ts x k = omega (arith, k .1)
-kept-few Deadline h ts x k = omega (arith, k .1)
-kept-few Tuples h ts x k = omega (arith, k .1)
-kept-few Cycle h ts x k = omega (arith, k .1)
-kept-few Offset h ts x k = omega (arith, k .1)
-kept-few Whole h ts x k = absurd k
-kept-few Padding h ts x k = k .0
-kept-few (Stopped why) h ts x k = k
-
--- the next state is kept, if its stage is
-abbrev Next : List TuplePlace → Set → Stage → Type 0
-Next ts x s = Kept (goesOn s ts x)
-
-next-stopped : (ts : List TuplePlace) (x : Set) (why : Refusal) → Tidy x → x .count ≤ 16 → Next ts x (stoppedOf why)
-unfolding settledOf storedOf leftOf
-next-stopped ts x why t k = kept-begun (stoppedOf why) ts x t (omega arith) k
-
-kept-opened : (n : ℕ) (ts : List TuplePlace) (x : Set) → ts ≡ replicate 4 noTuple → Tidy x → x .count + n ≤ 16 → Kept (begun (openedOf n) ts x)
-unfolding openedOf
-kept-opened zero ts x e t h = kept-begun (staged Padding fresh) ts x t (omega arith) (omega arith, omega arith)
-kept-opened (suc n) ts x e t h = kept-begun (staged Task (withStreams fresh n)) ts x t (omega arith) (record { none = refl; low = refl; high = refl; places = e }, h)
-
-next-opened : (n : ℕ) (ts : List TuplePlace) (x : Set) → ts ≡ replicate 4 noTuple → Tidy x → x .count + n ≤ 16 → Next ts x (openedOf n)
-unfolding settledOf storedOf leftOf openedOf
-next-opened zero ts x e t h = kept-opened zero ts x e t h
-next-opened (suc n) ts x e t h = kept-opened (suc n) ts x e t h
-
--- the tuples with one more
-abbrev pub more : Head → List TuplePlace → ℕ → List TuplePlace
-more h ts v = set ts (h .count) (tupleOf (h .cycle) v)
-
-next-placed : (h : Head) (ts : List TuplePlace) (x : Set) (v n : ℕ) → Tidy x → Room h x → h .count + suc n ≤ 4 → Holds 4 noTuple (h .count) ts → Next (more h ts v) x (placedOf h v n)
-unfolding settledOf storedOf leftOf
-next-placed h ts x v zero t r k d =
-    let s : Stream = streamIn (withTuple h v 0) (more h ts v) in
-    kept-opened (h .streams) (replicate 4 noTuple) (withStream x s) refl (holds-more 16 noStream (x .count) (x .streams) t s (omega arith)) (omega arith)
-next-placed h ts x v (suc n) t r k d =
-    kept-begun (staged Cycle (withTuple h v n)) (more h ts v) x t (omega arith)
-    (record { few = omega arith; held = holds-more 4 noTuple (h .count) ts d (tupleOf (h .cycle) v) (omega arith) }, r)
-
-drafted : (h : Head) (ts : List TuplePlace) (v : ℕ) → Blank h ts → v < 4 → Drafted (withMore h v) ts
-drafted h ts v b k =
+kept-start-at : KeptAt 0 0 noValues noTuples emptySet
+kept-start-at =
     record {
-      few = omega (arith, b .none);
-      held = subst (λ (n : ℕ). Holds 4 noTuple n ts) (sym (b .none)) (subst (Holds 4 noTuple 0) (sym (b .places)) (holds-none 4 noTuple));
+      row = omega arith;
+      eight = refl;
+      streams = holds-none 16 noStream;
+      tuples = holds-none 4 noTuple;
+      few = omega arith;
+      sixteen = omega arith;
+      four = omega arith;
+      front = λ h. refl;
+      room = λ h g. absurd (omega arith);
+      none = λ h. refl;
+      more = omega arith;
+      low = λ h. refl;
     }
 
-pub pads-lt : (b : Bool) (p : ℕ) → b && ltb p 7 ≡ true → p + 1 < 8
-pads-lt b p e = omega (arith, ltb-true p 7 (and-parts b (ltb p 7) e .1))
+pub kept-refused : (f : ℕ) → 16 ≤ f → f < 19 → Kept (refusedOf f)
+unfolding refusedOf
+kept-refused f a b =
+    kept-begun f 0 noValues noTuples emptySet
+    (record {
+      row = b;
+      eight = refl;
+      streams = holds-none 16 noStream;
+      tuples = holds-none 4 noTuple;
+      few = omega arith;
+      sixteen = omega arith;
+      four = omega arith;
+      front = λ h. refl;
+      room = λ h g. absurd (omega arith);
+      none = λ h. refl;
+      more = omega arith;
+      low = λ h. refl;
+    })
 
-pub next-kept : (f : Field) (h : Head) (ts : List TuplePlace) (x : Set) (v : ℕ) → Tidy x → h .count < 4 → KeptBy f h ts x → v < 2 ^ widthOf f
-    → Next (tupledOf f h ts v) x (afterOf f h v)
-unfolding afterOf afterVersion afterCount afterTask afterCost afterDeadline afterTuples afterCycle afterOffset afterPadding settledOf storedOf tupledOf leftOf
-next-kept Version h ts x v t r k w =
-    cond-elim (Next ts x) (eqb v 1) (staged Count fresh) (stoppedOf BadVersion)
-    (λ e. kept-begun (staged Count fresh) ts x t (omega arith) k) (λ e. next-stopped ts x BadVersion t (kept-few Version h ts x k))
-next-kept Count h ts x v t r k w =
-    cond-elim (Next ts x) (leb v 16) (openedOf v) (stoppedOf OutOfRule)
-    (λ e. next-opened v ts x (k .0) t (omega (arith, leb-true v 16 e, k .1))) (λ e. next-stopped ts x OutOfRule t (kept-few Count h ts x k))
-next-kept Task h ts x v t r k w =
-    kept-begun (staged Cost (withTask h v)) ts x t r (record { none = k .0 .none; low = k .0 .low; high = k .0 .high; places = k .0 .places }, k .1)
-next-kept Cost h ts x v t r k w =
-    cond-elim (Next ts x) (within 1 v 65535) (staged Deadline (withCost h v)) (stoppedOf OutOfRule)
-    (λ e. kept-begun (staged Deadline (withCost h v)) ts x t r (record { none = k .0 .none; low = k .0 .low; high = k .0 .high; places = k .0 .places }, k .1))
-    (λ e. next-stopped ts x OutOfRule t (kept-few Cost h ts x k))
-next-kept Deadline h ts x v t r k w =
-    cond-elim (Next ts x) (within 1 v 200000) (staged Tuples (withDeadline h v)) (stoppedOf OutOfRule)
-    (λ e. kept-begun (staged Tuples (withDeadline h v)) ts x t r (record { none = k .0 .none; low = k .0 .low; high = k .0 .high; places = k .0 .places }, k .1))
-    (λ e. next-stopped ts x OutOfRule t (kept-few Deadline h ts x k))
-next-kept Tuples h ts x v t r k w = kept-begun (staged Cycle (withMore h v)) ts x t r (drafted h ts v (k .0) w, k .1)
-next-kept Cycle h ts x v t r k w =
-    cond-elim (Next ts x) (leb v 1000000) (staged Offset (withCycle h v)) (stoppedOf OutOfRule)
-    (λ e. kept-begun (staged Offset (withCycle h v)) ts x t r (record { few = k .0 .few; held = k .0 .held }, k .1))
-    (λ e. next-stopped ts x OutOfRule t (kept-few Cycle h ts x k))
-next-kept Offset h ts x v t r k w =
-    cond-elim (Next (more h ts v) x) (within (h .low) v (h .high)) (placedOf h v (h .more)) (stoppedOf OutOfRule)
-    (λ e. next-placed h ts x v (h .more) t (k .1) (k .0 .few) (k .0 .held)) (λ e. next-stopped (more h ts v) x OutOfRule t (kept-few Offset h ts x k))
-next-kept Whole h ts x v t r k w = absurd k
-next-kept Padding h ts x v t r k w =
-    cond-elim (Next ts x) (eqb v 0 && ltb (h .pads) 7) (staged Padding (withPad h)) (stoppedOf Leftover)
-    (λ e. kept-begun (staged Padding (withPad h)) ts x t r (k .0, pads-lt (eqb v 0) (h .pads) e)) (λ e. next-stopped ts x Leftover t (k .0))
-next-kept (Stopped why) h ts x v t r k w = next-stopped ts x why t k
+-- ---- streams come, or the padding
 
--- one bit more
-by-left : (l : ℕ) (s : Stage) (ts : List TuplePlace) (x : Set) (a b : ℕ) → Kept (reading s ts x a l) → b < 2 → Kept (stepBy l s ts x a b)
-unfolding nextOf
-by-left zero s ts x a b k h = k
-by-left (suc zero) s ts x a b k h =
-    next-kept (s .field) (s .head) ts x (a * 2 + b) (k .held) (k .room) (k .by)
-    (omega (arith, k .came, k .left, pow-suc 2 (widthOf (s .field) - 1), ap (λ (n : ℕ). 2 ^ n) (let e : suc (widthOf (s .field) - 1) ≡ widthOf (s .field) = omega (arith, k .left) in e)))
-by-left (suc (suc l)) s ts x a b k h =
+pub record Opening (j m n : ℕ) (vs : List ℕ) (ts : List TuplePlace) (x : Set) : Type 0 where
+  pub eight : length vs ≡ 8
+  pub streams : Holds 16 noStream (x .count) (x .streams)
+  pub tuples : Holds 4 noTuple n ts
+  pub count : x .count ≡ j
+  pub whole : valueAt vs 1 ≡ m
+  pub fits : j ≤ m
+  pub few : m ≤ 16
+  pub four : valueAt vs 5 ≤ 3
+  pub none : n ≡ 0
+  pub low : valueAt vs 7 ≡ 0
+
+kept-opened : (j m n : ℕ) (vs : List ℕ) (ts : List TuplePlace) (x : Set) → Opening j m n vs ts x → KeptAt (openedOf j m) n vs ts x
+unfolding openedOf
+kept-opened j m n vs ts x o =
+    cond-elim (λ (f : ℕ). KeptAt f n vs ts x) (ltb j m) 2 8
+    (λ e. record {
+      row = omega arith;
+      eight = o .eight;
+      streams = o .streams;
+      tuples = o .tuples;
+      few = omega (arith, o .count, o .fits, o .few);
+      sixteen = omega (arith, o .whole, o .few);
+      four = o .four;
+      front = λ h. absurd (omega arith);
+      room = λ h g. omega (arith, o .count, o .whole, ltb-true j m e);
+      none = λ h. o .none;
+      more = omega (arith, o .none);
+      low = λ h. o .low;
+    })
+    (λ e. record {
+      row = omega arith;
+      eight = o .eight;
+      streams = o .streams;
+      tuples = o .tuples;
+      few = omega (arith, o .count, o .fits, o .few);
+      sixteen = omega (arith, o .whole, o .few);
+      four = o .four;
+      front = λ h. absurd (omega arith);
+      room = λ h g. absurd (omega arith);
+      none = λ h. o .none;
+      more = omega (arith, o .none);
+      low = λ h. o .low;
+    })
+
+-- ---- behind a field
+
+module _ (f n : ℕ) (vs : List ℕ) (ts : List TuplePlace) (x : Set) (v : ℕ) (k : KeptAt f n vs ts x) where
+  -- the other values stay
+  other : (j : ℕ) → (j ≡ f → ⊥) → valueAt (set vs f v) j ≡ valueAt vs j
+  other j h = getD-set-other vs f j v 0 h
+
+  here : f < 8 → valueAt (set vs f v) f ≡ v
+  here h = getD-set-same vs f v 0 (omega (arith, k .eight))
+
+  long : length (set vs f v) ≡ 8
+  long = length-set vs f v ∙ k .eight
+
+  -- the count
+  kept-count : f ≡ 1 → v ≤ 16 → KeptAt (openedOf 0 v) n (set vs f v) ts x
+  kept-count e h =
+      kept-opened 0 v n (set vs f v) ts x
+      (record {
+        eight = long;
+        streams = k .streams;
+        tuples = k .tuples;
+        count = k .front (omega arith);
+        whole = ap (valueAt (set vs f v)) (sym e) ∙ here (omega arith);
+        fits = omega arith;
+        few = h;
+        four = omega (arith, other 5 (λ q. omega arith), k .four);
+        none = k .none (omega arith);
+        low = other 7 (λ q. omega arith) ∙ k .low (k .none (omega arith));
+      })
+
+  -- the tuples less one, or any other value
+  four-still : (f ≡ 5 → v ≤ 3) → valueAt (set vs f v) 5 ≤ 3
+  four-still h =
+      by-test (eqb f 5) (λ e. let q : f ≡ 5 = eqb-true f 5 e in omega (arith, h q, here (omega arith), ap (valueAt (set vs f v)) q))
+      (λ e. omega (arith, other 5 (λ q. eqb-false f 5 e (sym q)), k .four))
+
+  more-still : n ≤ valueAt (set vs f v) 5
+  more-still =
+      by-test (eqb f 5) (λ e. let q : f ≡ 5 = eqb-true f 5 e in omega (arith, k .none (omega arith)))
+      (λ e. omega (arith, other 5 (λ q. eqb-false f 5 e (sym q)), k .more))
+
+  kept-straight : f < 16 → (f ≡ 1 → ⊥) → (f ≡ 7 → ⊥) → (f ≡ 5 → v ≤ 3) → KeptAt (f + 1) n (set vs f v) ts x
+  kept-straight b c d h =
+      let one : valueAt (set vs f v) 1 ≡ valueAt vs 1 = other 1 (λ q. c (sym q)) in
+      record {
+        row = omega arith;
+        eight = long;
+        streams = k .streams;
+        tuples = k .tuples;
+        few = k .few;
+        sixteen = omega (arith, k .sixteen);
+        four = four-still h;
+        front = λ g. k .front (omega arith);
+        room = λ g i. omega (arith, c, k .room (omega (arith, c)) (omega arith));
+        none = λ g. k .none (omega arith);
+        more = more-still;
+        low = λ z. other 7 (λ q. d (sym q)) ∙ k .low z;
+      }
+
+  kept-field : f < 16 → (f ≡ 7 → ⊥) → (f ≡ 1 → v ≤ 16) → (f ≡ 5 → v ≤ 3) → Kept (nextField f n vs ts x v)
+  unfolding nextField followingOf
+  kept-field b d g h =
+      kept-begun (followingOf f v) n (set vs f v) ts x
+      (cond-elim (λ (i : ℕ). KeptAt i n (set vs f v) ts x) (eqb f 1) (openedOf 0 v) (f + 1) (λ e. kept-count (eqb-true f 1 e) (g (eqb-true f 1 e)))
+      (λ e. kept-straight b (eqb-false f 1 e) d h))
+
+module _ (n : ℕ) (vs : List ℕ) (ts : List TuplePlace) (x : Set) (v : ℕ) (k : KeptAt 7 n vs ts x) where
+  still : (j : ℕ) → j < 6 → valueAt (tupled vs v) j ≡ valueAt vs j
+  still j h = getD-set-other (set vs 6 0) 7 j v 0 (λ q. omega arith) ∙ getD-set-other vs 6 j 0 0 (λ q. omega arith)
+
+  kept-tuple : n < valueAt vs 5 → Kept (nextTuple n vs ts x v)
+  unfolding nextTuple
+  kept-tuple h =
+      kept-begun 6 (n + 1) (tupled vs v) (placedIn n vs ts v) x
+      (record {
+        row = omega arith;
+        eight = length-set (set vs 6 0) 7 v ∙ length-set vs 6 0 ∙ k .eight;
+        streams = k .streams;
+        tuples = holds-more 4 noTuple n ts (k .tuples) (tupleOf (valueAt vs 6) v) (omega (arith, k .four));
+        few = k .few;
+        sixteen = omega (arith, still 1 (omega arith), k .sixteen);
+        four = omega (arith, still 5 (omega arith), k .four);
+        front = λ g. absurd (omega arith);
+        room = λ g i. omega (arith, still 1 (omega arith), k .room (omega arith) (omega arith));
+        none = λ g. absurd (omega arith);
+        more = omega (arith, still 5 (omega arith));
+        low = λ z. absurd (omega arith);
+      })
+
+  kept-stream : Kept (nextStream n vs ts x v)
+  unfolding nextStream
+  kept-stream =
+      let s : Stream = streamIn vs (n + 1) (placedIn n vs ts v) in
+      let r : x .count < valueAt vs 1 = k .room (omega arith) (omega arith) in
+      kept-begun (openedOf (x .count + 1) (valueAt vs 1)) 0 (frontOf vs) noTuples (withStream x s)
+      (kept-opened (x .count + 1) (valueAt vs 1) 0 (frontOf vs) noTuples (withStream x s)
+      (record {
+        eight = refl;
+        streams = holds-more 16 noStream (x .count) (x .streams) (k .streams) s (omega (arith, k .sixteen));
+        tuples = holds-none 4 noTuple;
+        count = refl;
+        whole = refl;
+        fits = omega arith;
+        few = k .sixteen;
+        four = omega arith;
+        none = refl;
+        low = refl;
+      }))
+
+pub next-kept : (f n : ℕ) (vs : List ℕ) (ts : List TuplePlace) (x : Set) (v : ℕ) → KeptAt f n vs ts x → f < 16 → Kept (nextOf f n vs ts x v)
+unfolding nextOf greatestOf rowOf
+next-kept f n vs ts x v k b =
+    cond-elim Kept (inRuleOf f n (valueAt vs 7) v) (goesOn f n vs ts x v) (refusedOf (refusalOf f))
+    (λ r. cond-elim Kept (eqb f 7) (behindOffset n vs ts x v) (nextField f n vs ts x v)
+    (λ e. let k₇ : KeptAt 7 n vs ts x = subst (λ (g : ℕ). KeptAt g n vs ts x) (eqb-true f 7 e) k in
+    cond-elim Kept (ltb n (valueAt vs 5)) (nextTuple n vs ts x v) (nextStream n vs ts x v) (λ h. kept-tuple n vs ts x v k₇ (ltb-true n (valueAt vs 5) h))
+    (λ h. kept-stream n vs ts x v k₇))
+    (λ e. kept-field f n vs ts x v k b (eqb-false f 7 e) (λ q. subst (λ (g : ℕ). v ≤ greatestOf g n) q (rule-high f n (valueAt vs 7) v r))
+    (λ q. subst (λ (g : ℕ). v ≤ greatestOf g n) q (rule-high f n (valueAt vs 7) v r))))
+    (λ r. kept-refused (refusalOf f) (refusal-row f .0) (refusal-row f .1))
+
+-- ---- one bit more
+
+-- a field's value fits its width
+pub value-fits : (f a b : ℕ) → 1 ≤ widthOf f → a < 2 ^ (widthOf f - 1) → b < 2 → a * 2 + b < 2 ^ widthOf f
+value-fits f a b k h c = omega (arith, pow-suc 2 (widthOf f - 1), ap (λ (n : ℕ). 2 ^ n) (let e : suc (widthOf f - 1) ≡ widthOf f = omega arith in e))
+
+by-left : (l f n : ℕ) (vs : List ℕ) (ts : List TuplePlace) (x : Set) (a b : ℕ) → Kept (reading f n vs ts x a l) → b < 2 → Kept (stepBy l f n vs ts x a b)
+by-left zero f n vs ts x a b k h = k
+by-left (suc zero) f n vs ts x a b k h = next-kept f n vs ts x (a * 2 + b) (k .at) (row-some f (omega (arith, k .left)))
+by-left (suc (suc l)) f n vs ts x a b k h =
     record {
-      held = k .held;
-      room = k .room;
-      by = k .by;
+      at = k .at;
       some = λ z. omega arith;
       left = omega (arith, k .left);
-      came = omega (arith, k .came, k .left, pow-suc 2 (widthOf (s .field) - suc (suc l)), ap (λ (n : ℕ). 2 ^ n) (let e : suc (widthOf (s .field) - suc (suc l)) ≡ widthOf (s .field) - suc l = omega (arith, k .left) in e));
+      came = omega (arith, k .came, k .left, pow-suc 2 (widthOf f - suc (suc l)), ap (λ (n : ℕ). 2 ^ n) (let e : suc (widthOf f - suc (suc l)) ≡ widthOf f - suc l = omega (arith, k .left) in e));
     }
 
 pub kept-step : (c : Carried) (b : ℕ) → Kept c → b < 2 → Kept (stepOf c b)
 unfolding stepOf
-kept-step c b k h = by-left (c .point .left) (c .point .stage) (c .places) (c .set) (c .point .acc) b k h
+kept-step c b k h = by-left (c .point .left) (c .point .row) (c .point .tuples) (c .values) (c .places) (c .set) (c .point .acc) b k h
 
 pub kept-run : (c : Carried) (bs : List ℕ) → Kept c → AreBits bs → Kept (run c bs)
 unfolding run
@@ -151,4 +261,4 @@ kept-run c [] k h = k
 kept-run c (b ∷ bs) k h = kept-run (stepOf c b) bs (kept-step c b k (h .0)) (h .1)
 
 pub kept-start : Kept startOf
-kept-start = kept-begun (staged Version fresh) (replicate 4 noTuple) emptySet (holds-none 16 noStream) (omega arith) (refl, refl)
+kept-start = kept-begun 0 0 noValues noTuples emptySet kept-start-at

@@ -1,4 +1,5 @@
 pub mod Filled
+pub mod Rows
 pub mod Keeps
 pub mod Chunks
 pub mod ByField

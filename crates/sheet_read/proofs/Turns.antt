@@ -1,18 +1,17 @@
--- A law for each way out of the reader's functions, and for each way that a turn of feeding goes.
+-- A law for each way that a turn of feeding goes.
 -- Assumes nothing.
-use Prim.Native.Nat.{ℕ, zero, suc, _+_, _-_, _*_, _%_, _^_, _≤_, _<_, min}
+use Prim.Native.Nat.{ℕ, zero, suc, _+_, _-_, _*_, _/_, _%_, _^_, _≤_, _<_, min}
 use mathlib.Core.List.{List, [], _∷_, _++_, append-nil}
 use mathlib.Core.Path.{_≡_, refl, sym, ap, ap₂, _∙_, subst}
 use mathlib.Core.Bool.{Bool, true, false, cond, _&&_}
 use mathlib.Core.Logic.{_⊎_, inl, inr, ⊎-elim}
 use native.Mathlib.Omega.{arith}
-use lib.ListN.{length, take, drop, set, length-drop, length-take, length-set, length-append, length-replicate, take-append-drop, replicate}
-use lib.Seq.{drop-drop, length-take-le, take-all}
+use lib.ListN.{length, take, drop, set, length-drop, take-append-drop}
+use lib.Seq.{drop-drop, length-take-le, set-out}
 use lib.Arith.{digits-lt}
 use lib.Pow.{pow-add, pow-mono, shl-exact, shl-lt}
 use lib.Dec.{eqb, ltb}
-use borrow.Author.Tests.{le-ltb, ltb-false, ltb-true}
-use Rattle.laws.specs.Lists.{within}
+use borrow.Author.Tests.{eq-eqb, le-ltb, lt-ltb, ltb-false, ltb-true, ne-eqb}
 use Rattle.laws.proofs.Sums.{and-parts}
 use Rattle.laws.specs.Bits.{bits, onto, value}
 use Rattle.laws.proofs.Fields.{AreBits, IsBit, all-drop, all-take, bits-bits, bits-length, onto-value, value-lt}
@@ -21,44 +20,16 @@ use Rattle.bits.specs.Places.{fieldAt, gatherOf, gotOf}
 use Rattle.rules.specs.declared.Set.{Set}
 use Rattle.rules.specs.declared.Stream.{Stream}
 use Rattle.rules.specs.declared.TuplePlace.{TuplePlace}
-use Rattle.rules.specs.declared.Refusal.the-variants.{Leftover}
-use Rattle.rules.specs.Streams.{noStream, noTuple}
+use Rattle.rules.specs.Streams.{emptySet}
 use Rattle.rules.specs.Sheet.{tupleOf}
-use Rattle.sheet_read.specs.declared.Field.{Field}
-use Rattle.sheet_read.specs.declared.Field.the-variants.{Version, Count, Task, Cost, Deadline, Tuples, Cycle, Offset, Whole, Padding, Stopped}
-use Rattle.sheet_read.specs.declared.Head.{Head}
-use Rattle.sheet_read.specs.declared.Stage.{Stage}
 use Rattle.sheet_read.specs.declared.Point.{Point}
 use Rattle.sheet_read.specs.declared.Carried.{Carried}
-use Rattle.sheet_read.specs.Reader.{afterOf, afterOffset, afterPadding, fresh, goesOn, isOffset, isWhole, joinedOf, leftOf, nextOf, openedOf, placedOf, pointAt, reading, run, settledOf, staged, stoppedOf, storedOf, streamIn, tupledOf, widthOf, withStream, withStreams, withTuple}
-use Rattle.sheet_read.specs.Kept.{Holds, Kept}
+use Rattle.sheet_read.specs.Table.{followingOf, inRuleOf, openedOf, refusalOf, widthOf}
+use Rattle.sheet_read.specs.Reader.{begun, behindOffset, frontOf, goesOn, joinedOf, nextField, nextOf, nextStream, nextTuple, noTuples, noValues, placedIn, pointAt, reading, refusedOf, run, streamIn, tupled, valueAt, withStream}
+use Rattle.sheet_read.specs.Kept.{Kept, KeptAt}
+use Rattle.sheet_read.proofs.Rows.{row-some, width-le, width-none}
 use Rattle.sheet_read.proofs.Keeps.{kept-run}
 use Rattle.sheet_read.proofs.Chunks.{run-append, run-part, run-stopped, run-whole}
-
-pub opened-more : (n : ℕ) (h : Head) → h ≡ fresh → (n ≡ 0 → ⊥) → staged Task (withStreams h (n - 1)) ≡ openedOf n
-unfolding openedOf
-opened-more n h e z = ap (λ (g : Head). staged Task (withStreams g (n - 1))) e ∙ ap openedOf (let q : suc (n - 1) ≡ n = omega (arith, z) in q)
-
--- ---- an offset
-
-module _ (h : Head) (v : ℕ) (w : within (h .low) v (h .high) ≡ true) where
-  pub offset-last : h .more ≡ 0 → staged Whole (withTuple h v (h .more)) ≡ afterOffset h v
-  unfolding afterOffset
-  offset-last z = ap (λ (n : ℕ). staged Whole (withTuple h v n)) z ∙ ap (placedOf h v) (sym z) ∙ sym (simp w)
-
-  pub offset-more : (h .more ≡ 0 → ⊥) → staged Cycle (withTuple h v (h .more - 1)) ≡ afterOffset h v
-  unfolding afterOffset
-  offset-more z = ap (placedOf h v) (let q : suc (h .more - 1) ≡ h .more = omega (arith, z) in q) ∙ sym (simp w)
-
--- ---- padding
-
-no-more : (b : Bool) → b && false ≡ false
-no-more true = refl
-no-more false = refl
-
-pub pads-over : (h : Head) (v : ℕ) → 7 ≤ h .pads → stoppedOf Leftover ≡ afterPadding h v
-unfolding afterPadding
-pads-over h v k = sym (simp (ap (λ (b : Bool). eqb v 0 && b) (le-ltb (h .pads) 7 k) ∙ no-more (eqb v 0)))
 
 -- ---- bits behind those that have come
 
@@ -68,24 +39,12 @@ shl-is a n h k = shl-exact 20 n 64 h (omega arith)
 pub sum-fits : (a n v : ℕ) → a < 1048576 → n ≤ 20 → v < 1048576 → a * 2 ^ n % 2 ^ 64 + v < 18446744073709551616
 sum-fits a n v h k w = omega (arith, shl-is a n h k, shl-lt {a = a} 20 n h, pow-mono {i = 20 + n} {j = 40} (omega arith))
 
-pub join-is : (o : Point) (g : Gathered) → o .acc < 1048576 → g .got ≤ 20 → record { stage = o .stage; acc = o .acc * 2 ^ g .got % 2 ^ 64 + g .value; left = o .left - g .got } ≡ joinedOf o g
+pub join-is : (o : Point) (g : Gathered) → o .acc < 1048576 → g .got ≤ 20
+    → record { row = o .row; tuples = o .tuples; acc = o .acc * 2 ^ g .got % 2 ^ 64 + g .value; left = o .left - g .got } ≡ joinedOf o g
 unfolding joinedOf
-join-is o g h k = ap (λ (n : ℕ). record { stage = o .stage; acc = n + g .value; left = o .left - g .got }) (shl-is (o .acc) (g .got) h k)
+join-is o g h k = ap (λ (n : ℕ). record { row = o .row; tuples = o .tuples; acc = n + g .value; left = o .left - g .got }) (shl-is (o .acc) (g .got) h k)
 
--- ---- a turn: some bits are gathered at the place p of the bytes t, behind the state's own
-
-width-le : (f : Field) → widthOf f ≤ 20
-width-le Version = omega arith
-width-le Count = omega arith
-width-le Task = omega arith
-width-le Cost = omega arith
-width-le Deadline = omega arith
-width-le Tuples = omega arith
-width-le Cycle = omega arith
-width-le Offset = omega arith
-width-le Whole = omega arith
-width-le Padding = omega arith
-width-le (Stopped why) = omega arith
+-- ---- the end of the turns
 
 -- the bits that the bytes t have from the place p on
 abbrev pub rest : List ℕ → ℕ → List ℕ
@@ -94,8 +53,8 @@ rest t p = drop p (bits t)
 rest-length : (t : List ℕ) (p : ℕ) → length (rest t p) ≡ 8 * length t - p
 rest-length t p = length-drop p (bits t) ∙ ap (λ (n : ℕ). n - p) (bits-length t)
 
-abbrev pub carried : Point → List TuplePlace → Set → Carried
-carried o ts x = record { point = o; places = ts; set = x }
+abbrev pub carried : Point → List ℕ → List TuplePlace → Set → Carried
+carried o vs ts x = record { point = o; values = vs; places = ts; set = x }
 
 drop-past : {A : Type 0} (n : ℕ) (l : List A) → length l ≤ n → drop n l ≡ []
 drop-past zero [] h = refl
@@ -104,27 +63,63 @@ drop-past (suc n) [] h = refl
 drop-past (suc n) (x ∷ l) h = drop-past n l (omega arith)
 
 -- nothing is left of the bytes
-pub turn-end : (c b : Carried) (t : List ℕ) (p : ℕ) → 8 * length t ≤ p → run c (rest t p) ≡ run b (bits t) → c ≡ run b (bits t)
+turn-end : (c b : Carried) (t : List ℕ) (p : ℕ) → 8 * length t ≤ p → run c (rest t p) ≡ run b (bits t) → c ≡ run b (bits t)
 unfolding run
 turn-end c b t p h i = ap (run c) (sym (drop-past p (bits t) (omega (arith, bits-length t)))) ∙ i
 
 -- nothing is read any more
-pub turn-stopped : (o : Point) (ts : List TuplePlace) (x : Set) (b : Carried) (t : List ℕ) (p : ℕ) → o .left ≡ 0 → run (carried o ts x) (rest t p) ≡ run b (bits t) → carried o ts x ≡ run b (bits t)
-turn-stopped o ts x b t p z i =
-    let e : carried o ts x ≡ reading (o .stage) ts x (o .acc) 0 = ap (reading (o .stage) ts x (o .acc)) z in
-    e ∙ sym (run-stopped (o .stage) ts x (o .acc) (rest t p)) ∙ ap (λ (c : Carried). run c (rest t p)) (sym e) ∙ i
+turn-stopped : (o : Point) (vs : List ℕ) (ts : List TuplePlace) (x : Set) (b : Carried) (t : List ℕ) (p : ℕ) → o .left ≡ 0 → run (carried o vs ts x) (rest t p) ≡ run b (bits t)
+    → carried o vs ts x ≡ run b (bits t)
+turn-stopped o vs ts x b t p z i =
+    let e : carried o vs ts x ≡ reading (o .row) (o .tuples) vs ts x (o .acc) 0 = ap (reading (o .row) (o .tuples) vs ts x (o .acc)) z in
+    e ∙ sym (run-stopped (o .row) (o .tuples) vs ts x (o .acc) (rest t p)) ∙ ap (λ (c : Carried). run c (rest t p)) (sym e) ∙ i
 
-module _ (o : Point) (ts : List TuplePlace) (x : Set) (t : List ℕ) (p : ℕ) (k : Kept (carried o ts x)) (z : 0 < o .left) (g : Gathered) (e : g ≡ gatherOf t p (o .left)) where
+-- the loop's two tests
+pub both-lt : (a b c d : ℕ) → ltb a b && ltb c d ≡ true → (a < b) × (c < d)
+both-lt a b c d e =
+    let u = and-parts (ltb a b) (ltb c d) e in (ltb-true a b (u .0), ltb-true c d (u .1))
+
+one-not : (p q : Bool) → p && q ≡ false → (p ≡ false) ⊎ (q ≡ false)
+one-not true q e = inr e
+one-not false q e = inl refl
+
+-- one of the two ends the turns
+pub turns-end : (o : Point) (vs : List ℕ) (ts : List TuplePlace) (x : Set) (b : Carried) (t : List ℕ) (byte bit : ℕ) → ltb byte (length t) && ltb 0 (o .left) ≡ false
+    → run (carried o vs ts x) (rest t (8 * byte + bit)) ≡ run b (bits t) → carried o vs ts x ≡ run b (bits t)
+turns-end o vs ts x b t byte bit e i =
+    ⊎-elim (λ (h : ltb byte (length t) ≡ false). turn-end (carried o vs ts x) b t (8 * byte + bit) (omega (arith, ltb-false byte (length t) h)) i)
+    (λ (h : ltb 0 (o .left) ≡ false). turn-stopped o vs ts x b t (8 * byte + bit) (omega (arith, ltb-false 0 (o .left) h)) i)
+    (one-not (ltb byte (length t)) (ltb 0 (o .left)) e)
+
+-- ---- a turn: some bits are gathered at the place p of the bytes t, behind the state's own
+
+pub record Turn (o : Point) (vs : List ℕ) (ts : List TuplePlace) (x : Set) (t : List ℕ) (p : ℕ) (g : Gathered) : Type 0 where
+  pub kept : Kept (carried o vs ts x)
+  pub some : 0 < o .left
+  pub gathered : g ≡ gatherOf t p (o .left)
+
+pub turned : (o : Point) (vs : List ℕ) (ts : List TuplePlace) (x : Set) (t : List ℕ) (byte bit : ℕ) (g : Gathered) → Kept (carried o vs ts x) → ltb byte (length t) && ltb 0 (o .left) ≡ true
+    → g ≡ gatherOf t (8 * byte + bit) (o .left) → Turn o vs ts x t (8 * byte + bit) g
+turned o vs ts x t byte bit g k e q = record { kept = k; some = both-lt byte (length t) 0 (o .left) e .1; gathered = q }
+
+-- behind a whole field, n, comes the state c
+pub record Behind (n : Point) (vs : List ℕ) (ts : List TuplePlace) (x : Set) (c : Carried) : Type 0 where
+  pub at : KeptAt (n .row) (n .tuples) vs ts x
+  pub row : n .row < 16
+  pub small : n .acc < 1048576
+  pub next : nextOf (n .row) (n .tuples) vs ts x (n .acc) ≡ c
+
+module _ {o : Point} {vs : List ℕ} {ts : List TuplePlace} {x : Set} {t : List ℕ} {p : ℕ} {g : Gathered} (w : Turn o vs ts x t p g) where
   left-le : o .left ≤ 20
-  left-le = omega (arith, k .left, width-le (o .stage .field))
+  left-le = omega (arith, w .kept .left, width-le (o .row))
 
   acc-lt : o .acc < 1048576
-  acc-lt = omega (arith, k .came, pow-mono {i = widthOf (o .stage .field) - o .left} {j = 20} (omega (arith, width-le (o .stage .field))))
+  acc-lt = omega (arith, w .kept .came, pow-mono {i = widthOf (o .row) - o .left} {j = 20} (omega (arith, width-le (o .row))))
 
   -- how many bits were gathered, and which
   got-is : g .got ≡ min (o .left) (8 * length t - p)
   unfolding gatherOf
-  got-is = ap (λ (y : Gathered). y .got) e ∙ (let q : gotOf (length t) p (o .left) ≡ min (o .left) (8 * length t - p) = omega (arith, left-le) in q)
+  got-is = ap (λ (y : Gathered). y .got) (w .gathered) ∙ (let q : gotOf (length t) p (o .left) ≡ min (o .left) (8 * length t - p) = omega (arith, left-le) in q)
 
   abbrev came : List ℕ
   came = take (g .got) (rest t p)
@@ -137,7 +132,7 @@ module _ (o : Point) (ts : List TuplePlace) (x : Set) (t : List ℕ) (p : ℕ) (
 
   value-is : g .value ≡ value came
   unfolding gatherOf fieldAt
-  value-is = ap (λ (y : Gathered). y .value) e ∙ ap (λ (n : ℕ). value (take n (rest t p))) (sym (ap (λ (y : Gathered). y .got) e))
+  value-is = ap (λ (y : Gathered). y .value) (w .gathered) ∙ ap (λ (n : ℕ). value (take n (rest t p))) (sym (ap (λ (y : Gathered). y .got) (w .gathered)))
 
   value-small : g .value < 1048576
   value-small = omega (arith, value-is, value-lt came came-bits, ap (λ (n : ℕ). 2 ^ n) came-length, pow-mono {i = g .got} {j = 20} (omega (arith, got-is, left-le)))
@@ -146,7 +141,7 @@ module _ (o : Point) (ts : List TuplePlace) (x : Set) (t : List ℕ) (p : ℕ) (
   got-few = omega (arith, got-is, left-le)
 
   pub got-some : p < 8 * length t → 0 < g .got
-  got-some h = omega (arith, got-is)
+  got-some h = omega (arith, got-is, w .some)
 
   pub end-le : p ≤ 8 * length t → p + g .got ≤ 8 * length t
   end-le h = omega (arith, got-is)
@@ -155,122 +150,144 @@ module _ (o : Point) (ts : List TuplePlace) (x : Set) (t : List ℕ) (p : ℕ) (
   fits = (omega (arith, got-is), got-few, acc-lt, value-small)
 
   -- the state behind them
-  abbrev ahead : Carried
-  ahead = run (carried o ts x) came
+  abbrev pub ahead : Carried
+  ahead = run (carried o vs ts x) came
 
   pub ahead-kept : (c : Carried) → c ≡ ahead → Kept c
-  ahead-kept c h = subst Kept (sym h) (kept-run (carried o ts x) came k came-bits)
+  ahead-kept c h = subst Kept (sym h) (kept-run (carried o vs ts x) came (w .kept) came-bits)
 
-  pub ahead-runs : (c b : Carried) (q : ℕ) → c ≡ ahead → q ≡ p + g .got → run (carried o ts x) (rest t p) ≡ run b (bits t) → run c (rest t q) ≡ run b (bits t)
+  pub ahead-runs : (c b : Carried) (q : ℕ) → c ≡ ahead → q ≡ p + g .got → run (carried o vs ts x) (rest t p) ≡ run b (bits t) → run c (rest t q) ≡ run b (bits t)
   ahead-runs c b q h j i =
       ap₂ (λ (y : Carried) (m : ℕ). run y (rest t m)) h j ∙ ap (run ahead) (sym (drop-drop (g .got) p (bits t)))
-      ∙ sym (run-append (carried o ts x) came (drop (g .got) (rest t p))) ∙ ap (run (carried o ts x)) (take-append-drop (g .got) (rest t p)) ∙ i
+      ∙ sym (run-append (carried o vs ts x) came (drop (g .got) (rest t p))) ∙ ap (run (carried o vs ts x)) (take-append-drop (g .got) (rest t p)) ∙ i
 
   module _ (n : Point) (jn : n ≡ joinedOf o g) where
     -- the number that they make with those that had come
-    point-is : n ≡ record { stage = o .stage; acc = onto (o .acc) came; left = o .left - g .got }
+    point-is : n ≡ record { row = o .row; tuples = o .tuples; acc = onto (o .acc) came; left = o .left - g .got }
     unfolding joinedOf
     point-is =
         jn
-        ∙ ap (λ (v : ℕ). record { stage = o .stage; acc = v; left = o .left - g .got })
+        ∙ ap (λ (v : ℕ). record { row = o .row; tuples = o .tuples; acc = v; left = o .left - g .got })
         (ap₂ (λ (m v : ℕ). o .acc * 2 ^ m + v) (sym came-length) value-is ∙ sym (onto-value (o .acc) came))
 
     left-is : n .left ≡ o .left - g .got
     left-is = ap (λ (y : Point). y .left) point-is
 
     -- the field is not whole yet
-    pub turn-part : (n .left ≡ 0 → ⊥) → carried n ts x ≡ ahead
+    pub turn-part : (n .left ≡ 0 → ⊥) → carried n vs ts x ≡ ahead
     turn-part h =
-        ap (λ (y : Point). carried y ts x) point-is
-        ∙ ap (λ (j : ℕ). reading (o .stage) ts x (onto (o .acc) came) (o .left - j)) (sym came-length)
-        ∙ sym (run-part (o .stage) ts x (o .acc) (o .left) came (omega (arith, came-length, left-is, h)))
+        ap (λ (y : Point). carried y vs ts x) point-is
+        ∙ ap (λ (j : ℕ). reading (o .row) (o .tuples) vs ts x (onto (o .acc) came) (o .left - j)) (sym came-length)
+        ∙ sym (run-part (o .row) (o .tuples) vs ts x (o .acc) (o .left) came (omega (arith, came-length, left-is, h)))
 
-    module _ (w : n .left ≡ 0) where
+    module _ (z : n .left ≡ 0) where
       whole-length : length came ≡ o .left
       whole-length = omega (arith, came-length, left-is, got-is)
 
       -- its value fits its width
-      pub v-small : n .acc < 1048576
-      v-small =
+      acc-small : n .acc < 1048576
+      acc-small =
           omega (
             arith,
             ap (λ (y : Point). y .acc) point-is,
             onto-value (o .acc) came,
             ap (λ (j : ℕ). o .acc * 2 ^ j) whole-length,
-            digits-lt {q = o .acc} {m = 2 ^ (widthOf (o .stage .field) - o .left)} (k .came) (value-lt came came-bits),
-            ap (λ (j : ℕ). 2 ^ (widthOf (o .stage .field) - o .left) * 2 ^ j) whole-length,
-            pow-add 2 (widthOf (o .stage .field) - o .left) (o .left),
-            ap (λ (j : ℕ). 2 ^ j) (let q : widthOf (o .stage .field) - o .left + o .left ≡ widthOf (o .stage .field) = omega (arith, k .left) in q),
-            pow-mono {i = widthOf (o .stage .field)} {j = 20} (width-le (o .stage .field)),
+            digits-lt {q = o .acc} {m = 2 ^ (widthOf (o .row) - o .left)} (w .kept .came) (value-lt came came-bits),
+            ap (λ (j : ℕ). 2 ^ (widthOf (o .row) - o .left) * 2 ^ j) whole-length,
+            pow-add 2 (widthOf (o .row) - o .left) (o .left),
+            ap (λ (j : ℕ). 2 ^ j) (let q : widthOf (o .row) - o .left + o .left ≡ widthOf (o .row) = omega (arith, w .kept .left) in q),
+            pow-mono {i = widthOf (o .row)} {j = 20} (width-le (o .row)),
           )
 
-      pub room : n .stage .head .count < 4
-      room = omega (arith, ap (λ (y : Point). y .stage .head .count) point-is, k .room)
-
-      whole-is : nextOf (n .stage) ts x (n .acc) ≡ ahead
+      next-is : nextOf (n .row) (n .tuples) vs ts x (n .acc) ≡ ahead
       unfolding run
-      whole-is =
-          ap (λ (y : Point). nextOf (y .stage) ts x (y .acc)) point-is
-          ∙ sym (run-whole (o .stage) ts x (o .acc) (o .left) came [] whole-length z) ∙ ap (run (carried o ts x)) (append-nil came)
+      next-is =
+          ap (λ (y : Point). nextOf (y .row) (y .tuples) vs ts x (y .acc)) point-is
+          ∙ sym (run-whole (o .row) (o .tuples) vs ts x (o .acc) (o .left) came [] whole-length (w .some)) ∙ ap (run (carried o vs ts x)) (append-nil came)
 
-      module _ (next : Stage) (new : Point) (us : List TuplePlace) (an : next ≡ afterOf (n .stage .field) (n .stage .head) (n .acc)) (be : new ≡ pointAt (settledOf next)) (tu : us ≡ tupledOf (n .stage .field) (n .stage .head) ts (n .acc)) where
-        goes-on : goesOn next us x ≡ ahead
-        unfolding nextOf
-        goes-on = ap₂ (λ (s : Stage) (l : List TuplePlace). goesOn s l x) an tu ∙ whole-is
+      pub turn-whole : Behind n vs ts x ahead
+      turn-whole =
+          record {
+            at = subst (λ (y : Point). KeptAt (y .row) (y .tuples) vs ts x) (sym point-is) (w .kept .at);
+            row = omega (arith, ap (λ (y : Point). y .row) point-is, row-some (o .row) (omega (arith, w .some, w .kept .left)));
+            small = acc-small;
+            next = next-is;
+          }
 
-        pub passed : isWhole (next .field) ≡ false → carried new us x ≡ ahead
-        unfolding storedOf leftOf
-        passed h =
-            ap (λ (y : Point). carried y us x) be
-            ∙ ap₂ (λ (l : List TuplePlace) (y : Set). carried (pointAt (settledOf next)) l y) (sym (simp h)) (sym (simp h))
-            ∙ goes-on
+-- ---- behind a whole field: a way for each
 
-        module _ (one : Stream) (none : List TuplePlace) (wh : isWhole (next .field) ≡ true) (on : one ≡ streamIn (next .head) us) (no : none ≡ replicate 4 noTuple) where
-          pub stored : carried new none (withStream x one) ≡ ahead
-          unfolding storedOf leftOf
-          stored =
-              ap₂ (λ (y : Point) (l : List TuplePlace). carried y l (withStream x one)) be no
-              ∙ ap (λ (s : Stream). carried (pointAt (settledOf next)) (replicate 4 noTuple) (withStream x s)) on
-              ∙ ap₂ (λ (l : List TuplePlace) (y : Set). carried (pointAt (settledOf next)) l y) (sym (simp wh)) (sym (simp wh))
-              ∙ goes-on
+module _ {n : Point} {vs : List ℕ} {ts : List TuplePlace} {x : Set} {c : Carried} (b : Behind n vs ts x c) where
+  abbrev f : ℕ
+  f = n .row
 
-          -- there is a place for it
-          place : x .count < length (x .streams)
-          place = omega (arith, ahead-kept (carried new none (withStream x one)) stored .held .used, length-take (x .count + 1) (set (x .streams) (x .count) one), length-set (x .streams) (x .count) one)
+  abbrev v : ℕ
+  v = n .acc
 
-          pub place-few : x .count < 16
-          place-few =
-              omega (
-                arith,
-                place,
-                ap length (k .held .unused),
-                length-append (take (x .count) (x .streams)) (replicate (16 - x .count) noStream),
-                k .held .used,
-                length-replicate {A = Stream} (16 - x .count) noStream,
-              )
+  -- the value is out of rule
+  pub turn-refused : inRuleOf f (n .tuples) (valueAt vs 7) v ≡ false → refusedOf (refusalOf f) ≡ c
+  unfolding nextOf
+  turn-refused r = sym (simp r) ∙ b .next
 
--- the tuples behind a field
-pub tupled-more : (f : Field) (h : Head) (ts : List TuplePlace) (v : ℕ) (one : TuplePlace) → isOffset f ≡ true → one ≡ tupleOf (h .cycle) v → set ts (h .count) one ≡ tupledOf f h ts v
-unfolding tupledOf
-tupled-more f h ts v one o e = ap (set ts (h .count)) e ∙ sym (simp o)
+  module _ (r : inRuleOf f (n .tuples) (valueAt vs 7) v ≡ true) where
+    on-is : goesOn f (n .tuples) vs ts x v ≡ c
+    unfolding nextOf
+    on-is = sym (simp r) ∙ b .next
 
-pub tupled-same : (f : Field) (h : Head) (ts : List TuplePlace) (v : ℕ) → isOffset f ≡ false → ts ≡ tupledOf f h ts v
-unfolding tupledOf
-tupled-same f h ts v o = sym (simp o)
+    -- any field but an offset
+    other-is : (f ≡ 7 → ⊥) → nextField f (n .tuples) vs ts x v ≡ c
+    other-is h = ap (λ (t : Bool). cond t (behindOffset (n .tuples) vs ts x v) (nextField f (n .tuples) vs ts x v)) (sym (ne-eqb f 7 h)) ∙ on-is
 
--- the loop's two tests
-pub both-lt : (a b c d : ℕ) → ltb a b && ltb c d ≡ true → (a < b) × (c < d)
-both-lt a b c d e =
-    let u = and-parts (ltb a b) (ltb c d) e in (ltb-true a b (u .0), ltb-true c d (u .1))
+    -- the count
+    pub turn-count : f ≡ 1 → (new : Point) → new ≡ pointAt (openedOf 0 v) (n .tuples) → carried new (set vs 1 v) ts x ≡ c
+    unfolding nextField followingOf
+    turn-count h new i =
+        ap₂ (λ (y : Point) (j : ℕ). carried y (set vs j v) ts x) i (sym h)
+        ∙ ap (λ (t : Bool). carried (pointAt (cond t (openedOf 0 v) (f + 1)) (n .tuples)) (set vs f v) ts x) (sym (eq-eqb f 1 h)) ∙ other-is (λ e. omega arith)
 
-one-not : (p q : Bool) → p && q ≡ false → (p ≡ false) ⊎ (q ≡ false)
-one-not true q e = inr e
-one-not false q e = inl refl
+    -- behind any other the next row comes
+    pub turn-field : (f ≡ 7 → ⊥) → (f ≡ 1 → ⊥) → (new : Point) → new ≡ pointAt (f + 1) (n .tuples) → carried new (set vs f v) ts x ≡ c
+    unfolding nextField followingOf
+    turn-field h k new i =
+        ap (λ (y : Point). carried y (set vs f v) ts x) i
+        ∙ ap (λ (t : Bool). carried (pointAt (cond t (openedOf 0 v) (f + 1)) (n .tuples)) (set vs f v) ts x) (sym (ne-eqb f 1 k)) ∙ other-is h
 
--- one of the two ends the turns
-pub turns-end : (o : Point) (ts : List TuplePlace) (x : Set) (b : Carried) (t : List ℕ) (byte bit : ℕ) → ltb byte (length t) && ltb 0 (o .left) ≡ false
-    → run (carried o ts x) (rest t (8 * byte + bit)) ≡ run b (bits t) → carried o ts x ≡ run b (bits t)
-turns-end o ts x b t byte bit e i =
-    ⊎-elim (λ (h : ltb byte (length t) ≡ false). turn-end (carried o ts x) b t (8 * byte + bit) (omega (arith, ltb-false byte (length t) h)) i)
-    (λ (h : ltb 0 (o .left) ≡ false). turn-stopped o ts x b t (8 * byte + bit) (omega (arith, ltb-false 0 (o .left) h)) i)
-    (one-not (ltb byte (length t)) (ltb 0 (o .left)) e)
+    -- padding has no value to keep
+    pub turn-padding : 8 ≤ f → (new : Point) → new ≡ pointAt (f + 1) (n .tuples) → carried new vs ts x ≡ c
+    turn-padding h new i =
+        ap (λ (l : List ℕ). carried new l ts x) (sym (set-out vs f v (omega (arith, b .at .eight)))) ∙ turn-field (λ e. omega arith) (λ e. omega arith) new i
+
+    module _ (h : f ≡ 7) where
+      at-offset : KeptAt 7 (n .tuples) vs ts x
+      at-offset = subst (λ (i : ℕ). KeptAt i (n .tuples) vs ts x) h (b .at)
+
+      pub tuple-room : n .tuples < 4
+      tuple-room = omega (arith, at-offset .more, at-offset .four)
+
+      pub stream-room : x .count < 16
+      stream-room = omega (arith, at-offset .room (omega arith) (omega arith), at-offset .sixteen)
+
+      offset-is : behindOffset (n .tuples) vs ts x v ≡ c
+      offset-is = ap (λ (t : Bool). cond t (behindOffset (n .tuples) vs ts x v) (nextField f (n .tuples) vs ts x v)) (sym (eq-eqb f 7 h)) ∙ on-is
+
+      module _ (one : TuplePlace) (on : one ≡ tupleOf (valueAt vs 6) v) where
+        -- another tuple comes
+        pub turn-tuple : n .tuples < valueAt vs 5 → (new : Point) → new ≡ pointAt 6 (n .tuples + 1) → carried new (tupled vs v) (set ts (n .tuples) one) x ≡ c
+        unfolding nextTuple
+        turn-tuple l new i =
+            ap (λ (y : Point). carried y (tupled vs v) (set ts (n .tuples) one) x) i ∙ ap (λ (q : TuplePlace). begun 6 (n .tuples + 1) (tupled vs v) (set ts (n .tuples) q) x) on
+            ∙ ap (λ (t : Bool). cond t (nextTuple (n .tuples) vs ts x v) (nextStream (n .tuples) vs ts x v)) (sym (lt-ltb (n .tuples) (valueAt vs 5) l)) ∙ offset-is
+
+        -- the stream is whole
+        pub turn-stream : valueAt vs 5 ≤ n .tuples → (s : Stream) (new : Point) (ws : List ℕ) (us : List TuplePlace) → s ≡ streamIn vs (n .tuples + 1) (set ts (n .tuples) one)
+            → new ≡ pointAt (openedOf (x .count + 1) (valueAt vs 1)) 0 → ws ≡ frontOf vs → us ≡ noTuples → carried new ws us (withStream x s) ≡ c
+        unfolding nextStream
+        turn-stream l s new ws us i j k m =
+            ap₂ (λ (y : Point) (u : List ℕ). carried y u us (withStream x s)) j k
+            ∙ ap₂ (λ (u : List TuplePlace) (q : Stream). carried (pointAt (openedOf (x .count + 1) (valueAt vs 1)) 0) (frontOf vs) u (withStream x q)) m
+            (i ∙ ap (λ (q : TuplePlace). streamIn vs (n .tuples + 1) (set ts (n .tuples) q)) on)
+            ∙ ap (λ (t : Bool). cond t (nextTuple (n .tuples) vs ts x v) (nextStream (n .tuples) vs ts x v)) (sym (le-ltb (n .tuples) (valueAt vs 5) l)) ∙ offset-is
+
+-- a refused sheet reads no further
+pub refused-stays : (f : ℕ) (b : Carried) (t : List ℕ) (p : ℕ) → 16 ≤ f → run (refusedOf f) (rest t p) ≡ run b (bits t) → refusedOf f ≡ run b (bits t)
+unfolding refusedOf
+refused-stays f b t p h i = turn-stopped (pointAt f 0) noValues noTuples emptySet b t p (let q : widthOf f ≡ 0 = omega (arith, width-none f h) in q) i

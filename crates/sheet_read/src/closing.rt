@@ -1,50 +1,31 @@
 // What the sheet reads as when no bit comes any more.
 ghost use mathlib.Core.Path.{_≡_};
-ghost use Prim.Native.Nat.{_≤_};
-ghost use Rattle.rules.specs.Streams.{emptySet, noStream};
-ghost use Rattle.sheet_read.specs.Reader.{answerOf, closeOf};
-ghost use Rattle.sheet_read.specs.Kept.{Holds, Kept};
+ghost use Rattle.sheet_read.specs.Table.{answerOf};
+ghost use Rattle.sheet_read.specs.Reader.{closeOf};
+ghost use Rattle.sheet_read.specs.Kept.{Kept};
 use crate::Carried;
-use crate::Field;
 use crate::feeding;
-use crate::stages;
+use crate::table;
 use rules::ReadAnswer;
 use rules::ReadResult;
 use rules::Refusal;
-use rules::Set;
 
-// The streams in use are taken out of a set.
-fn cleared(x: Set) -> Set
-    requires { ⌜ (x .count ≤ 16) × Holds 16 noStream (x .count) (x .streams) ⌝ }
-    ensures { λ r. ⌜ r ≡ emptySet ⌝ }
-{
-    let mut set = x;
-    let n = x.count;
-    let mut k: usize = 0;
-    while k < n {
-        set.streams[k] = feeding::stream_in(stages::fresh_head(), feeding::no_tuples());
-        k += 1;
-    }
-    set.count = 0;
-    set
-}
-
-fn answer(f: Field) -> ReadAnswer
+fn answer(f: usize) -> ReadAnswer
     ensures { λ r. ⌜ r ≡ answerOf f ⌝ }
 {
-    match f {
-        Field::Version => ReadAnswer::Refused(Refusal::BitsMissing),
-        Field::Count => ReadAnswer::Refused(Refusal::BitsMissing),
-        Field::Task => ReadAnswer::Refused(Refusal::BitsMissing),
-        Field::Cost => ReadAnswer::Refused(Refusal::BitsMissing),
-        Field::Deadline => ReadAnswer::Refused(Refusal::BitsMissing),
-        Field::Tuples => ReadAnswer::Refused(Refusal::BitsMissing),
-        Field::Cycle => ReadAnswer::Refused(Refusal::BitsMissing),
-        Field::Offset => ReadAnswer::Refused(Refusal::BitsMissing),
-        Field::Whole => ReadAnswer::Refused(Refusal::BitsMissing),
-        Field::Padding => ReadAnswer::Read,
-        Field::Stopped(why) => ReadAnswer::Refused(why),
+    if f < table::PADDING {
+        return ReadAnswer::Refused(Refusal::BitsMissing);
     }
+    if f < table::REFUSED {
+        return ReadAnswer::Read;
+    }
+    if f == table::REFUSED {
+        return ReadAnswer::Refused(Refusal::BadVersion);
+    }
+    if f == table::REFUSED + 1 {
+        return ReadAnswer::Refused(Refusal::OutOfRule);
+    }
+    ReadAnswer::Refused(Refusal::Leftover)
 }
 
 pub(crate) fn close(s: Carried) -> ReadResult
@@ -52,17 +33,15 @@ pub(crate) fn close(s: Carried) -> ReadResult
     ensures { λ r. ⌜ r ≡ closeOf s ⌝ }
 {
     let point = s.point;
-    let stage = point.stage;
-    let f = stage.field;
     let set = s.set;
-    match answer(f) {
+    match answer(point.row) {
         ReadAnswer::Read => ReadResult {
             answer: ReadAnswer::Read,
             set,
         },
         ReadAnswer::Refused(why) => ReadResult {
             answer: ReadAnswer::Refused(why),
-            set: cleared(set),
+            set: feeding::cleared(set),
         },
     }
 }

@@ -1,19 +1,16 @@
 // Bits come, field after field.
 ghost use mathlib.Core.Path.{_≡_};
 ghost use Prim.Native.Nat.{_<_, _≤_};
-ghost use lib.ListN.{replicate};
 ghost use Rattle.laws.specs.Bits.{bits};
-ghost use Rattle.rules.specs.Streams.{noTuple};
+ghost use Rattle.rules.specs.Streams.{emptySet, noStream};
 ghost use Rattle.rules.specs.Sheet.{tupleOf};
-ghost use Rattle.sheet_read.specs.Reader.{joinedOf, streamIn, startOf, run};
-ghost use Rattle.sheet_read.specs.Kept.{Kept};
+ghost use Rattle.sheet_read.specs.Reader.{frontOf, joinedOf, noTuples, refusedOf, run, startOf, streamIn};
+ghost use Rattle.sheet_read.specs.Kept.{Holds, Kept};
 use crate::Carried;
-use crate::Field;
-use crate::Head;
 use crate::Point;
-use crate::Stage;
-use crate::stages;
+use crate::table;
 use bits::Gathered;
+use rules::Set;
 use rules::Stream;
 use rules::Tuple;
 use rules::TuplePlace;
@@ -34,24 +31,62 @@ fn tuple_of(cycle: u32, offset: u32) -> TuplePlace
     }
 }
 
-pub(crate) fn no_tuples() -> [TuplePlace; 4]
-    ensures { λ r. ⌜ r ≡ replicate 4 noTuple ⌝ }
+fn no_tuples() -> [TuplePlace; 4]
+    ensures { λ r. ⌜ r ≡ noTuples ⌝ }
 {
     [TuplePlace {
         tuple: Tuple::Once(0),
     }; 4]
 }
 
-pub(crate) fn stream_in(h: Head, tuples: [TuplePlace; 4]) -> Stream
-    ensures { λ r. ⌜ r ≡ streamIn h tuples ⌝ }
+fn wide(v: u32) -> usize
+    ensures { λ r. ⌜ r ≡ v ⌝ }
+{
+    v as usize
+}
+
+fn stream_in(values: [u32; 8], n: usize, tuples: [TuplePlace; 4]) -> Stream
+    ensures { λ r. ⌜ r ≡ streamIn values n tuples ⌝ }
 {
     Stream {
-        task: h.task,
-        cost: h.cost,
-        deadline: h.deadline,
-        count: h.count,
+        task: wide(values[table::TASK]),
+        cost: values[table::COST],
+        deadline: values[table::DEADLINE],
+        count: n,
         tuples,
     }
+}
+
+// The streams in use are taken out of a set.
+pub(crate) fn cleared(x: Set) -> Set
+    requires { ⌜ (x .count ≤ 16) × Holds 16 noStream (x .count) (x .streams) ⌝ }
+    ensures { λ r. ⌜ r ≡ emptySet ⌝ }
+{
+    let mut set = x;
+    let n = x.count;
+    let mut k: usize = 0;
+    while k < n {
+        set.streams[k] = stream_in([0; 8], 0, no_tuples());
+        k += 1;
+    }
+    set.count = 0;
+    set
+}
+
+// A stream is whole: of the values that were read the version and the count stay.
+fn front(values: [u32; 8]) -> [u32; 8]
+    ensures { λ r. ⌜ r ≡ frontOf values ⌝ }
+{
+    [
+        values[table::VERSION],
+        values[table::COUNT],
+        0,
+        0,
+        0,
+        0,
+        0,
+        0,
+    ]
 }
 
 // ---- bits come
@@ -60,16 +95,23 @@ pub(crate) fn start() -> Carried
     ensures { λ r. ⌜ r ≡ startOf ⌝ }
 {
     Carried {
-        point: Point {
-            stage: Stage {
-                field: Field::Version,
-                head: stages::fresh_head(),
-            },
-            acc: 0,
-            left: 4,
-        },
+        point: table::begun(table::VERSION, 0),
+        values: [0; 8],
         places: no_tuples(),
         set: stream_valid::empty_set(),
+    }
+}
+
+// A refused reader keeps nothing but its refusal.
+fn refused(f: usize, x: Set) -> Carried
+    requires { ⌜ (x .count ≤ 16) × Holds 16 noStream (x .count) (x .streams) ⌝ }
+    ensures { λ r. ⌜ r ≡ refusedOf f ⌝ }
+{
+    Carried {
+        point: table::begun(f, 0),
+        values: [0; 8],
+        places: no_tuples(),
+        set: cleared(x),
     }
 }
 
@@ -78,10 +120,10 @@ fn joined(p: Point, g: Gathered) -> Point
     requires { ⌜ (g .got ≤ p .left) × (g .got ≤ 20) × (p .acc < 1048576) × (g .value < 1048576) ⌝ }
     ensures { λ r. ⌜ r ≡ joinedOf p g ⌝ }
 {
-    let stage = p.stage;
     let got = g.got;
     Point {
-        stage,
+        row: p.row,
+        tuples: p.tuples,
         acc: (p.acc << got) + g.value,
         left: p.left - got,
     }
@@ -93,6 +135,7 @@ pub(crate) fn feed(s: Carried, piece: &[u8]) -> Carried
     ensures { λ r. ⌜ r ≡ run s (bits (now (piece .entry))) ⌝ }
 {
     let mut point = s.point;
+    let mut values = s.values;
     let mut places = s.places;
     let mut set = s.set;
     let mut byte: usize = 0;
@@ -104,25 +147,41 @@ pub(crate) fn feed(s: Carried, piece: &[u8]) -> Carried
         bit = end % 8;
         point = joined(point, g);
         if point.left == 0 {
-            let stage = point.stage;
-            let f = stage.field;
-            let h = stage.head;
+            let f = point.row;
+            let n = point.tuples;
             let v = point.acc as u32;
-            if stages::is_offset(f) {
-                let k = h.count;
-                places[k] = tuple_of(h.cycle, v);
+            if !table::in_rule(f, n, values[table::OFFSET], v) {
+                return refused(table::refusal(f), set);
             }
-            let next = stages::after(f, h, v);
-            point = stages::begun(next);
-            let e = next.field;
-            if stages::is_whole(e) {
-                let k = set.count;
-                let whole = next.head;
-                set.streams[k] = stream_in(whole, places);
-                set.count = k + 1;
-                places = no_tuples();
+            if f == table::OFFSET {
+                places[n] = tuple_of(values[table::CYCLE], v);
+                if n < wide(values[table::TUPLES]) {
+                    values[table::CYCLE] = 0;
+                    values[table::OFFSET] = v;
+                    point = table::begun(table::CYCLE, n + 1);
+                } else {
+                    let k = set.count;
+                    set.streams[k] = stream_in(values, n + 1, places);
+                    set.count = k + 1;
+                    point = table::begun(table::opened(k + 1, wide(values[table::COUNT])), 0);
+                    values = front(values);
+                    places = no_tuples();
+                }
+            } else if f == table::COUNT {
+                values[table::COUNT] = v;
+                point = table::begun(table::opened(0, wide(v)), n);
+            } else if f < table::PADDING {
+                values[f] = v;
+                point = table::begun(f + 1, n);
+            } else {
+                point = table::begun(f + 1, n);
             }
         }
     }
-    Carried { point, places, set }
+    Carried {
+        point,
+        values,
+        places,
+        set,
+    }
 }

@@ -2,69 +2,40 @@
 // The reader takes bits: it keeps the whole fields that it has read, and the bits that have come of the next one.
 mod closing; // closing.rt: what the sheet reads as when no bit comes any more
 mod feeding; // feeding.rt: bits come, field after field
-mod stages; // stages.rt: which field comes behind each, once its value is there
+mod table; // table.rt: the fields of a sheet as data
 
 use rules::ReadResult;
-use rules::Refusal;
 use rules::Set;
 use rules::TuplePlace;
 ghost use mathlib.Core.Path.{_≡_};
 ghost use Rattle.rules.specs.Sheet.{readOf};
 
+// "A full sheet is 378 bytes.": no valid set's sheet is longer (`sheet-at-most` of crates/sheet_write).
+pub const LONGEST: usize = 378;
+
 // ---- the reader's state
 
-// The field that comes next.
-pub enum Field {
-    Version,
-    Count,
-    Task,
-    Cost,
-    Deadline,
-    Tuples,
-    Cycle,
-    Offset,
-    // none: a stream is whole, and goes to its place
-    Whole,
-    // one padding bit
-    Padding,
-    // none: the sheet is refused
-    Stopped(Refusal),
+// How many bits a field of a sheet has, and from where to where its value may be.
+pub struct SheetField {
+    pub width: u32,
+    pub least: u32,
+    pub greatest: u32,
 }
 
-// The numbers that have been read of the stream that is being read, and what is still to come.
-pub struct Head {
-    // how many streams come behind this one, and how many tuples behind this tuple
-    pub streams: usize,
-    pub more: usize,
-    pub task: usize,
-    pub cost: u32,
-    pub deadline: u32,
-    // from where to where the next offset may be
-    pub low: u32,
-    pub high: u32,
-    // the cycle of the tuple that is being read
-    pub cycle: u32,
-    // how many tuples are whole
-    pub count: usize,
-    // padding bits read
-    pub pads: usize,
-}
-
-pub struct Stage {
-    pub field: Field,
-    pub head: Head,
-}
-
-// A stage, the bits that have come of its field as a number, and how many have not.
+// The field that comes, by its row in the table; behind how many whole tuples of the stream that is being read; the bits that have
+// come of it as a number, and how many have not.
 pub struct Point {
-    pub stage: Stage,
+    pub row: usize,
+    pub tuples: usize,
     pub acc: u64,
     pub left: u32,
 }
 
-// What is kept between two pieces: a point, the whole tuples of the stream that is being read, and the streams that are whole.
+// What is kept between two pieces: a point, the values that have been read, each in its field's place, the whole tuples of the stream
+// that is being read, and the streams that are whole. What has not been read is zero.
 pub struct Carried {
     pub point: Point,
+    pub values: [u32; 8],
     pub places: [TuplePlace; 4],
     pub set: Set,
 }

@@ -56,12 +56,12 @@ record Why (bs : List ℕ) (no : ℕ) : Type 0 where
   pub six : no ≡ 6 → (4 ≤ length bs) × (value (take 4 bs) ≡ 1 → ⊥)
   pub ten : no ≡ 10 → Begins bs
 
-abbrev Told : List ℕ → ReadAnswer → Set → Type 0
-Told bs Read x = Accepted bs x
-Told bs (Refused why) x = (x ≡ emptySet) × Why bs (number why)
+abbrev Answered : List ℕ → ReadAnswer → Set → Type 0
+Answered bs Read x = Accepted bs x
+Answered bs (Refused why) x = (x ≡ emptySet) × Why bs (number why)
 
 abbrev Tells : List ℕ → ReadResult → Type 0
-Tells bs r = Told bs (r .answer) (r .set)
+Tells bs r = Answered bs (r .answer) (r .set)
 
 missing : (bs : List ℕ) → Tells bs (noSet BitsMissing)
 unfolding any
@@ -203,17 +203,17 @@ sheet-at-most x ok =
 
 -- ---- "Given exactly when"
 
-tells : (s : List ℕ) → Told (bits s) (readOf s .answer) (readOf s .set)
+tells : (s : List ℕ) → Answered (bits s) (readOf s .answer) (readOf s .set)
 unfolding readOf
 tells s = reading-tells (bits s) (bits-bits s)
 
 -- what a refusal's number stands for
-told-why : (bs : List ℕ) (a : ReadAnswer) (x : Set) (no : ℕ) → Told bs a x → readSays a ≡ refused no → (x ≡ emptySet) × Why bs no
-told-why bs Read x n t e = never (cc)
-told-why bs (Refused why) x n t e = (t .0, subst (Why bs) (let q : number why ≡ n = cc in q) (t .1))
+refused-why : (bs : List ℕ) (a : ReadAnswer) (x : Set) (no : ℕ) → Answered bs a x → readSays a ≡ refused no → (x ≡ emptySet) × Why bs no
+refused-why bs Read x n t e = never (cc)
+refused-why bs (Refused why) x n t e = (t .0, subst (Why bs) (let q : number why ≡ n = cc in q) (t .1))
 
 heard : (s : List ℕ) (no : ℕ) → readingSays s ≡ refused no → (readOf s .set ≡ emptySet) × Why (bits s) no
-heard s n e = told-why (bits s) (readOf s .answer) (readOf s .set) n (tells s) e
+heard s n e = refused-why (bits s) (readOf s .answer) (readOf s .set) n (tells s) e
 
 pub read-refusals : ReadRefusals
 unfolding ReadRefusals
@@ -259,28 +259,25 @@ module _ (x : Set) (room : ℕ) where
       (λ e. let k : room < length (sheetOf x) = leb-false (length (sheetOf x)) room e in g v k (eleven-given v k)))
       (λ v. f v (seven-given v))
 
-abbrev said : WriteAnswer → Says
-said a = writeSays a
-
 pub write-7-exactly : WriteSevenExactly
 unfolding WriteSevenExactly
 write-7-exactly x room = (
-  λ e. by-writing x room (λ v w. v) (λ v k w. let q : refused 11 ≡ refused 7 = sym (ap said w) ∙ e in never (cc)) (λ v k w. let q : wrote (length (sheetOf x)) ≡ refused 7 = sym (ap said w) ∙ e in never (cc)),
-  λ v. ap said (seven-given x room v),
+  λ e. by-writing x room (λ v w. v) (λ v k w. let q : refused 11 ≡ refused 7 = sym (ap writeSays w) ∙ e in never (cc)) (λ v k w. let q : wrote (length (sheetOf x)) ≡ refused 7 = sym (ap writeSays w) ∙ e in never (cc)),
+  λ v. ap writeSays (seven-given x room v),
 )
 
 pub write-11-exactly : WriteElevenExactly
 unfolding WriteElevenExactly
 write-11-exactly x room = (
-  λ e. by-writing x room (λ v w. let q : refused 7 ≡ refused 11 = sym (ap said w) ∙ e in never (cc)) (λ v k w. (v, k)) (λ v k w. let q : wrote (length (sheetOf x)) ≡ refused 11 = sym (ap said w) ∙ e in never (cc)),
-  λ h. ap said (eleven-given x room (h .0) (h .1)),
+  λ e. by-writing x room (λ v w. let q : refused 7 ≡ refused 11 = sym (ap writeSays w) ∙ e in never (cc)) (λ v k w. (v, k)) (λ v k w. let q : wrote (length (sheetOf x)) ≡ refused 11 = sym (ap writeSays w) ∙ e in never (cc)),
+  λ h. ap writeSays (eleven-given x room (h .0) (h .1)),
 )
 
 pub wrote-exactly : WroteExactly
 unfolding WroteExactly
 wrote-exactly x room = (
-  λ e. by-writing x room (λ v w. let q : refused 7 ≡ wrote (length (sheetOf x)) = sym (ap said w) ∙ e in never (cc)) (λ v k w. let q : refused 11 ≡ wrote (length (sheetOf x)) = sym (ap said w) ∙ e in never (cc)) (λ v k w. (v, k)),
-  λ h. ap said (wrote-given x room (h .0) (h .1)),
+  λ e. by-writing x room (λ v w. let q : refused 7 ≡ wrote (length (sheetOf x)) = sym (ap writeSays w) ∙ e in never (cc)) (λ v k w. let q : refused 11 ≡ wrote (length (sheetOf x)) = sym (ap writeSays w) ∙ e in never (cc)) (λ v k w. (v, k)),
+  λ h. ap writeSays (wrote-given x room (h .0) (h .1)),
 )
 
 -- ---- what is read has its places
@@ -288,10 +285,10 @@ wrote-exactly x room = (
 empty-placed : Placed emptySet
 empty-placed = record { sixteen = refl; four = all-replicate FourTuples 16 noStream refl }
 
-told-placed : (bs : List ℕ) (a : ReadAnswer) (x : Set) → Told bs a x → Placed x
-told-placed bs Read x t = t .placed
-told-placed bs (Refused why) x t = subst Placed (sym (t .0)) empty-placed
+answered-placed : (bs : List ℕ) (a : ReadAnswer) (x : Set) → Answered bs a x → Placed x
+answered-placed bs Read x t = t .placed
+answered-placed bs (Refused why) x t = subst Placed (sym (t .0)) empty-placed
 
 pub read-placed : ReadPlaced
 unfolding ReadPlaced
-read-placed s = told-placed (bits s) (readOf s .answer) (readOf s .set) (tells s)
+read-placed s = answered-placed (bits s) (readOf s .answer) (readOf s .set) (tells s)

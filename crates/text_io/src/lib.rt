@@ -127,7 +127,7 @@ fn save(bytes: &[u8]) -> bool {
 
 fn keep(x: Set) -> bool {
     let count = x.count;
-    let mut bytes = [0u8; 378];
+    let mut bytes = [0u8; rules::LONGEST_SHEET];
     match sheet_write::write(x, &mut bytes) {
         WriteAnswer::Wrote(n) => {
             let len = page::within(n, &bytes);
@@ -162,7 +162,7 @@ pub fn make() -> bool {
 
 // A set's sheet in hex, and its text.
 fn print_both(x: Set) -> bool {
-    let mut bytes = [0u8; 378];
+    let mut bytes = [0u8; rules::LONGEST_SHEET];
     match sheet_write::write(x, &mut bytes) {
         WriteAnswer::Wrote(n) => {
             let len = page::within(n, &bytes);

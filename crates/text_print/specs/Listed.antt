@@ -1,6 +1,6 @@
 -- A set's readable text, and the page that it is put on.
 -- Assumes nothing.
-use Prim.Native.Nat.{ℕ}
+use Prim.Native.Nat.{ℕ, _*_}
 use mathlib.Core.Bool.{cond, _&&_}
 use mathlib.Core.List.{List, _++_}
 use lib.ListN.{length, drop}
@@ -13,6 +13,7 @@ use Rattle.rules.specs.declared.WriteAnswer.{WriteAnswer}
 use Rattle.rules.specs.declared.WriteAnswer.the-variants.{Wrote, Refused}
 use Rattle.rules.specs.Streams.{streamsOf, valid}
 use Rattle.ascii.specs.Decimal.{newline}
+use Rattle.line.specs.Line.{lineRoom}
 use Rattle.text_line.specs.Lines.{streamText}
 
 -- one stream a line, in order
@@ -22,10 +23,14 @@ lineText s = streamText s ++ newline
 unfoldable pub textOf : Set → List ℕ
 textOf x = flat lineText (streamsOf x)
 
--- 7 for an invalid set, then 11 for a page with less than 128 bytes for each of 16 lines
+-- room for the text of any set, which has at most 16 lines
+abbrev pub textRoom : ℕ
+textRoom = 16 * lineRoom
+
+-- 7 for an invalid set, then 11 for a page with less than that
 unfoldable pub listOf : Set → ℕ → WriteAnswer
-listOf x room = cond (valid x) (cond (leb 2048 room) (Wrote (length (textOf x))) (Refused ShortBuffer)) (Refused OutOfRule)
+listOf x room = cond (valid x) (cond (leb textRoom room) (Wrote (length (textOf x))) (Refused ShortBuffer)) (Refused OutOfRule)
 
 -- the text at the front of the page, and the rest as it was; a refused one changes nothing
 unfoldable pub pageOf : Set → List ℕ → List ℕ
-pageOf x page = cond (valid x && leb 2048 (length page)) (textOf x ++ drop (length (textOf x)) page) page
+pageOf x page = cond (valid x && leb textRoom (length page)) (textOf x ++ drop (length (textOf x)) page) page

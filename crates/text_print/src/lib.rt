@@ -6,12 +6,15 @@ ghost use Prim.Native.Nat.{_≤_};
 ghost use lib.ListN.{length, drop};
 ghost use Rattle.rules.specs.Streams.{valid};
 ghost use Rattle.line.specs.Line.{holding, puts};
-ghost use Rattle.text_print.specs.Listed.{lineText, textOf, listOf, pageOf};
+ghost use Rattle.text_print.specs.Listed.{lineText, textOf, textRoom, listOf, pageOf};
 use line::Line;
 use rules::Refusal;
 use rules::Set;
 use rules::Stream;
 use rules::WriteAnswer;
+
+// Room for the text of any set: a line for each of 16 streams.
+pub const ROOM: usize = 16 * line::ROOM;
 
 // A stream's line, with its newline.
 fn line_of(s: Stream) -> Line
@@ -22,7 +25,7 @@ fn line_of(s: Stream) -> Line
 
 // The lines of a valid set, one behind the other, on a page that has room for them.
 fn put_lines(x: Set, out: &mut [u8]) -> usize
-    requires { ⌜ (valid x ≡ true) × (2048 ≤ length (now out)) ⌝ }
+    requires { ⌜ (valid x ≡ true) × (textRoom ≤ length (now out)) ⌝ }
     ensures { λ r. ⌜ (r ≡ length (textOf x)) × (now (out .exit) ≡ textOf x ++ drop (length (textOf x)) (now (out .entry))) ⌝ }
 {
     let n = x.count;
@@ -39,13 +42,13 @@ fn put_lines(x: Set, out: &mut [u8]) -> usize
     at
 }
 
-// A set's text at the front of a page, and how long it is. An invalid set is refused with 7, a page of less than 2,048 bytes, 128 for each
-// stream that a set may have, with 11; the page then stays as it is.
+// A set's text at the front of a page, and how long it is. An invalid set is refused with 7, a page that has not room
+// for the text of any set with 11; the page then stays as it is.
 pub fn print(x: Set, out: &mut [u8]) -> WriteAnswer
     ensures { λ r. ⌜ (r ≡ listOf x (length (now (out .entry)))) × (now (out .exit) ≡ pageOf x (now (out .entry))) ⌝ }
 {
     if stream_valid::is_valid(x) {
-        if 2048 <= out.len() {
+        if ROOM <= out.len() {
             let n = put_lines(x, out);
             return WriteAnswer::Wrote(n);
         }

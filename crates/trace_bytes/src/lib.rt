@@ -1,6 +1,7 @@
 // What a byte of a trace asks for.
 ghost use mathlib.Core.Path.{_≡_};
 ghost use Rattle.trace_bytes.specs.Steps.{betweenSteps, afterP, heardOf, endOf};
+use rules::Call;
 
 // What is asked.
 pub enum Heard {
@@ -8,10 +9,8 @@ pub enum Heard {
     Skip,
     // A p: its digit has to follow.
     More,
-    // A post to this stream.
-    Post(usize),
-    Unit,
-    Done,
+    // A step.
+    Makes(Call),
     Bad,
 }
 
@@ -21,9 +20,9 @@ fn between_steps(b: u8) -> Heard
     if b == b'p' {
         Heard::More
     } else if b == b'u' {
-        Heard::Unit
+        Heard::Makes(Call::Units(false))
     } else if b == b'd' {
-        Heard::Done
+        Heard::Makes(Call::Units(true))
     } else if (b == b' ') | (b == b'\n') {
         Heard::Skip
     } else {
@@ -35,7 +34,7 @@ fn after_p(b: u8) -> Heard
     ensures { λ r. ⌜ r ≡ afterP b ⌝ }
 {
     if ascii::is_hex(b) {
-        Heard::Post(ascii::hex_of(b) as usize)
+        Heard::Makes(Call::Posts(ascii::hex_of(b) as usize))
     } else {
         Heard::Bad
     }

@@ -2,49 +2,32 @@
 ghost use Prim.Native.Nat.{_<_};
 use libc::STDIN_FILENO;
 use libc::STDOUT_FILENO;
-use rules::ReadAnswer;
 use rules::ReadResult;
-use rules::Set;
-use rules::Verdict;
 use trace_steps::Tracing;
 
-fn started(x: Set, live: bool) -> Tracing {
-    let r = scheduler::start(x);
-    let state = r.state;
-    Tracing {
-        state,
-        waiting: false,
-        live,
-    }
-}
-
-// The first line, and the run that follows a sheet that was read.
-fn begin(r: ReadResult) -> Tracing {
-    let answer = r.answer;
-    let set = r.set;
-    match answer {
-        ReadAnswer::Read => {
-            let written = file_io::say(answer_words::verdict_line(load_check::verdict(set)));
-            started(set, written)
-        }
-        ReadAnswer::Refused(why) => {
-            file_io::say(answer_words::verdict_line(Verdict::Refused(why)));
-            started(set, false)
-        }
-    }
-}
-
-fn stopped(r: Tracing) -> Tracing {
-    let mut last = r;
+fn stopped(t: Tracing) -> Tracing {
+    let mut last = t;
     last.live = false;
     last
 }
 
-// Writes what a piece of the trace prints. An output that takes nothing more ends the run.
-fn told(r: Tracing, piece: &[u8]) -> Tracing {
+// Writes the first line. An output that takes nothing more ends the trace.
+fn begin(r: ReadResult) -> Tracing {
+    let first = trace_steps::begin_trace(r);
+    let line = first.line;
+    let tracing = first.tracing;
+    if file_io::say(line) {
+        tracing
+    } else {
+        stopped(tracing)
+    }
+}
+
+// Writes what a piece of the trace prints.
+fn print_piece(t: Tracing, piece: &[u8]) -> Tracing {
     let mut out = io::large_buffer();
-    let fed = trace_steps::take_piece(r, piece, &mut out);
-    let next = fed.run;
+    let fed = trace_steps::take_piece(t, piece, &mut out);
+    let next = fed.tracing;
     let len = page::within(fed.len, &out);
     if io::write_all(STDOUT_FILENO, &out[..len]) {
         next
@@ -54,27 +37,27 @@ fn told(r: Tracing, piece: &[u8]) -> Tracing {
 }
 
 // Reads once, and writes what the bytes that came print.
-fn go_on(r: Tracing) -> Tracing {
+fn go_on(t: Tracing) -> Tracing {
     let mut bytes = [0u8; 512];
     let got = libc::read(STDIN_FILENO, &mut bytes);
     let n = io::count(got, &bytes);
     if n == 0 {
-        file_io::say(trace_steps::end_line(r));
-        return stopped(r);
+        file_io::say(trace_steps::end_line(t));
+        return stopped(t);
     }
-    told(r, &bytes[..n])
+    print_piece(t, &bytes[..n])
 }
 
-// A proved loop has to end, and nothing says that the input does: the turns are counted down from a number that no run uses up.
+// A proved loop has to end, and nothing says that the input does: the turns are counted down from a number that no trace uses up.
 pub fn run() {
-    let mut r = begin(file_io::read_sheet());
+    let mut t = begin(file_io::read_sheet());
     let mut turns = u64::MAX;
     while turns > 0 {
-        let live = r.live;
+        let live = t.live;
         if !live {
             return;
         }
-        r = go_on(r);
+        t = go_on(t);
         turns -= 1;
     }
 }
@@ -118,12 +101,12 @@ fn sheet_of(fd: i32, n: usize) -> ReadResult {
 }
 
 // The last `n` bytes of a case's trace, fewer than 64, and its end.
-fn rest_of(fd: i32, run: Tracing, n: usize) -> bool {
+fn rest_of(fd: i32, t: Tracing, n: usize) -> bool {
     let mut piece = [0u8; 64];
     let mut i = 0;
     while i < 64 {
         if n <= i {
-            return file_io::say(trace_steps::end_line(told(run, &piece[..i])));
+            return file_io::say(trace_steps::end_line(print_piece(t, &piece[..i])));
         }
         piece[i] = next_byte(fd);
         i = i + 1;
@@ -132,16 +115,16 @@ fn rest_of(fd: i32, run: Tracing, n: usize) -> bool {
 }
 
 // The trace of a case, of `n` bytes. Answers whether the output goes on.
-fn trace_of(fd: i32, run: Tracing, n: u64) -> bool {
-    let mut r = run;
+fn trace_of(fd: i32, begun: Tracing, n: u64) -> bool {
+    let mut t = begun;
     let mut left = n;
     while 63 < left {
         let mut piece = [0u8; 64];
         io::read_full(fd, &mut piece);
-        r = told(r, &piece);
+        t = print_piece(t, &piece);
         left = left - 64;
     }
-    rest_of(fd, r, left as usize)
+    rest_of(fd, t, left as usize)
 }
 
 // A case's number, and all that the trace program prints for its sheet, of `n` bytes, and its trace.
@@ -150,9 +133,9 @@ fn one_case(fd: i32, at: u64, n: u64) -> bool {
     if !file_io::say(head) {
         return false;
     }
-    let r = begin(sheet_of(fd, n as usize));
+    let t = begin(sheet_of(fd, n as usize));
     let len = next_length(fd);
-    trace_of(fd, r, len)
+    trace_of(fd, t, len)
 }
 
 // The cases of the file cases.bin: for each the length of its sheet in four bytes, the sheet, the length of its trace, the trace. The end mark, 255

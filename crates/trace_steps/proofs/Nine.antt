@@ -1,18 +1,13 @@
--- Number 9 is given: a byte that is no step, and p without its digit, print `refused 9` with no clock, and the run stops.
+-- Number 9 is given: a byte that is no step, and p without its digit, print `refused 9` with no clock, and the trace stops.
 -- Assumes nothing.
-use mathlib.Core.Bool.{Bool, true, false}
+use mathlib.Core.Bool.{true, false}
 use mathlib.Core.List.{List, [], _∷_}
 use mathlib.Core.Path.{_≡_, refl}
 use Rattle.rules.specs.declared.State.{State}
 use Rattle.ascii.specs.Decimal.{letters, digitsOf}
 use Rattle.answer_words.specs.Words.{says}
 use Rattle.trace_bytes.specs.Steps.{betweenSteps, afterP}
-use Rattle.trace_steps.specs.declared.Tracing.{Tracing}
-use Rattle.trace_steps.specs.Turns.{runAfter, textAfter, textEnd}
-
--- a run that goes on, between steps or after p
-abbrev going : State → Bool → Tracing
-going s waiting = record { state = s; waiting = waiting; live = true }
+use Rattle.trace_steps.specs.Turns.{going, tracingAfter, textAfter, textEnd}
 
 -- `x`, `p` and then a space, `p` at the end
 pub refused-9 : (s : State)
@@ -20,6 +15,6 @@ pub refused-9 : (s : State)
 unfolding textAfter textEnd betweenSteps afterP says digitsOf
 refused-9 s = refl
 
-pub stops-at-9 : (s : State) → runAfter (going s false) 120 ≡ record { state = s; waiting = false; live = false }
-unfolding runAfter betweenSteps
+pub stops-at-9 : (s : State) → tracingAfter (going s false) 120 ≡ record { state = s; waiting = false; live = false }
+unfolding tracingAfter betweenSteps
 stops-at-9 s = refl

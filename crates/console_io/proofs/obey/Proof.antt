@@ -2,6 +2,7 @@
 -- Assumes nothing.
 use native.Mathlib.Omega.{arith}
 use Rattle.page.proofs.Rooms.{room-for}
+use Rattle.console_ask.specs.Questions.{answerRoom}
 use Rattle.console_obey.proofs.Obeys.{with-room}
 use borrow.Author.Needs.{needs}
 use Rattle.console_io.proofs.obey.Statement.{statement}
@@ -18,7 +19,7 @@ returns c =
     let s = c .before .before .before .before .before .before in
     let a = s .args in
     with-room (a .d) (a .line .now) (a .out .now) (a .at) _ _
-    (room-for (a .out .now) (a .at) 8448 (omega (arith, s .pre .0, s .pre .1)) (omega (arith, s .pre .0, s .pre .1))) (c .before .before .obey .ensures)
+    (room-for (a .out .now) (a .at) answerRoom (omega (arith, s .pre .0, s .pre .1)) (omega (arith, s .pre .0, s .pre .1))) (c .before .before .obey .ensures)
 
 pub obey-spec : {M : Type 1} → statement M
 obey-spec = tie.close (tie.spec obey-requires same-length returns)

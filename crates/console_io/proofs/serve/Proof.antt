@@ -4,12 +4,13 @@ use Prim.Native.Nat.{_-_, _≤_}
 use mathlib.Core.Path.{_≡_, refl}
 use lib.ListN.{length}
 use native.Mathlib.Omega.{arith}
+use Rattle.console_io.specs.Room.{halfPage}
 use borrow.Author.Needs.{needs}
 use Rattle.console_io.proofs.serve.Statement.{statement}
 use Rattle.console_io.proofs.serve.Tie as tie
 
 abbrev Inv-loop : tie.InvT-loop
-Inv-loop line₀ out₀ c₀ turns₀ line out c turns = (length line ≡ length line₀) × ((length out ≡ length out₀) × (c .at ≤ 32768))
+Inv-loop line₀ out₀ c₀ turns₀ line out c turns = (length line ≡ length line₀) × ((length out ≡ length out₀) × (c .at ≤ halfPage))
 
 abbrev μ-loop : tie.MeasureT-loop
 μ-loop line₀ out₀ c₀ turns₀ line out c turns = turns

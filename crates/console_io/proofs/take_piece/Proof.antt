@@ -4,12 +4,13 @@ use Prim.Native.Nat.{_-_, _≤_}
 use mathlib.Core.Path.{_≡_, refl}
 use lib.ListN.{length}
 use native.Mathlib.Omega.{arith}
+use Rattle.console_io.specs.Room.{halfPage}
 use borrow.Author.Needs.{needs}
 use Rattle.console_io.proofs.take_piece.Statement.{statement}
 use Rattle.console_io.proofs.take_piece.Tie as tie
 
 abbrev Inv-loop : tie.InvT-loop
-Inv-loop piece line₀ out₀ next₀ i₀ line out next i = (length line ≡ length line₀) × ((length out ≡ length out₀) × ((i ≤ length piece) × (next .at ≤ 32768)))
+Inv-loop piece line₀ out₀ next₀ i₀ line out next i = (length line ≡ length line₀) × ((length out ≡ length out₀) × ((i ≤ length piece) × (next .at ≤ halfPage)))
 
 abbrev μ-loop : tie.MeasureT-loop
 μ-loop piece line₀ out₀ next₀ i₀ line out next i = length piece - i

@@ -1,89 +1,115 @@
 -- `console_names::state_row` meets its contract.
 -- Assumes nothing.
-use mathlib.Core.Path.{sym, _∙_}
+use mathlib.Core.Path.{refl}
 use Rattle.console_names.specs.Rows.{stateRow}
+use Rattle.console_names.proofs.Names.{or}
 use borrow.Author.Needs.{needs}
 use Rattle.console_names.proofs.state_row.Statement.{statement}
 use Rattle.console_names.proofs.state_row.Tie as tie
 
-slice-aggregate-same : tie.Need-slice-aggregate-same
-slice-aggregate-same c = search needs
+of-state-requires : tie.Need-of-state-requires
+of-state-requires c κs = search needs
 
-same-requires : tie.Need-same-requires
-same-requires c κs = search needs
+slice-aggregate-named : tie.Need-slice-aggregate-named
+slice-aggregate-named c = search needs
 
-asks-requires : tie.Need-asks-requires
-asks-requires c κs = search needs
+named-requires : tie.Need-named-requires
+named-requires c κs = search needs
+
+of-state-requires-2 : tie.Need-of-state-requires-2
+of-state-requires-2 c κs = search needs
+
+slice-aggregate-named-2 : tie.Need-slice-aggregate-named-2
+slice-aggregate-named-2 c = search needs
+
+named-requires-2 : tie.Need-named-requires-2
+named-requires-2 c κs = search needs
+
+of-state-requires-3 : tie.Need-of-state-requires-3
+of-state-requires-3 c κs = search needs
+
+slice-aggregate-named-3 : tie.Need-slice-aggregate-named-3
+slice-aggregate-named-3 c = search needs
+
+named-requires-3 : tie.Need-named-requires-3
+named-requires-3 c κs = search needs
+
+of-state-requires-4 : tie.Need-of-state-requires-4
+of-state-requires-4 c κs = search needs
+
+slice-aggregate-named-4 : tie.Need-slice-aggregate-named-4
+slice-aggregate-named-4 c = search needs
+
+named-requires-4 : tie.Need-named-requires-4
+named-requires-4 c κs = search needs
+
+of-state-requires-5 : tie.Need-of-state-requires-5
+of-state-requires-5 c κs = search needs
+
+slice-aggregate-named-5 : tie.Need-slice-aggregate-named-5
+slice-aggregate-named-5 c = search needs
+
+named-requires-5 : tie.Need-named-requires-5
+named-requires-5 c κs = search needs
+
+of-state-requires-6 : tie.Need-of-state-requires-6
+of-state-requires-6 c κs = search needs
+
+slice-aggregate-named-6 : tie.Need-slice-aggregate-named-6
+slice-aggregate-named-6 c = search needs
+
+named-requires-6 : tie.Need-named-requires-6
+named-requires-6 c κs = search needs
+
+of-state-requires-7 : tie.Need-of-state-requires-7
+of-state-requires-7 c κs = search needs
+
+slice-aggregate-named-7 : tie.Need-slice-aggregate-named-7
+slice-aggregate-named-7 c = search needs
+
+named-requires-7 : tie.Need-named-requires-7
+named-requires-7 c κs = search needs
 
 returns : tie.Need-returns
 unfolding stateRow
-returns c = rw (sym (c .before .before .same .ensures) ∙ c .before .if1 .taken) (c .asks .ensures)
-
-slice-aggregate-same-2 : tie.Need-slice-aggregate-same-2
-slice-aggregate-same-2 c = search needs
-
-same-requires-2 : tie.Need-same-requires-2
-same-requires-2 c κs = search needs
-
-asks-requires-2 : tie.Need-asks-requires-2
-asks-requires-2 c κs = search needs
-
-returns-2 : tie.Need-returns-2
-unfolding stateRow
-returns-2 c = rw (sym (c .before .before .before .before .before .same .ensures) ∙ c .before .before .before .before .if1 .left, sym (c .before .before .same2 .ensures) ∙ c .before .if2 .taken) (c .asks2 .ensures)
-
-slice-aggregate-same-3 : tie.Need-slice-aggregate-same-3
-slice-aggregate-same-3 c = search needs
-
-same-requires-3 : tie.Need-same-requires-3
-same-requires-3 c κs = search needs
-
-asks-requires-3 : tie.Need-asks-requires-3
-asks-requires-3 c κs = search needs
-
-returns-3 : tie.Need-returns-3
-unfolding stateRow
-returns-3 c = rw (sym (c .before .before .before .before .before .before .before .before .same .ensures) ∙ c .before .before .before .before .before .before .before .if1 .left, sym (c .before .before .before .before .before .same2 .ensures) ∙ c .before .before .before .before .if2 .left, sym (c .before .before .same3 .ensures) ∙ c .before .if3 .taken) (c .asks3 .ensures)
-
-slice-aggregate-same-4 : tie.Need-slice-aggregate-same-4
-slice-aggregate-same-4 c = search needs
-
-same-requires-4 : tie.Need-same-requires-4
-same-requires-4 c κs = search needs
-
-asks-requires-4 : tie.Need-asks-requires-4
-asks-requires-4 c κs = search needs
-
-returns-4 : tie.Need-returns-4
-unfolding stateRow
-returns-4 c = rw (sym (c .before .before .before .before .before .before .before .before .before .before .before .same .ensures) ∙ c .before .before .before .before .before .before .before .before .before .before .if1 .left, sym (c .before .before .before .before .before .before .before .before .same2 .ensures) ∙ c .before .before .before .before .before .before .before .if2 .left, sym (c .before .before .before .before .before .same3 .ensures) ∙ c .before .before .before .before .if3 .left, sym (c .before .before .same4 .ensures) ∙ c .before .if4 .taken) (c .asks4 .ensures)
-
-asks-requires-5 : tie.Need-asks-requires-5
-asks-requires-5 c κs = search needs
-
-returns-5 : tie.Need-returns-5
-unfolding stateRow
-returns-5 c = rw (sym (c .before .before .before .before .before .before .before .before .before .before .before .same .ensures) ∙ c .before .before .before .before .before .before .before .before .before .before .if1 .left, sym (c .before .before .before .before .before .before .before .before .same2 .ensures) ∙ c .before .before .before .before .before .before .before .if2 .left, sym (c .before .before .before .before .before .same3 .ensures) ∙ c .before .before .before .before .if3 .left, sym (c .before .before .same4 .ensures) ∙ c .before .if4 .left) (c .asks5 .ensures)
+returns c =
+    let c6 = c .before .before .before in
+    let c5 = c6 .before .before .before in
+    let c4 = c5 .before .before .before in
+    let c3 = c4 .before .before .before in
+    let c2 = c3 .before .before .before in
+    let c1 = c2 .before .before .before in
+    or _ _ _ _ _ _ _ (c .named7 .ensures) (c .before .before .of-state7 .ensures)
+    (or _ _ _ _ _ _ _ (c6 .named6 .ensures) (c6 .before .before .of-state6 .ensures)
+    (or _ _ _ _ _ _ _ (c5 .named5 .ensures) (c5 .before .before .of-state5 .ensures)
+    (or _ _ _ _ _ _ _ (c4 .named4 .ensures) (c4 .before .before .of-state4 .ensures)
+    (or _ _ _ _ _ _ _ (c3 .named3 .ensures) (c3 .before .before .of-state3 .ensures)
+    (or _ _ _ _ _ _ _ (c2 .named2 .ensures) (c2 .before .before .of-state2 .ensures)
+    (or _ _ _ _ _ _ _ (c1 .named .ensures) (c1 .before .before .of-state .ensures) refl))))))
 
 pub state-row-spec : {M : Type 1} → statement M
 state-row-spec =
     tie.close
     (tie.spec
-    slice-aggregate-same
-    same-requires
-    asks-requires
-    returns
-    slice-aggregate-same-2
-    same-requires-2
-    asks-requires-2
-    returns-2
-    slice-aggregate-same-3
-    same-requires-3
-    asks-requires-3
-    returns-3
-    slice-aggregate-same-4
-    same-requires-4
-    asks-requires-4
-    returns-4
-    asks-requires-5
-    returns-5)
+    of-state-requires
+    slice-aggregate-named
+    named-requires
+    of-state-requires-2
+    slice-aggregate-named-2
+    named-requires-2
+    of-state-requires-3
+    slice-aggregate-named-3
+    named-requires-3
+    of-state-requires-4
+    slice-aggregate-named-4
+    named-requires-4
+    of-state-requires-5
+    slice-aggregate-named-5
+    named-requires-5
+    of-state-requires-6
+    slice-aggregate-named-6
+    named-requires-6
+    of-state-requires-7
+    slice-aggregate-named-7
+    named-requires-7
+    returns)

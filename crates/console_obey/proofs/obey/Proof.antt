@@ -3,8 +3,8 @@
 use mathlib.Core.Path.{sym, _∙_}
 use lib.ListN.{length-take}
 use borrow.Author.Tests.{not-true, not-false}
-use native.Mathlib.Omega.{arith}
 use Rattle.console_obey.proofs.Obeys.{obeys, stays}
+use native.Mathlib.Omega.{arith}
 use borrow.Author.Needs.{needs}
 use Rattle.console_obey.proofs.obey.Statement.{statement}
 use Rattle.console_obey.proofs.obey.Tie as tie
@@ -20,38 +20,35 @@ returns c =
     let a = c .before .before .before .before .before .args in
     stays (a .d) (a .line .now) (a .out .now) (a .at) (sym (c .before .has-room .ensures) ∙ not-true _ (c .if1 .taken))
 
-slice-aggregate-hex-behind : tie.Need-slice-aggregate-hex-behind
-slice-aggregate-hex-behind c = search needs
-
-hex-behind-requires : tie.Need-hex-behind-requires
-hex-behind-requires c κs = search needs
-
 parse-requires : tie.Need-parse-requires
 parse-requires c κs = search needs
+
+slice-aggregate-text-bytes : tie.Need-slice-aggregate-text-bytes
+slice-aggregate-text-bytes c = search needs
+
+text-bytes-requires : tie.Need-text-bytes-requires
+text-bytes-requires c κs = search needs
 
 array-share-prefix-bytes : tie.Need-array-share-prefix-bytes
 array-share-prefix-bytes c = search needs
 
-slice-aggregate-after : tie.Need-slice-aggregate-after
-slice-aggregate-after c = simp length-take (omega (arith, c .before .before .before .hex-behind .ensures .0))
+slice-aggregate-command-step : tie.Need-slice-aggregate-command-step
+slice-aggregate-command-step c = simp length-take (omega (arith, c .before .before .text-bytes .ensures .0))
 
-after-requires : tie.Need-after-requires
-after-requires c κs = search needs
-
-tell-requires : tie.Need-tell-requires
-tell-requires c κs = search needs
+command-step-requires : tie.Need-command-step-requires
+command-step-requires c κs = sym (c .before .before .before .before .before .before .before .before .has-room .ensures) ∙ not-false _ (c .before .before .before .before .before .before .before .if1 .left)
 
 same-length-2 : tie.Need-same-length-2
 same-length-2 c = search needs
 
 returns-2 : tie.Need-returns-2
 returns-2 c =
-    let l = c .before .before .before .before .before in
-    let h = l .before .before .before .before in
-    let e = h .before .before in
-    let a = e .before .before .before .before .before .args in
-    obeys (a .d) (a .line .now) (a .out .now) (a .at) _ _ _ _ _ (sym (e .before .has-room .ensures) ∙ not-false _ (e .if1 .left))
-    (h .hex-behind .ensures .1) (l .before .before .parse .ensures) (l .after .ensures) (c .before .before .tell .ensures)
+    let h = c .before .before .before .before .before .before in
+    let p = h .before .before .before in
+    let i = p .before in
+    let a = i .before .before .before .before .before .args in
+    obeys (a .d) (a .line .now) (a .out .now) (a .at) _ _ _ _ (sym (i .before .has-room .ensures) ∙ not-false _ (i .if1 .left))
+    (p .parse .ensures) (h .text-bytes .ensures .1) (c .before .before .command-step .ensures)
 
 pub obey-spec : {M : Type 1} → statement M
 obey-spec =
@@ -60,12 +57,11 @@ obey-spec =
     has-room-requires
     same-length
     returns
-    slice-aggregate-hex-behind
-    hex-behind-requires
     parse-requires
+    slice-aggregate-text-bytes
+    text-bytes-requires
     array-share-prefix-bytes
-    slice-aggregate-after
-    after-requires
-    tell-requires
+    slice-aggregate-command-step
+    command-step-requires
     same-length-2
     returns-2)

@@ -13,10 +13,10 @@ use Rattle.console_parse.proofs.numbers.Statement.{statement}
 use Rattle.console_parse.proofs.numbers.Tie as tie
 
 abbrev Inv-loop : tie.InvT-loop
-Inv-loop line from count most kind ns₀ at₀ k₀ ns at k = (at ≤ length line) × (length most ≡ 5) × (length ns ≡ 5) × (filled k kind (drop k (take count most)) (drop at line) ns ≡ filled 0 kind (take count most) (drop from line) (zeros 5))
+Inv-loop line from count most command text ns₀ at₀ k₀ ns at k = (at ≤ length line) × (length most ≡ 5) × (length ns ≡ 5) × (filled (length line) command text k (drop k (take count most)) (drop at line) ns ≡ filled (length line) command text 0 (take count most) (drop from line) (zeros 5))
 
 abbrev μ-loop : tie.MeasureT-loop
-μ-loop line from count most kind ns₀ at₀ k₀ ns at k = 5 - k
+μ-loop line from count most command text ns₀ at₀ k₀ ns at k = 5 - k
 
 loop-holds : tie.Need-loop-holds Inv-loop μ-loop
 loop-holds c = (c .before .before .pre, sized (c .before .before .args .r .most) 5 (c .before .before .good .1 .1 .0 .1 .1 .1 .1 .0 .1 .0 .1), refl, refl)
@@ -25,7 +25,10 @@ ending-requires : tie.Need-ending-requires Inv-loop μ-loop
 ending-requires c κs = c .before .before .loop .inv .0
 
 returns : tie.Need-returns Inv-loop μ-loop
-returns c = finish _ (c .before .before .before .before .before .before .args .line .now) (c .before .before .before .before .before .before .args .r .most) (c .before .before .before .loop .ns) (c .before .before .before .before .before .before .args .r .count) (c .before .before .before .loop .k) (c .before .before .before .loop .at) _ _ (inl (c .before .if1 .taken)) (c .before .before .before .loop .inv .3 ∙ filled-asked _ _ (c .before .before .before .loop .inv .1)) (c .ending .ensures)
+returns c =
+    let a = c .before .before .before .before .before .before .args in
+    let l = c .before .before .before .loop in
+    finish _ _ _ (a .line .now) (a .r .most) (l .ns) (a .r .count) (l .k) (l .at) _ (l .inv .3 ∙ filled-asked _ (a .r) _ (l .inv .1)) _ (inl (c .before .if1 .taken)) (c .ending .ensures)
 
 mul-next-number : tie.Need-mul-next-number Inv-loop μ-loop
 mul-next-number c = search needs
@@ -52,7 +55,10 @@ bare-requires : tie.Need-bare-requires Inv-loop μ-loop
 bare-requires c κs = search needs
 
 returns-2 : tie.Need-returns-2 Inv-loop μ-loop
-returns-2 c = stop _ (c .before .before .before .before .before .before .before .before .before .args .line .now) (c .before .before .before .before .before .before .before .before .before .args .r .most) (c .before .before .before .before .before .before .loop .ns) (c .before .before .before .before .before .before .before .before .before .args .r .count) (c .before .before .before .before .before .before .loop .k) (c .before .before .before .before .before .before .loop .at) _ _ (c .before .before .before .before .if1 .left) (omega arith) (sym (c .before .before .before .next-number .ensures) ∙ c .before .enum-told .given .1) (c .before .before .before .before .before .before .loop .inv .3 ∙ filled-asked _ _ (c .before .before .before .before .before .before .loop .inv .1)) (c .bare .ensures)
+returns-2 c =
+    let l = c .before .before .before .before .before .before .loop in
+    let a = c .before .before .before .before .before .before .before .before .before .args in
+    stop _ _ _ (a .line .now) (a .r .most) (l .ns) (a .r .count) (l .k) (l .at) _ (l .inv .3 ∙ filled-asked _ (a .r) _ (l .inv .1)) _ (c .before .before .before .before .if1 .left) (omega arith) (sym (c .before .before .before .next-number .ensures) ∙ c .before .enum-told .given .1) (c .bare .ensures)
 
 add-k : tie.Need-add-k Inv-loop μ-loop
 add-k c = search needs
@@ -61,13 +67,20 @@ loop-less : tie.Need-loop-less Inv-loop μ-loop
 loop-less c = omega arith
 
 loop-again : tie.Need-loop-again Inv-loop μ-loop
-loop-again c = (let t = turn _ (c .before .before .before .before .before .before .before .before .before .args .line .now) (c .before .before .before .before .before .before .before .before .before .args .r .most) (c .before .before .before .before .before .before .loop .ns) (c .before .before .before .before .before .before .before .before .before .args .r .count) (c .before .before .before .before .before .before .loop .k) (c .before .before .before .before .before .before .loop .at) _ _ _ (c .before .before .before .before .before .before .loop .inv .0) (c .before .before .before .before .if1 .left) (omega arith) (sym (c .before .before .before .next-number .ensures) ∙ c .before .n .given .1) (c .before .before .before .before .before .before .loop .inv .3) in (t .0, c .before .before .before .before .before .before .loop .inv .1, simp length-set (c .before .before .before .before .before .before .loop .inv .2), t .1))
+loop-again c =
+    let l = c .before .before .before .before .before .before .loop in
+    let a = c .before .before .before .before .before .before .before .before .before .args in
+    let t = turn _ _ _ (a .line .now) (a .r .most) (l .ns) (a .r .count) (l .k) (l .at) _ (l .inv .3) _ _ (l .inv .0) (c .before .before .before .before .if1 .left) (omega arith) (sym (c .before .before .before .next-number .ensures) ∙ c .before .n .given .1) in
+    (t .0, l .inv .1, simp length-set (l .inv .2), t .1)
 
 ending-requires-2 : tie.Need-ending-requires-2 Inv-loop μ-loop
 ending-requires-2 c κs = c .before .loop .inv .0
 
 returns-3 : tie.Need-returns-3 Inv-loop μ-loop
-returns-3 c = finish _ (c .before .before .before .before .before .args .line .now) (c .before .before .before .before .before .args .r .most) (c .before .before .loop .ns) (c .before .before .before .before .before .args .r .count) (c .before .before .loop .k) (c .before .before .loop .at) _ _ (inr (omega arith)) (c .before .before .loop .inv .3 ∙ filled-asked _ _ (c .before .before .loop .inv .1)) (c .ending2 .ensures)
+returns-3 c =
+    let a = c .before .before .before .before .before .args in
+    let l = c .before .before .loop in
+    finish _ _ _ (a .line .now) (a .r .most) (l .ns) (a .r .count) (l .k) (l .at) _ (l .inv .3 ∙ filled-asked _ (a .r) _ (l .inv .1)) _ (inr (omega arith)) (c .ending2 .ensures)
 
 pub numbers-spec : {M : Type 1} → statement M
 numbers-spec =

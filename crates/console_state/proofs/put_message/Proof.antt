@@ -1,6 +1,6 @@
 -- `console_state::put_message` meets its contract.
 -- Assumes nothing.
-use Rattle.console_state.proofs.Ways.{message-out}
+use Rattle.console_state.proofs.Steps.{message-out}
 use Rattle.laws.proofs.Parts.{sized}
 use native.Mathlib.Omega.{arith}
 use borrow.Author.Needs.{needs}

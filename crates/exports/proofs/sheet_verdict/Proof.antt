@@ -2,15 +2,16 @@
 use borrow.Author.Needs.{needs}
 use mathlib.Core.Path.{ap, ap₂, subst, _∙_}
 use Rattle.rules.specs.declared.ReadResult.{ReadResult}
-use Rattle.exports.specs.Codes.{halves, verdictCode, SheetVerdict}
+use Rattle.load_check.specs.Sheets.{SheetVerdict}
+use Rattle.exports.specs.Codes.{halves, verdictCode}
 use Rattle.exports.proofs.sheet_verdict.Statement.{statement}
 use Rattle.exports.proofs.sheet_verdict.Tie as tie
 
 read-requires : tie.Need-read-requires
 read-requires c κs = search needs
 
-verdict-by-requires : tie.Need-verdict-by-requires
-verdict-by-requires c κs = search needs
+sheet-verdict-requires : tie.Need-sheet-verdict-requires
+sheet-verdict-requires c κs = search needs
 
 kind-of-requires : tie.Need-kind-of-requires
 kind-of-requires c κs = search needs
@@ -25,8 +26,8 @@ returns : tie.Need-returns
 unfolding verdictCode
 returns c =
     record {
-      given = c .before .before .before .verdict-by .result;
-      is-verdict = subst (λ (r : ReadResult). SheetVerdict (r .answer) (r .set) (c .before .before .before .verdict-by .result)) (c .before .before .before .before .before .read .ensures) (c .before .before .before .verdict-by .ensures);
+      given = c .before .before .before .sheet-verdict .result;
+      is-verdict = subst (λ (r : ReadResult). SheetVerdict (r .answer) (r .set) (c .before .before .before .sheet-verdict .result)) (c .before .before .before .before .before .read .ensures) (c .before .before .before .sheet-verdict .ensures);
       code = c .in-halves .ensures ∙ ap₂ halves (c .before .before .kind-of .ensures) (c .before .length-of .ensures);
     }
 
@@ -35,7 +36,7 @@ sheet-verdict-spec =
     tie.close
     (tie.spec
     read-requires
-    verdict-by-requires
+    sheet-verdict-requires
     kind-of-requires
     length-of-requires
     in-halves-requires

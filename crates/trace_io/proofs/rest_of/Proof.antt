@@ -9,10 +9,10 @@ use Rattle.trace_io.proofs.rest_of.Statement.{statement}
 use Rattle.trace_io.proofs.rest_of.Tie as tie
 
 abbrev Inv-loop : tie.InvT-loop
-Inv-loop fd run n piece₀ i₀ piece i = length piece ≡ 64
+Inv-loop fd t n piece₀ i₀ piece i = length piece ≡ 64
 
 abbrev μ-loop : tie.MeasureT-loop
-μ-loop fd run n piece₀ i₀ piece i = 64 - i
+μ-loop fd t n piece₀ i₀ piece i = 64 - i
 
 loop-holds : tie.Need-loop-holds Inv-loop μ-loop
 loop-holds c = search needs
@@ -20,11 +20,11 @@ loop-holds c = search needs
 array-share-prefix-piece : tie.Need-array-share-prefix-piece Inv-loop μ-loop
 array-share-prefix-piece c = search needs
 
-slice-aggregate-told : tie.Need-slice-aggregate-told Inv-loop μ-loop
-slice-aggregate-told c = simp length-take (omega arith)
+slice-aggregate-print-piece : tie.Need-slice-aggregate-print-piece Inv-loop μ-loop
+slice-aggregate-print-piece c = simp length-take (omega arith)
 
-told-requires : tie.Need-told-requires Inv-loop μ-loop
-told-requires c κs = search needs
+print-piece-requires : tie.Need-print-piece-requires Inv-loop μ-loop
+print-piece-requires c κs = search needs
 
 end-line-requires : tie.Need-end-line-requires Inv-loop μ-loop
 end-line-requires c κs = search needs
@@ -61,8 +61,8 @@ rest-of-spec =
     μ-loop
     loop-holds
     array-share-prefix-piece
-    slice-aggregate-told
-    told-requires
+    slice-aggregate-print-piece
+    print-piece-requires
     end-line-requires
     say-requires
     returns

@@ -5,10 +5,10 @@ use Rattle.trace_io.proofs.run.Statement.{statement}
 use Rattle.trace_io.proofs.run.Tie as tie
 
 abbrev Inv-loop : tie.InvT-loop
-Inv-loop r₀ turns₀ r turns = Unit {0}
+Inv-loop t₀ turns₀ t turns = Unit {0}
 
 abbrev μ-loop : tie.MeasureT-loop
-μ-loop r₀ turns₀ r turns = turns
+μ-loop t₀ turns₀ t turns = turns
 
 read-sheet-requires : tie.Need-read-sheet-requires Inv-loop μ-loop
 read-sheet-requires c κs = tt

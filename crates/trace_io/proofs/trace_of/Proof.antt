@@ -5,10 +5,10 @@ use Rattle.trace_io.proofs.trace_of.Statement.{statement}
 use Rattle.trace_io.proofs.trace_of.Tie as tie
 
 abbrev Inv-loop : tie.InvT-loop
-Inv-loop fd n r₀ left₀ r left = Unit {0}
+Inv-loop fd n t₀ left₀ t left = Unit {0}
 
 abbrev μ-loop : tie.MeasureT-loop
-μ-loop fd n r₀ left₀ r left = left
+μ-loop fd n t₀ left₀ t left = left
 
 loop-holds : tie.Need-loop-holds Inv-loop μ-loop
 loop-holds c = search needs
@@ -19,11 +19,11 @@ slice-aggregate-read-full c = search needs
 read-full-requires : tie.Need-read-full-requires Inv-loop μ-loop
 read-full-requires c κs = search needs
 
-slice-aggregate-told : tie.Need-slice-aggregate-told Inv-loop μ-loop
-slice-aggregate-told c = search needs
+slice-aggregate-print-piece : tie.Need-slice-aggregate-print-piece Inv-loop μ-loop
+slice-aggregate-print-piece c = search needs
 
-told-requires : tie.Need-told-requires Inv-loop μ-loop
-told-requires c κs = search needs
+print-piece-requires : tie.Need-print-piece-requires Inv-loop μ-loop
+print-piece-requires c κs = search needs
 
 sub-left : tie.Need-sub-left Inv-loop μ-loop
 sub-left c = search needs
@@ -49,8 +49,8 @@ trace-of-spec =
     loop-holds
     slice-aggregate-read-full
     read-full-requires
-    slice-aggregate-told
-    told-requires
+    slice-aggregate-print-piece
+    print-piece-requires
     sub-left
     loop-less
     loop-again

@@ -4,7 +4,7 @@ use Prim.Native.Nat.{_-_, _*_, _≤_}
 use mathlib.Core.Path.{_≡_, refl}
 use mathlib.Core.List.{_++_}
 use lib.ListN.{length, take, drop}
-use Rattle.trace_steps.specs.Turns.{runOn, textOn}
+use Rattle.trace_steps.specs.Turns.{tracingOn, textOn}
 use Rattle.trace_steps.proofs.Bytes.{Going, feed-turn, feed-end}
 use native.Mathlib.Omega.{arith}
 use Rattle.trace_steps.proofs.feed.Statement.{statement}
@@ -17,7 +17,7 @@ abbrev μ-loop : tie.MeasureT-loop
 μ-loop piece out₀ r₀ at₀ i₀ out r at i = length piece - i
 
 loop-holds : tie.Need-loop-holds Inv-loop μ-loop
-loop-holds c = record { inside = omega arith; size = refl; low = omega arith; run = refl; text = refl; rest = refl }
+loop-holds c = record { inside = omega arith; size = refl; low = omega arith; tracing = refl; text = refl; rest = refl }
 
 shared-slice-read-take-byte : tie.Need-shared-slice-read-take-byte Inv-loop μ-loop
 shared-slice-read-take-byte c = c .before .loop-test .taken

@@ -1,240 +1,570 @@
-use native.Mathlib.Omega.{arith}
-use borrow.Author.Needs.{needs}
 use Prim.Native.Nat.{ℕ, _+_, _-_, _*_, _/_, _%_, _≤_, _<_}
 use mathlib.Core.List.{List}
-use mathlib.Core.Logic.{⊎-elim}
-use mathlib.Core.Path.{_≡_, refl, sym, _∙_}
-use lib.ListN.{length, replicate}
+use mathlib.Core.Path.{_≡_, refl, sym, ap, subst, _∙_}
+use lib.ListN.{length, length-set}
+use borrow.Author.Tests.{not-false, not-true}
 use Rattle.laws.specs.Bits.{bits}
-use Rattle.rules.specs.Streams.{noTuple}
+use Rattle.bits.specs.declared.Gathered.{Gathered}
 use Rattle.sheet_read.specs.declared.Point.{Point}
-use Rattle.sheet_read.specs.Reader.{run, tupledOf}
+use Rattle.sheet_read.specs.Table.{openedOf, refusalOf}
+use Rattle.sheet_read.specs.Reader.{pointAt, refusedOf, run}
 use Rattle.sheet_read.specs.Kept.{Kept}
-use Rattle.sheet_read.proofs.Turns.{ahead-kept, ahead-runs, both-lt, carried, end-le, fits, got-few, got-some, passed, place-few, rest, room, stored, tupled-more, tupled-same, turn-part, turns-end, v-small}
+use Rattle.sheet_read.proofs.Rows.{refusal-row}
+use Rattle.sheet_read.proofs.Turns.{ahead-kept, ahead-runs, both-lt, carried, end-le, fits, got-few, got-some, refused-stays, rest, stream-room, tuple-room, turn-count, turn-field, turn-padding, turn-part, turn-refused, turn-stream, turn-tuple, turn-whole, turned, turns-end}
+use native.Mathlib.Omega.{arith}
+use borrow.Author.Needs.{needs}
 use Rattle.sheet_read.proofs.feeding.feed.Statement.{statement}
 use Rattle.sheet_read.proofs.feeding.feed.Tie as tie
 use Rattle.sheet_read.proofs.feeding.feed.Reads as reads
 use Rattle.sheet_read.proofs.feeding.feed.Lts as lts
 use Rattle.bits.proofs.gather.Reads as gather-reads
-use Rattle.sheet_read.proofs.stages.after.Reads as after-reads
-use Rattle.sheet_read.proofs.stages.begun.Reads as begun-reads
-use Rattle.sheet_read.proofs.stages.is_offset.Reads as is-offset-reads
-use Rattle.sheet_read.proofs.stages.is_whole.Reads as is-whole-reads
+use Rattle.sheet_read.proofs.feeding.front.Reads as front-reads
 use Rattle.sheet_read.proofs.feeding.joined.Reads as joined-reads
 use Rattle.sheet_read.proofs.feeding.no_tuples.Reads as no-tuples-reads
+use Rattle.sheet_read.proofs.feeding.refused.Reads as refused-reads
 use Rattle.sheet_read.proofs.feeding.stream_in.Reads as stream-in-reads
 use Rattle.sheet_read.proofs.feeding.tuple_of.Reads as tuple-of-reads
+use Rattle.sheet_read.proofs.feeding.wide.Reads as wide-reads
+use Rattle.sheet_read.proofs.table.begun.Reads as begun-reads
+use Rattle.sheet_read.proofs.table.in_rule.Reads as in-rule-reads
+use Rattle.sheet_read.proofs.table.opened.Reads as opened-reads
+use Rattle.sheet_read.proofs.table.refusal.Reads as refusal-reads
 
 abbrev Inv-loop : tie.InvT-loop
-Inv-loop piece point₀ places₀ set₀ byte₀ bit₀ point places set byte bit =
-    (bit < 8) × (8 * byte + bit ≤ 8 * length piece) × Kept (carried point places set)
-    × (run (carried point places set) (rest piece (8 * byte + bit)) ≡ run (carried point₀ places₀ set₀) (bits piece))
+Inv-loop piece point₀ values₀ places₀ set₀ byte₀ bit₀ point values places set byte bit =
+    (bit < 8) × (8 * byte + bit ≤ 8 * length piece) × Kept (carried point values places set)
+    × (run (carried point values places set) (rest piece (8 * byte + bit)) ≡ run (carried point₀ values₀ places₀ set₀) (bits piece))
 
 abbrev μ-loop : tie.MeasureT-loop
-μ-loop piece point₀ places₀ set₀ byte₀ bit₀ point places set byte bit = 8 * length piece - (8 * byte + bit)
+μ-loop piece point₀ values₀ places₀ set₀ byte₀ bit₀ point values places set byte bit = 8 * length piece - (8 * byte + bit)
 
--- src/lib.rt:437:5
+-- src/feeding.rt:134:5
 loop-holds : tie.Need-loop-holds Inv-loop μ-loop
-loop-holds c = (omega arith, omega arith, c .before .before .before .before .pre, refl)
+loop-holds c = (omega arith, omega arith, c .before .before .before .before .before .pre, refl)
 
--- src/lib.rt:438:13
+-- src/feeding.rt:135:13
 gather-requires : tie.Need-gather-requires Inv-loop μ-loop
 gather-requires c κs = search needs
 
--- src/lib.rt:439:19
+-- src/feeding.rt:136:19
 add-end : tie.Need-add-end Inv-loop μ-loop
 add-end c =
-    let l = c .before .before .before .before .loop in
-    let t : List ℕ = c .before .before .before .before .before .before .before .before .before .args .piece .now in
-    let z : 0 < l .point .left = both-lt (l .byte) (length t) 0 (l .point .left) (c .before .before .if1 .taken) .1 in
-    omega (arith, got-few (l .point) (l .places) (l .set) t (8 * l .byte + l .bit) (l .inv .2) z (c .before .gather .result) (c .before .gather .ensures))
+    let a = c .before in
+    let l = a .before .before .before .loop in
+    let t : List ℕ = a .before .before .before .before .before .before .before .before .before .args .piece .now in
+    let w = turned (l .point) (l .values) (l .places) (l .set) t (l .byte) (l .bit) (a .gather .result) (l .inv .2) (a .before .if1 .taken) (a .gather .ensures) in
+    omega (arith, got-few w)
 
--- src/lib.rt:440:17
+-- src/feeding.rt:137:17
 cast-byte : tie.Need-cast-byte Inv-loop μ-loop
 cast-byte c = search needs
 
--- src/lib.rt:440:9
+-- src/feeding.rt:137:9
 add-byte : tie.Need-add-byte Inv-loop μ-loop
 add-byte c =
     let l = c .before .before .before .before .loop in
-    let t : List ℕ = c .before .before .before .before .before .before .before .before .before .args .piece .now in
-    let z : 0 < l .point .left = both-lt (l .byte) (length t) 0 (l .point .left) (c .before .before .if1 .taken) .1 in
-    omega (arith, got-few (l .point) (l .places) (l .set) t (8 * l .byte + l .bit) (l .inv .2) z (c .before .gather .result) (c .before .gather .ensures), end-le (l .point) (l .places) (l .set) t (8 * l .byte + l .bit) (l .inv .2) z (c .before .gather .result) (c .before .gather .ensures) (l .inv .1))
+    let t : List ℕ = c .before .before .before .before .before .before .before .before .before .before .args .piece .now in
+    omega (arith, got-few (turned (l .point) (l .values) (l .places) (l .set) t (l .byte) (l .bit) (c .before .gather .result) (l .inv .2) (c .before .before .if1 .taken) (c .before .gather .ensures)), end-le (turned (l .point) (l .values) (l .places) (l .set) t (l .byte) (l .bit) (c .before .gather .result) (l .inv .2) (c .before .before .if1 .taken) (c .before .gather .ensures)) (l .inv .1))
 
--- src/lib.rt:442:9
+-- src/feeding.rt:139:9
 joined-requires : tie.Need-joined-requires Inv-loop μ-loop
 joined-requires c κs =
-    let l = c .before .before .before .before .loop in
-    let t : List ℕ = c .before .before .before .before .before .before .before .before .before .args .piece .now in
-    let z : 0 < l .point .left = both-lt (l .byte) (length t) 0 (l .point .left) (c .before .before .if1 .taken) .1 in
-    fits (l .point) (l .places) (l .set) t (8 * l .byte + l .bit) (l .inv .2) z (c .before .gather .result) (c .before .gather .ensures)
+    let a = c .before in
+    let l = a .before .before .before .loop in
+    let t : List ℕ = a .before .before .before .before .before .before .before .before .before .args .piece .now in
+    let w = turned (l .point) (l .values) (l .places) (l .set) t (l .byte) (l .bit) (a .gather .result) (l .inv .2) (a .before .if1 .taken) (a .gather .ensures) in
+    fits w
 
--- src/lib.rt:447:21
+-- src/feeding.rt:143:21
 cast-v : tie.Need-cast-v Inv-loop μ-loop
 cast-v c =
-    let l = c .before .before .before .before .before .before .before .before .before .before .loop in
-    let t : List ℕ = c .before .before .before .before .before .before .before .before .before .before .before .before .before .before .before .args .piece .now in
-    let z : 0 < l .point .left = both-lt (l .byte) (length t) 0 (l .point .left) (c .before .before .before .before .before .before .before .before .if1 .taken) .1 in
-    omega (arith, v-small (l .point) (l .places) (l .set) t (8 * l .byte + l .bit) (l .inv .2) z (c .before .before .before .before .before .before .before .gather .result) (c .before .before .before .before .before .before .before .gather .ensures) (c .before .before .before .before .before .joined .result) (c .before .before .before .before .before .joined .ensures) (c .before .before .before .if2 .taken))
+    let a = c .before in
+    let l = a .before .before .before .before .before .before .before .loop in
+    let t : List ℕ = a .before .before .before .before .before .before .before .before .before .before .before .before .before .args .piece .now in
+    let g : Gathered = a .before .before .before .before .gather .result in
+    let n : Point = a .before .before .joined .result in
+    let w = turned (l .point) (l .values) (l .places) (l .set) t (l .byte) (l .bit) g (l .inv .2) (a .before .before .before .before .before .if1 .taken) (a .before .before .before .before .gather .ensures) in
+    let b = turn-whole w n (a .before .before .joined .ensures) (a .if2 .taken) in
+    omega (arith, b .small)
 
--- src/lib.rt:448:16
-is-offset-requires : tie.Need-is-offset-requires Inv-loop μ-loop
-is-offset-requires c κs = search needs
+-- src/feeding.rt:144:38
+array-read-in-rule : tie.Need-array-read-in-rule Inv-loop μ-loop
+array-read-in-rule c =
+    let a = c .before in
+    let l = a .before .before .before .before .before .before .before .loop in
+    let t : List ℕ = a .before .before .before .before .before .before .before .before .before .before .before .before .before .args .piece .now in
+    let g : Gathered = a .before .before .before .before .gather .result in
+    let n : Point = a .before .before .joined .result in
+    let w = turned (l .point) (l .values) (l .places) (l .set) t (l .byte) (l .bit) g (l .inv .2) (a .before .before .before .before .before .if1 .taken) (a .before .before .before .before .gather .ensures) in
+    omega (arith, w .kept .at .eight)
 
--- src/lib.rt:450:29
+-- src/feeding.rt:144:17
+in-rule-requires : tie.Need-in-rule-requires Inv-loop μ-loop
+in-rule-requires c κs = search needs
+
+-- src/feeding.rt:145:32
+refusal-requires : tie.Need-refusal-requires Inv-loop μ-loop
+refusal-requires c κs = search needs
+
+-- src/feeding.rt:145:17
+refused-requires : tie.Need-refused-requires Inv-loop μ-loop
+refused-requires c κs =
+    let a = c .before .before .before .before in
+    let l = a .before .before .before .before .before .before .before .loop in
+    let t : List ℕ = a .before .before .before .before .before .before .before .before .before .before .before .before .before .args .piece .now in
+    let g : Gathered = a .before .before .before .before .gather .result in
+    let n : Point = a .before .before .joined .result in
+    let w = turned (l .point) (l .values) (l .places) (l .set) t (l .byte) (l .bit) g (l .inv .2) (a .before .before .before .before .before .if1 .taken) (a .before .before .before .before .gather .ensures) in
+    let b = turn-whole w n (a .before .before .joined .ensures) (a .if2 .taken) in
+    (b .at .few, b .at .streams)
+
+-- src/feeding.rt:145:17
+returns : tie.Need-returns Inv-loop μ-loop
+returns c =
+    let a = c .before .before .before .before .before in
+    let l = a .before .before .before .before .before .before .before .loop in
+    let t : List ℕ = a .before .before .before .before .before .before .before .before .before .before .before .before .before .args .piece .now in
+    let g : Gathered = a .before .before .before .before .gather .result in
+    let n : Point = a .before .before .joined .result in
+    let w = turned (l .point) (l .values) (l .places) (l .set) t (l .byte) (l .bit) g (l .inv .2) (a .before .before .before .before .before .if1 .taken) (a .before .before .before .before .gather .ensures) in
+    let b = turn-whole w n (a .before .before .joined .ensures) (a .if2 .taken) in
+    let r = sym (c .before .before .before .in-rule .ensures) ∙ not-true _ (c .before .before .if3 .taken) in
+    let e = c .refused .ensures ∙ ap refusedOf (c .before .refusal .ensures) in
+    e ∙ refused-stays (refusalOf (n .row)) _ t (8 * (l .byte + (l .bit + g .got) / 8) + (l .bit + g .got) % 8) (refusal-row (n .row) .0) (ahead-runs w _ _ (8 * (l .byte + (l .bit + g .got) / 8) + (l .bit + g .got) % 8) (turn-refused b r) (omega arith) (l .inv .3))
+
+-- src/feeding.rt:148:38
+array-read-tuple-of : tie.Need-array-read-tuple-of Inv-loop μ-loop
+array-read-tuple-of c =
+    let a = c .before .before .before .before in
+    let l = a .before .before .before .before .before .before .before .loop in
+    let t : List ℕ = a .before .before .before .before .before .before .before .before .before .before .before .before .before .args .piece .now in
+    let g : Gathered = a .before .before .before .before .gather .result in
+    let n : Point = a .before .before .joined .result in
+    let w = turned (l .point) (l .values) (l .places) (l .set) t (l .byte) (l .bit) g (l .inv .2) (a .before .before .before .before .before .if1 .taken) (a .before .before .before .before .gather .ensures) in
+    omega (arith, w .kept .at .eight)
+
+-- src/feeding.rt:148:29
 tuple-of-requires : tie.Need-tuple-of-requires Inv-loop μ-loop
 tuple-of-requires c κs = search needs
 
--- src/lib.rt:450:17
+-- src/feeding.rt:148:17
 mul-places : tie.Need-mul-places Inv-loop μ-loop
 mul-places c =
-    let l = c .before .before .before .before .before .before .before .before .before .before .before .before .before .loop in
-    let t : List ℕ = c .before .before .before .before .before .before .before .before .before .before .before .before .before .before .before .before .before .before .args .piece .now in
-    let z : 0 < l .point .left = both-lt (l .byte) (length t) 0 (l .point .left) (c .before .before .before .before .before .before .before .before .before .before .before .if1 .taken) .1 in
-    omega (arith, room (l .point) (l .places) (l .set) t (8 * l .byte + l .bit) (l .inv .2) z (c .before .before .before .before .before .before .before .before .before .before .gather .result) (c .before .before .before .before .before .before .before .before .before .before .gather .ensures) (c .before .before .before .before .before .before .before .before .joined .result) (c .before .before .before .before .before .before .before .before .joined .ensures) (c .before .before .before .before .before .before .if2 .taken))
+    let a = c .before .before .before .before .before in
+    let l = a .before .before .before .before .before .before .before .loop in
+    let t : List ℕ = a .before .before .before .before .before .before .before .before .before .before .before .before .before .args .piece .now in
+    let g : Gathered = a .before .before .before .before .gather .result in
+    let n : Point = a .before .before .joined .result in
+    let w = turned (l .point) (l .values) (l .places) (l .set) t (l .byte) (l .bit) g (l .inv .2) (a .before .before .before .before .before .if1 .taken) (a .before .before .before .before .gather .ensures) in
+    let b = turn-whole w n (a .before .before .joined .ensures) (a .if2 .taken) in
+    let r = sym (c .before .before .before .in-rule .ensures) ∙ not-false _ (c .before .before .if3 .left) in
+    omega (arith, tuple-room b r (c .before .if4 .taken))
 
--- src/lib.rt:450:17
+-- src/feeding.rt:148:17
 array-set-from-places : tie.Need-array-set-from-places Inv-loop μ-loop
 array-set-from-places c =
-    let l = c .before .before .before .before .before .before .before .before .before .before .before .before .before .loop in
-    let t : List ℕ = c .before .before .before .before .before .before .before .before .before .before .before .before .before .before .before .before .before .before .args .piece .now in
-    let z : 0 < l .point .left = both-lt (l .byte) (length t) 0 (l .point .left) (c .before .before .before .before .before .before .before .before .before .before .before .if1 .taken) .1 in
-    room (l .point) (l .places) (l .set) t (8 * l .byte + l .bit) (l .inv .2) z (c .before .before .before .before .before .before .before .before .before .before .gather .result) (c .before .before .before .before .before .before .before .before .before .before .gather .ensures) (c .before .before .before .before .before .before .before .before .joined .result) (c .before .before .before .before .before .before .before .before .joined .ensures) (c .before .before .before .before .before .before .if2 .taken)
+    let a = c .before .before .before .before .before in
+    let l = a .before .before .before .before .before .before .before .loop in
+    let t : List ℕ = a .before .before .before .before .before .before .before .before .before .before .before .before .before .args .piece .now in
+    let g : Gathered = a .before .before .before .before .gather .result in
+    let n : Point = a .before .before .joined .result in
+    let w = turned (l .point) (l .values) (l .places) (l .set) t (l .byte) (l .bit) g (l .inv .2) (a .before .before .before .before .before .if1 .taken) (a .before .before .before .before .gather .ensures) in
+    let b = turn-whole w n (a .before .before .joined .ensures) (a .if2 .taken) in
+    let r = sym (c .before .before .before .in-rule .ensures) ∙ not-false _ (c .before .before .if3 .left) in
+    tuple-room b r (c .before .if4 .taken)
 
--- src/lib.rt:452:17
-after-requires : tie.Need-after-requires Inv-loop μ-loop
-after-requires c κs =
-    let l = c .before .before .before .before .before .before .before .before .before .before .before .before .loop in
-    let t : List ℕ = c .before .before .before .before .before .before .before .before .before .before .before .before .before .before .before .before .before .args .piece .now in
-    let z : 0 < l .point .left = both-lt (l .byte) (length t) 0 (l .point .left) (c .before .before .before .before .before .before .before .before .before .before .if1 .taken) .1 in
-    room (l .point) (l .places) (l .set) t (8 * l .byte + l .bit) (l .inv .2) z (c .before .before .before .before .before .before .before .before .before .gather .result) (c .before .before .before .before .before .before .before .before .before .gather .ensures) (c .before .before .before .before .before .before .before .joined .result) (c .before .before .before .before .before .before .before .joined .ensures) (c .before .before .before .before .before .if2 .taken)
+-- src/feeding.rt:149:29
+array-read-wide : tie.Need-array-read-wide Inv-loop μ-loop
+array-read-wide c =
+    let a = c .before .before .before .before .before in
+    let l = a .before .before .before .before .before .before .before .loop in
+    let t : List ℕ = a .before .before .before .before .before .before .before .before .before .before .before .before .before .args .piece .now in
+    let g : Gathered = a .before .before .before .before .gather .result in
+    let n : Point = a .before .before .joined .result in
+    let w = turned (l .point) (l .values) (l .places) (l .set) t (l .byte) (l .bit) g (l .inv .2) (a .before .before .before .before .before .if1 .taken) (a .before .before .before .before .gather .ensures) in
+    omega (arith, w .kept .at .eight)
 
--- src/lib.rt:453:13
+-- src/feeding.rt:149:24
+wide-requires : tie.Need-wide-requires Inv-loop μ-loop
+wide-requires c κs = search needs
+
+-- src/feeding.rt:150:21
+array-write-values : tie.Need-array-write-values Inv-loop μ-loop
+array-write-values c =
+    let a = c .before .before .before .before .before .before .before in
+    let l = a .before .before .before .before .before .before .before .loop in
+    let t : List ℕ = a .before .before .before .before .before .before .before .before .before .before .before .before .before .args .piece .now in
+    let g : Gathered = a .before .before .before .before .gather .result in
+    let n : Point = a .before .before .joined .result in
+    let w = turned (l .point) (l .values) (l .places) (l .set) t (l .byte) (l .bit) g (l .inv .2) (a .before .before .before .before .before .if1 .taken) (a .before .before .before .before .gather .ensures) in
+    omega (arith, w .kept .at .eight)
+
+-- src/feeding.rt:151:21
+array-write-values-2 : tie.Need-array-write-values-2 Inv-loop μ-loop
+array-write-values-2 c =
+    let a = c .before .before .before .before .before .before .before in
+    let l = a .before .before .before .before .before .before .before .loop in
+    let t : List ℕ = a .before .before .before .before .before .before .before .before .before .before .before .before .before .args .piece .now in
+    let g : Gathered = a .before .before .before .before .gather .result in
+    let n : Point = a .before .before .joined .result in
+    let w = turned (l .point) (l .values) (l .places) (l .set) t (l .byte) (l .bit) g (l .inv .2) (a .before .before .before .before .before .if1 .taken) (a .before .before .before .before .gather .ensures) in
+    omega (arith, length-set (l .values) 6 0, w .kept .at .eight)
+
+-- src/feeding.rt:152:56
+add-begun : tie.Need-add-begun Inv-loop μ-loop
+add-begun c =
+    let a = c .before .before .before .before .before .before .before in
+    let l = a .before .before .before .before .before .before .before .loop in
+    let t : List ℕ = a .before .before .before .before .before .before .before .before .before .before .before .before .before .args .piece .now in
+    let g : Gathered = a .before .before .before .before .gather .result in
+    let n : Point = a .before .before .joined .result in
+    let w = turned (l .point) (l .values) (l .places) (l .set) t (l .byte) (l .bit) g (l .inv .2) (a .before .before .before .before .before .if1 .taken) (a .before .before .before .before .gather .ensures) in
+    let b = turn-whole w n (a .before .before .joined .ensures) (a .if2 .taken) in
+    let r = sym (c .before .before .before .before .before .in-rule .ensures) ∙ not-false _ (c .before .before .before .before .if3 .left) in
+    omega (arith, tuple-room b r (c .before .before .before .if4 .taken))
+
+-- src/feeding.rt:152:21
 begun-requires : tie.Need-begun-requires Inv-loop μ-loop
 begun-requires c κs = search needs
 
--- src/lib.rt:455:16
-is-whole-requires : tie.Need-is-whole-requires Inv-loop μ-loop
-is-whole-requires c κs = search needs
+-- src/feeding.rt:134:5
+loop-less : tie.Need-loop-less Inv-loop μ-loop
+loop-less c =
+    let a = c .before .before .before .before .before .before .before .before in
+    let l = a .before .before .before .before .before .before .before .loop in
+    let t : List ℕ = a .before .before .before .before .before .before .before .before .before .before .before .before .before .args .piece .now in
+    let g : Gathered = a .before .before .before .before .gather .result in
+    let n : Point = a .before .before .joined .result in
+    let w = turned (l .point) (l .values) (l .places) (l .set) t (l .byte) (l .bit) g (l .inv .2) (a .before .before .before .before .before .if1 .taken) (a .before .before .before .before .gather .ensures) in
+    omega (arith, end-le w (l .inv .1), got-some w (omega (arith, both-lt (l .byte) (length t) 0 (l .point .left) (a .before .before .before .before .before .if1 .taken) .0)))
 
--- src/lib.rt:458:34
+-- src/feeding.rt:134:5
+loop-again : tie.Need-loop-again Inv-loop μ-loop
+loop-again c =
+    let a = c .before .before .before .before .before .before .before .before in
+    let l = a .before .before .before .before .before .before .before .loop in
+    let t : List ℕ = a .before .before .before .before .before .before .before .before .before .before .before .before .before .args .piece .now in
+    let g : Gathered = a .before .before .before .before .gather .result in
+    let n : Point = a .before .before .joined .result in
+    let w = turned (l .point) (l .values) (l .places) (l .set) t (l .byte) (l .bit) g (l .inv .2) (a .before .before .before .before .before .if1 .taken) (a .before .before .before .before .gather .ensures) in
+    let b = turn-whole w n (a .before .before .joined .ensures) (a .if2 .taken) in
+    let r = sym (c .before .before .before .before .before .before .in-rule .ensures) ∙ not-false _ (c .before .before .before .before .before .if3 .left) in
+    let e = turn-tuple b r (c .before .before .before .before .if4 .taken) (c .before .before .before .tuple-of .result) (c .before .before .before .tuple-of .ensures) (omega (arith, c .before .before .wide .ensures, c .before .if5 .taken)) (c .begun .result) (c .begun .ensures) in (
+      omega arith,
+      omega (arith, end-le w (l .inv .1)),
+      ahead-kept w _ e,
+      ahead-runs w _ _ (8 * (l .byte + (l .bit + g .got) / 8) + (l .bit + g .got) % 8) e (omega arith) (l .inv .3),
+    )
+
+-- src/feeding.rt:155:56
+add-stream-in : tie.Need-add-stream-in Inv-loop μ-loop
+add-stream-in c =
+    let a = c .before .before .before .before .before .before .before in
+    let l = a .before .before .before .before .before .before .before .loop in
+    let t : List ℕ = a .before .before .before .before .before .before .before .before .before .before .before .before .before .args .piece .now in
+    let g : Gathered = a .before .before .before .before .gather .result in
+    let n : Point = a .before .before .joined .result in
+    let w = turned (l .point) (l .values) (l .places) (l .set) t (l .byte) (l .bit) g (l .inv .2) (a .before .before .before .before .before .if1 .taken) (a .before .before .before .before .gather .ensures) in
+    let b = turn-whole w n (a .before .before .joined .ensures) (a .if2 .taken) in
+    let r = sym (c .before .before .before .before .before .in-rule .ensures) ∙ not-false _ (c .before .before .before .before .if3 .left) in
+    omega (arith, tuple-room b r (c .before .before .before .if4 .taken))
+
+-- src/feeding.rt:155:38
 stream-in-requires : tie.Need-stream-in-requires Inv-loop μ-loop
 stream-in-requires c κs = search needs
 
--- src/lib.rt:458:17
-mul-t32 : tie.Need-mul-t32 Inv-loop μ-loop
-mul-t32 c =
-    let l = c .before .before .before .before .before .before .before .before .before .before .before .before .before .before .before .before .before .before .loop in
-    let t : List ℕ = c .before .before .before .before .before .before .before .before .before .before .before .before .before .before .before .before .before .before .before .before .before .before .before .args .piece .now in
-    let z : 0 < l .point .left = both-lt (l .byte) (length t) 0 (l .point .left) (c .before .before .before .before .before .before .before .before .before .before .before .before .before .before .before .before .if1 .taken) .1 in
-    let n : Point = c .before .before .before .before .before .before .before .before .before .before .before .before .before .joined .result in
-    let us : c .before .before .before .before .before .before .if3 .places ≡ tupledOf (n .stage .field) (n .stage .head) (l .places) (n .acc) =
-    ⊎-elim (λ w. w .2 ∙ tupled-more (n .stage .field) (n .stage .head) (l .places) (n .acc) (w .1 .result) (sym (c .before .before .before .before .before .before .before .is-offset .ensures) ∙ w .0 .taken) (w .1 .ensures))
-    (λ w. w .1 ∙ tupled-same (n .stage .field) (n .stage .head) (l .places) (n .acc) (sym (c .before .before .before .before .before .before .before .is-offset .ensures) ∙ w .0 .left)) (c .before .before .before .before .before .before .if3 .came) in
-    omega (arith, place-few (l .point) (l .places) (l .set) t (8 * l .byte + l .bit) (l .inv .2) z (c .before .before .before .before .before .before .before .before .before .before .before .before .before .before .before .gather .result) (c .before .before .before .before .before .before .before .before .before .before .before .before .before .before .before .gather .ensures) (c .before .before .before .before .before .before .before .before .before .before .before .before .before .joined .result) (c .before .before .before .before .before .before .before .before .before .before .before .before .before .joined .ensures) (c .before .before .before .before .before .before .before .before .before .before .before .if2 .taken) (c .before .before .before .before .before .after .result) (c .before .before .before .before .begun .result) (c .before .before .before .before .before .before .if3 .places) (c .before .before .before .before .before .after .ensures) (c .before .before .before .before .begun .ensures) us (c .stream-in .result) (replicate 4 noTuple) (sym (c .before .before .before .is-whole .ensures) ∙ c .before .before .if4 .taken) (c .stream-in .ensures) refl)
+-- src/feeding.rt:155:21
+mul-t46 : tie.Need-mul-t46 Inv-loop μ-loop
+mul-t46 c =
+    let a = c .before .before .before .before .before .before .before .before in
+    let l = a .before .before .before .before .before .before .before .loop in
+    let t : List ℕ = a .before .before .before .before .before .before .before .before .before .before .before .before .before .args .piece .now in
+    let g : Gathered = a .before .before .before .before .gather .result in
+    let n : Point = a .before .before .joined .result in
+    let w = turned (l .point) (l .values) (l .places) (l .set) t (l .byte) (l .bit) g (l .inv .2) (a .before .before .before .before .before .if1 .taken) (a .before .before .before .before .gather .ensures) in
+    let b = turn-whole w n (a .before .before .joined .ensures) (a .if2 .taken) in
+    let r = sym (c .before .before .before .before .before .before .in-rule .ensures) ∙ not-false _ (c .before .before .before .before .before .if3 .left) in
+    omega (arith, stream-room b r (c .before .before .before .before .if4 .taken))
 
--- src/lib.rt:458:17
+-- src/feeding.rt:155:21
 element-set-from-set : tie.Need-element-set-from-set Inv-loop μ-loop
 element-set-from-set c =
-    let l = c .before .before .before .before .before .before .before .before .before .before .before .before .before .before .before .before .before .before .loop in
-    let t : List ℕ = c .before .before .before .before .before .before .before .before .before .before .before .before .before .before .before .before .before .before .before .before .before .before .before .args .piece .now in
-    let z : 0 < l .point .left = both-lt (l .byte) (length t) 0 (l .point .left) (c .before .before .before .before .before .before .before .before .before .before .before .before .before .before .before .before .if1 .taken) .1 in
-    let n : Point = c .before .before .before .before .before .before .before .before .before .before .before .before .before .joined .result in
-    let us : c .before .before .before .before .before .before .if3 .places ≡ tupledOf (n .stage .field) (n .stage .head) (l .places) (n .acc) =
-    ⊎-elim (λ w. w .2 ∙ tupled-more (n .stage .field) (n .stage .head) (l .places) (n .acc) (w .1 .result) (sym (c .before .before .before .before .before .before .before .is-offset .ensures) ∙ w .0 .taken) (w .1 .ensures))
-    (λ w. w .1 ∙ tupled-same (n .stage .field) (n .stage .head) (l .places) (n .acc) (sym (c .before .before .before .before .before .before .before .is-offset .ensures) ∙ w .0 .left)) (c .before .before .before .before .before .before .if3 .came) in
-    place-few (l .point) (l .places) (l .set) t (8 * l .byte + l .bit) (l .inv .2) z (c .before .before .before .before .before .before .before .before .before .before .before .before .before .before .before .gather .result) (c .before .before .before .before .before .before .before .before .before .before .before .before .before .before .before .gather .ensures) (c .before .before .before .before .before .before .before .before .before .before .before .before .before .joined .result) (c .before .before .before .before .before .before .before .before .before .before .before .before .before .joined .ensures) (c .before .before .before .before .before .before .before .before .before .before .before .if2 .taken) (c .before .before .before .before .before .after .result) (c .before .before .before .before .begun .result) (c .before .before .before .before .before .before .if3 .places) (c .before .before .before .before .before .after .ensures) (c .before .before .before .before .begun .ensures) us (c .stream-in .result) (replicate 4 noTuple) (sym (c .before .before .before .is-whole .ensures) ∙ c .before .before .if4 .taken) (c .stream-in .ensures) refl
+    let a = c .before .before .before .before .before .before .before .before in
+    let l = a .before .before .before .before .before .before .before .loop in
+    let t : List ℕ = a .before .before .before .before .before .before .before .before .before .before .before .before .before .args .piece .now in
+    let g : Gathered = a .before .before .before .before .gather .result in
+    let n : Point = a .before .before .joined .result in
+    let w = turned (l .point) (l .values) (l .places) (l .set) t (l .byte) (l .bit) g (l .inv .2) (a .before .before .before .before .before .if1 .taken) (a .before .before .before .before .gather .ensures) in
+    let b = turn-whole w n (a .before .before .joined .ensures) (a .if2 .taken) in
+    let r = sym (c .before .before .before .before .before .before .in-rule .ensures) ∙ not-false _ (c .before .before .before .before .before .if3 .left) in
+    stream-room b r (c .before .before .before .before .if4 .taken)
 
--- src/lib.rt:459:29
+-- src/feeding.rt:156:33
 add-set : tie.Need-add-set Inv-loop μ-loop
 add-set c =
-    let l = c .before .before .before .before .before .before .before .before .before .before .before .before .before .before .before .before .before .before .loop in
-    let t : List ℕ = c .before .before .before .before .before .before .before .before .before .before .before .before .before .before .before .before .before .before .before .before .before .before .before .args .piece .now in
-    let z : 0 < l .point .left = both-lt (l .byte) (length t) 0 (l .point .left) (c .before .before .before .before .before .before .before .before .before .before .before .before .before .before .before .before .if1 .taken) .1 in
-    let n : Point = c .before .before .before .before .before .before .before .before .before .before .before .before .before .joined .result in
-    let us : c .before .before .before .before .before .before .if3 .places ≡ tupledOf (n .stage .field) (n .stage .head) (l .places) (n .acc) =
-    ⊎-elim (λ w. w .2 ∙ tupled-more (n .stage .field) (n .stage .head) (l .places) (n .acc) (w .1 .result) (sym (c .before .before .before .before .before .before .before .is-offset .ensures) ∙ w .0 .taken) (w .1 .ensures))
-    (λ w. w .1 ∙ tupled-same (n .stage .field) (n .stage .head) (l .places) (n .acc) (sym (c .before .before .before .before .before .before .before .is-offset .ensures) ∙ w .0 .left)) (c .before .before .before .before .before .before .if3 .came) in
-    omega (arith, place-few (l .point) (l .places) (l .set) t (8 * l .byte + l .bit) (l .inv .2) z (c .before .before .before .before .before .before .before .before .before .before .before .before .before .before .before .gather .result) (c .before .before .before .before .before .before .before .before .before .before .before .before .before .before .before .gather .ensures) (c .before .before .before .before .before .before .before .before .before .before .before .before .before .joined .result) (c .before .before .before .before .before .before .before .before .before .before .before .before .before .joined .ensures) (c .before .before .before .before .before .before .before .before .before .before .before .if2 .taken) (c .before .before .before .before .before .after .result) (c .before .before .before .before .begun .result) (c .before .before .before .before .before .before .if3 .places) (c .before .before .before .before .before .after .ensures) (c .before .before .before .before .begun .ensures) us (c .stream-in .result) (replicate 4 noTuple) (sym (c .before .before .before .is-whole .ensures) ∙ c .before .before .if4 .taken) (c .stream-in .ensures) refl)
+    let a = c .before .before .before .before .before .before .before .before in
+    let l = a .before .before .before .before .before .before .before .loop in
+    let t : List ℕ = a .before .before .before .before .before .before .before .before .before .before .before .before .before .args .piece .now in
+    let g : Gathered = a .before .before .before .before .gather .result in
+    let n : Point = a .before .before .joined .result in
+    let w = turned (l .point) (l .values) (l .places) (l .set) t (l .byte) (l .bit) g (l .inv .2) (a .before .before .before .before .before .if1 .taken) (a .before .before .before .before .gather .ensures) in
+    let b = turn-whole w n (a .before .before .joined .ensures) (a .if2 .taken) in
+    let r = sym (c .before .before .before .before .before .before .in-rule .ensures) ∙ not-false _ (c .before .before .before .before .before .if3 .left) in
+    omega (arith, stream-room b r (c .before .before .before .before .if4 .taken))
 
--- src/lib.rt:460:26
+-- src/feeding.rt:157:56
+add-opened : tie.Need-add-opened Inv-loop μ-loop
+add-opened c =
+    let a = c .before .before .before .before .before .before .before .before in
+    let l = a .before .before .before .before .before .before .before .loop in
+    let t : List ℕ = a .before .before .before .before .before .before .before .before .before .before .before .before .before .args .piece .now in
+    let g : Gathered = a .before .before .before .before .gather .result in
+    let n : Point = a .before .before .joined .result in
+    let w = turned (l .point) (l .values) (l .places) (l .set) t (l .byte) (l .bit) g (l .inv .2) (a .before .before .before .before .before .if1 .taken) (a .before .before .before .before .gather .ensures) in
+    let b = turn-whole w n (a .before .before .joined .ensures) (a .if2 .taken) in
+    let r = sym (c .before .before .before .before .before .before .in-rule .ensures) ∙ not-false _ (c .before .before .before .before .before .if3 .left) in
+    omega (arith, stream-room b r (c .before .before .before .before .if4 .taken))
+
+-- src/feeding.rt:157:68
+array-read-wide-2 : tie.Need-array-read-wide-2 Inv-loop μ-loop
+array-read-wide-2 c =
+    let a = c .before .before .before .before .before .before .before .before in
+    let l = a .before .before .before .before .before .before .before .loop in
+    let t : List ℕ = a .before .before .before .before .before .before .before .before .before .before .before .before .before .args .piece .now in
+    let g : Gathered = a .before .before .before .before .gather .result in
+    let n : Point = a .before .before .joined .result in
+    let w = turned (l .point) (l .values) (l .places) (l .set) t (l .byte) (l .bit) g (l .inv .2) (a .before .before .before .before .before .if1 .taken) (a .before .before .before .before .gather .ensures) in
+    omega (arith, w .kept .at .eight)
+
+-- src/feeding.rt:157:63
+wide-requires-2 : tie.Need-wide-requires-2 Inv-loop μ-loop
+wide-requires-2 c κs = search needs
+
+-- src/feeding.rt:157:42
+opened-requires : tie.Need-opened-requires Inv-loop μ-loop
+opened-requires c κs = search needs
+
+-- src/feeding.rt:157:21
+begun-requires-2 : tie.Need-begun-requires-2 Inv-loop μ-loop
+begun-requires-2 c κs = search needs
+
+-- src/feeding.rt:158:30
+front-requires : tie.Need-front-requires Inv-loop μ-loop
+front-requires c κs = search needs
+
+-- src/feeding.rt:159:30
 no-tuples-requires : tie.Need-no-tuples-requires Inv-loop μ-loop
 no-tuples-requires c κs = search needs
 
--- src/lib.rt:437:5
-loop-less : tie.Need-loop-less Inv-loop μ-loop
-loop-less c =
-    let l = c .before .before .before .before .before .before .before .before .before .before .before .before .before .before .before .before .before .before .before .loop in
-    let t : List ℕ = c .before .before .before .before .before .before .before .before .before .before .before .before .before .before .before .before .before .before .before .before .before .before .before .before .args .piece .now in
-    let z : 0 < l .point .left = both-lt (l .byte) (length t) 0 (l .point .left) (c .before .before .before .before .before .before .before .before .before .before .before .before .before .before .before .before .before .if1 .taken) .1 in
-    omega (arith, end-le (l .point) (l .places) (l .set) t (8 * l .byte + l .bit) (l .inv .2) z (c .before .before .before .before .before .before .before .before .before .before .before .before .before .before .before .before .gather .result) (c .before .before .before .before .before .before .before .before .before .before .before .before .before .before .before .before .gather .ensures) (l .inv .1), got-some (l .point) (l .places) (l .set) t (8 * l .byte + l .bit) (l .inv .2) z (c .before .before .before .before .before .before .before .before .before .before .before .before .before .before .before .before .gather .result) (c .before .before .before .before .before .before .before .before .before .before .before .before .before .before .before .before .gather .ensures) (omega (arith, both-lt (l .byte) (length t) 0 (l .point .left) (c .before .before .before .before .before .before .before .before .before .before .before .before .before .before .before .before .before .if1 .taken) .0)))
-
--- src/lib.rt:437:5
-loop-again : tie.Need-loop-again Inv-loop μ-loop
-loop-again c =
-    let l = c .before .before .before .before .before .before .before .before .before .before .before .before .before .before .before .before .before .before .before .loop in
-    let t : List ℕ = c .before .before .before .before .before .before .before .before .before .before .before .before .before .before .before .before .before .before .before .before .before .before .before .before .args .piece .now in
-    let z : 0 < l .point .left = both-lt (l .byte) (length t) 0 (l .point .left) (c .before .before .before .before .before .before .before .before .before .before .before .before .before .before .before .before .before .if1 .taken) .1 in
-    let n : Point = c .before .before .before .before .before .before .before .before .before .before .before .before .before .before .joined .result in
-    let us : c .before .before .before .before .before .before .before .if3 .places ≡ tupledOf (n .stage .field) (n .stage .head) (l .places) (n .acc) =
-    ⊎-elim (λ w. w .2 ∙ tupled-more (n .stage .field) (n .stage .head) (l .places) (n .acc) (w .1 .result) (sym (c .before .before .before .before .before .before .before .before .is-offset .ensures) ∙ w .0 .taken) (w .1 .ensures))
-    (λ w. w .1 ∙ tupled-same (n .stage .field) (n .stage .head) (l .places) (n .acc) (sym (c .before .before .before .before .before .before .before .before .is-offset .ensures) ∙ w .0 .left)) (c .before .before .before .before .before .before .before .if3 .came) in
-    let e = stored (l .point) (l .places) (l .set) t (8 * l .byte + l .bit) (l .inv .2) z (c .before .before .before .before .before .before .before .before .before .before .before .before .before .before .before .before .gather .result) (c .before .before .before .before .before .before .before .before .before .before .before .before .before .before .before .before .gather .ensures) (c .before .before .before .before .before .before .before .before .before .before .before .before .before .before .joined .result) (c .before .before .before .before .before .before .before .before .before .before .before .before .before .before .joined .ensures) (c .before .before .before .before .before .before .before .before .before .before .before .before .if2 .taken) (c .before .before .before .before .before .before .after .result) (c .before .before .before .before .before .begun .result) (c .before .before .before .before .before .before .before .if3 .places) (c .before .before .before .before .before .before .after .ensures) (c .before .before .before .before .before .begun .ensures) us (c .before .stream-in .result) (c .no-tuples .result) (sym (c .before .before .before .before .is-whole .ensures) ∙ c .before .before .before .if4 .taken) (c .before .stream-in .ensures) (c .no-tuples .ensures) in (
-      omega arith,
-      omega (arith, end-le (l .point) (l .places) (l .set) t (8 * l .byte + l .bit) (l .inv .2) z (c .before .before .before .before .before .before .before .before .before .before .before .before .before .before .before .before .gather .result) (c .before .before .before .before .before .before .before .before .before .before .before .before .before .before .before .before .gather .ensures) (l .inv .1)),
-      ahead-kept (l .point) (l .places) (l .set) t (8 * l .byte + l .bit) (l .inv .2) z (c .before .before .before .before .before .before .before .before .before .before .before .before .before .before .before .before .gather .result) (c .before .before .before .before .before .before .before .before .before .before .before .before .before .before .before .before .gather .ensures) _ e,
-      ahead-runs (l .point) (l .places) (l .set) t (8 * l .byte + l .bit) (l .inv .2) z (c .before .before .before .before .before .before .before .before .before .before .before .before .before .before .before .before .gather .result) (c .before .before .before .before .before .before .before .before .before .before .before .before .before .before .before .before .gather .ensures) _ _ (8 * (l .byte + (l .bit + c .before .before .before .before .before .before .before .before .before .before .before .before .before .before .before .before .gather .result .got) / 8) + (l .bit + c .before .before .before .before .before .before .before .before .before .before .before .before .before .before .before .before .gather .result .got) % 8) e (omega arith) (l .inv .3),
-    )
-
--- src/lib.rt:437:5
+-- src/feeding.rt:134:5
 loop-less-2 : tie.Need-loop-less-2 Inv-loop μ-loop
 loop-less-2 c =
-    let l = c .before .before .before .before .before .before .before .before .before .before .before .before .before .before .before .before .loop in
-    let t : List ℕ = c .before .before .before .before .before .before .before .before .before .before .before .before .before .before .before .before .before .before .before .before .before .args .piece .now in
-    let z : 0 < l .point .left = both-lt (l .byte) (length t) 0 (l .point .left) (c .before .before .before .before .before .before .before .before .before .before .before .before .before .before .if1 .taken) .1 in
-    omega (arith, end-le (l .point) (l .places) (l .set) t (8 * l .byte + l .bit) (l .inv .2) z (c .before .before .before .before .before .before .before .before .before .before .before .before .before .gather .result) (c .before .before .before .before .before .before .before .before .before .before .before .before .before .gather .ensures) (l .inv .1), got-some (l .point) (l .places) (l .set) t (8 * l .byte + l .bit) (l .inv .2) z (c .before .before .before .before .before .before .before .before .before .before .before .before .before .gather .result) (c .before .before .before .before .before .before .before .before .before .before .before .before .before .gather .ensures) (omega (arith, both-lt (l .byte) (length t) 0 (l .point .left) (c .before .before .before .before .before .before .before .before .before .before .before .before .before .before .if1 .taken) .0)))
+    let a = c .before .before .before .before .before .before .before .before .before .before .before .before .before in
+    let l = a .before .before .before .before .before .before .before .loop in
+    let t : List ℕ = a .before .before .before .before .before .before .before .before .before .before .before .before .before .args .piece .now in
+    let g : Gathered = a .before .before .before .before .gather .result in
+    let n : Point = a .before .before .joined .result in
+    let w = turned (l .point) (l .values) (l .places) (l .set) t (l .byte) (l .bit) g (l .inv .2) (a .before .before .before .before .before .if1 .taken) (a .before .before .before .before .gather .ensures) in
+    omega (arith, end-le w (l .inv .1), got-some w (omega (arith, both-lt (l .byte) (length t) 0 (l .point .left) (a .before .before .before .before .before .if1 .taken) .0)))
 
--- src/lib.rt:437:5
+-- src/feeding.rt:134:5
 loop-again-2 : tie.Need-loop-again-2 Inv-loop μ-loop
 loop-again-2 c =
-    let l = c .before .before .before .before .before .before .before .before .before .before .before .before .before .before .before .before .loop in
-    let t : List ℕ = c .before .before .before .before .before .before .before .before .before .before .before .before .before .before .before .before .before .before .before .before .before .args .piece .now in
-    let z : 0 < l .point .left = both-lt (l .byte) (length t) 0 (l .point .left) (c .before .before .before .before .before .before .before .before .before .before .before .before .before .before .if1 .taken) .1 in
-    let n : Point = c .before .before .before .before .before .before .before .before .before .before .before .joined .result in
-    let us : c .before .before .before .before .if3 .places ≡ tupledOf (n .stage .field) (n .stage .head) (l .places) (n .acc) =
-    ⊎-elim (λ w. w .2 ∙ tupled-more (n .stage .field) (n .stage .head) (l .places) (n .acc) (w .1 .result) (sym (c .before .before .before .before .before .is-offset .ensures) ∙ w .0 .taken) (w .1 .ensures))
-    (λ w. w .1 ∙ tupled-same (n .stage .field) (n .stage .head) (l .places) (n .acc) (sym (c .before .before .before .before .before .is-offset .ensures) ∙ w .0 .left)) (c .before .before .before .before .if3 .came) in
-    let e = passed (l .point) (l .places) (l .set) t (8 * l .byte + l .bit) (l .inv .2) z (c .before .before .before .before .before .before .before .before .before .before .before .before .before .gather .result) (c .before .before .before .before .before .before .before .before .before .before .before .before .before .gather .ensures) (c .before .before .before .before .before .before .before .before .before .before .before .joined .result) (c .before .before .before .before .before .before .before .before .before .before .before .joined .ensures) (c .before .before .before .before .before .before .before .before .before .if2 .taken) (c .before .before .before .after .result) (c .before .before .begun .result) (c .before .before .before .before .if3 .places) (c .before .before .before .after .ensures) (c .before .before .begun .ensures) us (sym (c .before .is-whole .ensures) ∙ c .if4 .left) in (
+    let a = c .before .before .before .before .before .before .before .before .before .before .before .before .before in
+    let l = a .before .before .before .before .before .before .before .loop in
+    let t : List ℕ = a .before .before .before .before .before .before .before .before .before .before .before .before .before .args .piece .now in
+    let g : Gathered = a .before .before .before .before .gather .result in
+    let n : Point = a .before .before .joined .result in
+    let w = turned (l .point) (l .values) (l .places) (l .set) t (l .byte) (l .bit) g (l .inv .2) (a .before .before .before .before .before .if1 .taken) (a .before .before .before .before .gather .ensures) in
+    let b = turn-whole w n (a .before .before .joined .ensures) (a .if2 .taken) in
+    let r = sym (c .before .before .before .before .before .before .before .before .before .before .before .in-rule .ensures) ∙ not-false _ (c .before .before .before .before .before .before .before .before .before .before .if3 .left) in
+    let e = turn-stream b r (c .before .before .before .before .before .before .before .before .before .if4 .taken) (c .before .before .before .before .before .before .before .before .tuple-of .result) (c .before .before .before .before .before .before .before .before .tuple-of .ensures) (omega (arith, c .before .before .before .before .before .before .before .wide .ensures, c .before .before .before .before .before .before .if5 .left)) (c .before .before .before .before .before .stream-in .result) (c .before .before .begun2 .result) (c .before .front .result) (c .no-tuples .result) (c .before .before .before .before .before .stream-in .ensures)
+    (c .before .before .begun2 .ensures ∙ ap (λ (i : ℕ). pointAt i 0) (c .before .before .before .opened .ensures ∙ ap (openedOf (l .set .count + 1)) (c .before .before .before .before .wide2 .ensures))) (c .before .front .ensures) (c .no-tuples .ensures) in (
       omega arith,
-      omega (arith, end-le (l .point) (l .places) (l .set) t (8 * l .byte + l .bit) (l .inv .2) z (c .before .before .before .before .before .before .before .before .before .before .before .before .before .gather .result) (c .before .before .before .before .before .before .before .before .before .before .before .before .before .gather .ensures) (l .inv .1)),
-      ahead-kept (l .point) (l .places) (l .set) t (8 * l .byte + l .bit) (l .inv .2) z (c .before .before .before .before .before .before .before .before .before .before .before .before .before .gather .result) (c .before .before .before .before .before .before .before .before .before .before .before .before .before .gather .ensures) _ e,
-      ahead-runs (l .point) (l .places) (l .set) t (8 * l .byte + l .bit) (l .inv .2) z (c .before .before .before .before .before .before .before .before .before .before .before .before .before .gather .result) (c .before .before .before .before .before .before .before .before .before .before .before .before .before .gather .ensures) _ _ (8 * (l .byte + (l .bit + c .before .before .before .before .before .before .before .before .before .before .before .before .before .gather .result .got) / 8) + (l .bit + c .before .before .before .before .before .before .before .before .before .before .before .before .before .gather .result .got) % 8) e (omega arith) (l .inv .3),
+      omega (arith, end-le w (l .inv .1)),
+      ahead-kept w _ e,
+      ahead-runs w _ _ (8 * (l .byte + (l .bit + g .got) / 8) + (l .bit + g .got) % 8) e (omega arith) (l .inv .3),
     )
 
--- src/lib.rt:437:5
+-- src/feeding.rt:162:17
+array-write-values-3 : tie.Need-array-write-values-3 Inv-loop μ-loop
+array-write-values-3 c =
+    let a = c .before .before .before .before .before in
+    let l = a .before .before .before .before .before .before .before .loop in
+    let t : List ℕ = a .before .before .before .before .before .before .before .before .before .before .before .before .before .args .piece .now in
+    let g : Gathered = a .before .before .before .before .gather .result in
+    let n : Point = a .before .before .joined .result in
+    let w = turned (l .point) (l .values) (l .places) (l .set) t (l .byte) (l .bit) g (l .inv .2) (a .before .before .before .before .before .if1 .taken) (a .before .before .before .before .gather .ensures) in
+    omega (arith, w .kept .at .eight)
+
+-- src/feeding.rt:163:55
+wide-requires-3 : tie.Need-wide-requires-3 Inv-loop μ-loop
+wide-requires-3 c κs = search needs
+
+-- src/feeding.rt:163:38
+opened-requires-2 : tie.Need-opened-requires-2 Inv-loop μ-loop
+opened-requires-2 c κs = search needs
+
+-- src/feeding.rt:163:17
+begun-requires-3 : tie.Need-begun-requires-3 Inv-loop μ-loop
+begun-requires-3 c κs = search needs
+
+-- src/feeding.rt:134:5
 loop-less-3 : tie.Need-loop-less-3 Inv-loop μ-loop
 loop-less-3 c =
-    let l = c .before .before .before .before .before .before .before .loop in
-    let t : List ℕ = c .before .before .before .before .before .before .before .before .before .before .before .before .args .piece .now in
-    let z : 0 < l .point .left = both-lt (l .byte) (length t) 0 (l .point .left) (c .before .before .before .before .before .if1 .taken) .1 in
-    omega (arith, end-le (l .point) (l .places) (l .set) t (8 * l .byte + l .bit) (l .inv .2) z (c .before .before .before .before .gather .result) (c .before .before .before .before .gather .ensures) (l .inv .1), got-some (l .point) (l .places) (l .set) t (8 * l .byte + l .bit) (l .inv .2) z (c .before .before .before .before .gather .result) (c .before .before .before .before .gather .ensures) (omega (arith, both-lt (l .byte) (length t) 0 (l .point .left) (c .before .before .before .before .before .if1 .taken) .0)))
+    let a = c .before .before .before .before .before .before .before .before in
+    let l = a .before .before .before .before .before .before .before .loop in
+    let t : List ℕ = a .before .before .before .before .before .before .before .before .before .before .before .before .before .args .piece .now in
+    let g : Gathered = a .before .before .before .before .gather .result in
+    let n : Point = a .before .before .joined .result in
+    let w = turned (l .point) (l .values) (l .places) (l .set) t (l .byte) (l .bit) g (l .inv .2) (a .before .before .before .before .before .if1 .taken) (a .before .before .before .before .gather .ensures) in
+    omega (arith, end-le w (l .inv .1), got-some w (omega (arith, both-lt (l .byte) (length t) 0 (l .point .left) (a .before .before .before .before .before .if1 .taken) .0)))
 
--- src/lib.rt:437:5
+-- src/feeding.rt:134:5
 loop-again-3 : tie.Need-loop-again-3 Inv-loop μ-loop
 loop-again-3 c =
-    let l = c .before .before .before .before .before .before .before .loop in
-    let t : List ℕ = c .before .before .before .before .before .before .before .before .before .before .before .before .args .piece .now in
-    let z : 0 < l .point .left = both-lt (l .byte) (length t) 0 (l .point .left) (c .before .before .before .before .before .if1 .taken) .1 in
-    let e = turn-part (l .point) (l .places) (l .set) t (8 * l .byte + l .bit) (l .inv .2) z (c .before .before .before .before .gather .result) (c .before .before .before .before .gather .ensures) (c .before .before .joined .result) (c .before .before .joined .ensures) (c .if2 .left) in (
+    let a = c .before .before .before .before .before .before .before .before in
+    let l = a .before .before .before .before .before .before .before .loop in
+    let t : List ℕ = a .before .before .before .before .before .before .before .before .before .before .before .before .before .args .piece .now in
+    let g : Gathered = a .before .before .before .before .gather .result in
+    let n : Point = a .before .before .joined .result in
+    let w = turned (l .point) (l .values) (l .places) (l .set) t (l .byte) (l .bit) g (l .inv .2) (a .before .before .before .before .before .if1 .taken) (a .before .before .before .before .gather .ensures) in
+    let b = turn-whole w n (a .before .before .joined .ensures) (a .if2 .taken) in
+    let r = sym (c .before .before .before .before .before .before .in-rule .ensures) ∙ not-false _ (c .before .before .before .before .before .if3 .left) in
+    let e = turn-count b r (c .before .before .before .if6 .taken) (c .begun3 .result) (c .begun3 .ensures ∙ ap (λ (i : ℕ). pointAt i (n .tuples)) (c .before .opened2 .ensures ∙ ap (openedOf 0) (c .before .before .wide3 .ensures))) in (
       omega arith,
-      omega (arith, end-le (l .point) (l .places) (l .set) t (8 * l .byte + l .bit) (l .inv .2) z (c .before .before .before .before .gather .result) (c .before .before .before .before .gather .ensures) (l .inv .1)),
-      ahead-kept (l .point) (l .places) (l .set) t (8 * l .byte + l .bit) (l .inv .2) z (c .before .before .before .before .gather .result) (c .before .before .before .before .gather .ensures) _ e,
-      ahead-runs (l .point) (l .places) (l .set) t (8 * l .byte + l .bit) (l .inv .2) z (c .before .before .before .before .gather .result) (c .before .before .before .before .gather .ensures) _ _ (8 * (l .byte + (l .bit + c .before .before .before .before .gather .result .got) / 8) + (l .bit + c .before .before .before .before .gather .result .got) % 8) e (omega arith) (l .inv .3),
+      omega (arith, end-le w (l .inv .1)),
+      ahead-kept w _ e,
+      ahead-runs w _ _ (8 * (l .byte + (l .bit + g .got) / 8) + (l .bit + g .got) % 8) e (omega arith) (l .inv .3),
     )
 
--- src/lib.rt:428:1
-returns : tie.Need-returns Inv-loop μ-loop
-returns c = turns-end _ _ _ _ _ (c .before .before .loop .byte) (c .before .before .loop .bit) (c .if1 .left) (c .before .before .loop .inv .3)
+-- src/feeding.rt:165:17
+mul-values : tie.Need-mul-values Inv-loop μ-loop
+mul-values c = omega (arith, c .if7 .taken)
+
+-- src/feeding.rt:165:17
+array-write-values-4 : tie.Need-array-write-values-4 Inv-loop μ-loop
+array-write-values-4 c =
+    let a = c .before .before .before .before .before .before in
+    let l = a .before .before .before .before .before .before .before .loop in
+    let t : List ℕ = a .before .before .before .before .before .before .before .before .before .before .before .before .before .args .piece .now in
+    let g : Gathered = a .before .before .before .before .gather .result in
+    let n : Point = a .before .before .joined .result in
+    let w = turned (l .point) (l .values) (l .places) (l .set) t (l .byte) (l .bit) g (l .inv .2) (a .before .before .before .before .before .if1 .taken) (a .before .before .before .before .gather .ensures) in
+    omega (arith, w .kept .at .eight, c .if7 .taken)
+
+-- src/feeding.rt:166:38
+add-begun-2 : tie.Need-add-begun-2 Inv-loop μ-loop
+add-begun-2 c = omega (arith, c .if7 .taken)
+
+-- src/feeding.rt:166:17
+begun-requires-4 : tie.Need-begun-requires-4 Inv-loop μ-loop
+begun-requires-4 c κs = search needs
+
+-- src/feeding.rt:134:5
+loop-less-4 : tie.Need-loop-less-4 Inv-loop μ-loop
+loop-less-4 c =
+    let a = c .before .before .before .before .before .before .before in
+    let l = a .before .before .before .before .before .before .before .loop in
+    let t : List ℕ = a .before .before .before .before .before .before .before .before .before .before .before .before .before .args .piece .now in
+    let g : Gathered = a .before .before .before .before .gather .result in
+    let n : Point = a .before .before .joined .result in
+    let w = turned (l .point) (l .values) (l .places) (l .set) t (l .byte) (l .bit) g (l .inv .2) (a .before .before .before .before .before .if1 .taken) (a .before .before .before .before .gather .ensures) in
+    omega (arith, end-le w (l .inv .1), got-some w (omega (arith, both-lt (l .byte) (length t) 0 (l .point .left) (a .before .before .before .before .before .if1 .taken) .0)))
+
+-- src/feeding.rt:134:5
+loop-again-4 : tie.Need-loop-again-4 Inv-loop μ-loop
+loop-again-4 c =
+    let a = c .before .before .before .before .before .before .before in
+    let l = a .before .before .before .before .before .before .before .loop in
+    let t : List ℕ = a .before .before .before .before .before .before .before .before .before .before .before .before .before .args .piece .now in
+    let g : Gathered = a .before .before .before .before .gather .result in
+    let n : Point = a .before .before .joined .result in
+    let w = turned (l .point) (l .values) (l .places) (l .set) t (l .byte) (l .bit) g (l .inv .2) (a .before .before .before .before .before .if1 .taken) (a .before .before .before .before .gather .ensures) in
+    let b = turn-whole w n (a .before .before .joined .ensures) (a .if2 .taken) in
+    let r = sym (c .before .before .before .before .before .in-rule .ensures) ∙ not-false _ (c .before .before .before .before .if3 .left) in
+    let e = turn-field b r (c .before .before .before .if4 .left) (c .before .before .if6 .left) (c .begun4 .result) (c .begun4 .ensures) in (
+      omega arith,
+      omega (arith, end-le w (l .inv .1)),
+      ahead-kept w _ e,
+      ahead-runs w _ _ (8 * (l .byte + (l .bit + g .got) / 8) + (l .bit + g .got) % 8) e (omega arith) (l .inv .3),
+    )
+
+-- src/feeding.rt:168:38
+add-begun-3 : tie.Need-add-begun-3 Inv-loop μ-loop
+add-begun-3 c =
+    let a = c .before .before .before .before .before .before in
+    let l = a .before .before .before .before .before .before .before .loop in
+    let t : List ℕ = a .before .before .before .before .before .before .before .before .before .before .before .before .before .args .piece .now in
+    let g : Gathered = a .before .before .before .before .gather .result in
+    let n : Point = a .before .before .joined .result in
+    let w = turned (l .point) (l .values) (l .places) (l .set) t (l .byte) (l .bit) g (l .inv .2) (a .before .before .before .before .before .if1 .taken) (a .before .before .before .before .gather .ensures) in
+    let b = turn-whole w n (a .before .before .joined .ensures) (a .if2 .taken) in
+    omega (arith, b .row)
+
+-- src/feeding.rt:168:17
+begun-requires-5 : tie.Need-begun-requires-5 Inv-loop μ-loop
+begun-requires-5 c κs = search needs
+
+-- src/feeding.rt:134:5
+loop-less-5 : tie.Need-loop-less-5 Inv-loop μ-loop
+loop-less-5 c =
+    let a = c .before .before .before .before .before .before .before in
+    let l = a .before .before .before .before .before .before .before .loop in
+    let t : List ℕ = a .before .before .before .before .before .before .before .before .before .before .before .before .before .args .piece .now in
+    let g : Gathered = a .before .before .before .before .gather .result in
+    let n : Point = a .before .before .joined .result in
+    let w = turned (l .point) (l .values) (l .places) (l .set) t (l .byte) (l .bit) g (l .inv .2) (a .before .before .before .before .before .if1 .taken) (a .before .before .before .before .gather .ensures) in
+    omega (arith, end-le w (l .inv .1), got-some w (omega (arith, both-lt (l .byte) (length t) 0 (l .point .left) (a .before .before .before .before .before .if1 .taken) .0)))
+
+-- src/feeding.rt:134:5
+loop-again-5 : tie.Need-loop-again-5 Inv-loop μ-loop
+loop-again-5 c =
+    let a = c .before .before .before .before .before .before .before in
+    let l = a .before .before .before .before .before .before .before .loop in
+    let t : List ℕ = a .before .before .before .before .before .before .before .before .before .before .before .before .before .args .piece .now in
+    let g : Gathered = a .before .before .before .before .gather .result in
+    let n : Point = a .before .before .joined .result in
+    let w = turned (l .point) (l .values) (l .places) (l .set) t (l .byte) (l .bit) g (l .inv .2) (a .before .before .before .before .before .if1 .taken) (a .before .before .before .before .gather .ensures) in
+    let b = turn-whole w n (a .before .before .joined .ensures) (a .if2 .taken) in
+    let r = sym (c .before .before .before .before .before .in-rule .ensures) ∙ not-false _ (c .before .before .before .before .if3 .left) in
+    let e = turn-padding b r (c .before .if7 .left) (c .begun5 .result) (c .begun5 .ensures) in (
+      omega arith,
+      omega (arith, end-le w (l .inv .1)),
+      ahead-kept w _ e,
+      ahead-runs w _ _ (8 * (l .byte + (l .bit + g .got) / 8) + (l .bit + g .got) % 8) e (omega arith) (l .inv .3),
+    )
+
+-- src/feeding.rt:134:5
+loop-less-6 : tie.Need-loop-less-6 Inv-loop μ-loop
+loop-less-6 c =
+    let a = c in
+    let l = a .before .before .before .before .before .before .before .loop in
+    let t : List ℕ = a .before .before .before .before .before .before .before .before .before .before .before .before .before .args .piece .now in
+    let g : Gathered = a .before .before .before .before .gather .result in
+    let n : Point = a .before .before .joined .result in
+    let w = turned (l .point) (l .values) (l .places) (l .set) t (l .byte) (l .bit) g (l .inv .2) (a .before .before .before .before .before .if1 .taken) (a .before .before .before .before .gather .ensures) in
+    omega (arith, end-le w (l .inv .1), got-some w (omega (arith, both-lt (l .byte) (length t) 0 (l .point .left) (a .before .before .before .before .before .if1 .taken) .0)))
+
+-- src/feeding.rt:134:5
+loop-again-6 : tie.Need-loop-again-6 Inv-loop μ-loop
+loop-again-6 c =
+    let a = c in
+    let l = a .before .before .before .before .before .before .before .loop in
+    let t : List ℕ = a .before .before .before .before .before .before .before .before .before .before .before .before .before .args .piece .now in
+    let g : Gathered = a .before .before .before .before .gather .result in
+    let n : Point = a .before .before .joined .result in
+    let w = turned (l .point) (l .values) (l .places) (l .set) t (l .byte) (l .bit) g (l .inv .2) (a .before .before .before .before .before .if1 .taken) (a .before .before .before .before .gather .ensures) in
+    let e = turn-part w n (a .before .before .joined .ensures) (a .if2 .left) in (
+      omega arith,
+      omega (arith, end-le w (l .inv .1)),
+      ahead-kept w _ e,
+      ahead-runs w _ _ (8 * (l .byte + (l .bit + g .got) / 8) + (l .bit + g .got) % 8) e (omega arith) (l .inv .3),
+    )
+
+-- src/feeding.rt:124:1
+returns-2 : tie.Need-returns-2 Inv-loop μ-loop
+returns-2 c = turns-end _ _ _ _ _ _ (c .before .before .loop .byte) (c .before .before .loop .bit) (c .if1 .left) (c .before .before .loop .inv .3)
 
 pub feed-spec : {M : Type 1} → statement M
 feed-spec =
@@ -249,22 +579,53 @@ feed-spec =
     add-byte
     joined-requires
     cast-v
-    is-offset-requires
+    array-read-in-rule
+    in-rule-requires
+    refusal-requires
+    refused-requires
+    returns
+    array-read-tuple-of
     tuple-of-requires
     mul-places
     array-set-from-places
-    after-requires
+    array-read-wide
+    wide-requires
+    array-write-values
+    array-write-values-2
+    add-begun
     begun-requires
-    is-whole-requires
-    stream-in-requires
-    mul-t32
-    element-set-from-set
-    add-set
-    no-tuples-requires
     loop-less
     loop-again
+    add-stream-in
+    stream-in-requires
+    mul-t46
+    element-set-from-set
+    add-set
+    add-opened
+    array-read-wide-2
+    wide-requires-2
+    opened-requires
+    begun-requires-2
+    front-requires
+    no-tuples-requires
     loop-less-2
     loop-again-2
+    array-write-values-3
+    wide-requires-3
+    opened-requires-2
+    begun-requires-3
     loop-less-3
     loop-again-3
-    returns)
+    mul-values
+    array-write-values-4
+    add-begun-2
+    begun-requires-4
+    loop-less-4
+    loop-again-4
+    add-begun-3
+    begun-requires-5
+    loop-less-5
+    loop-again-5
+    loop-less-6
+    loop-again-6
+    returns-2)

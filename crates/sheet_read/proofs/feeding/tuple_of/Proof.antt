@@ -1,16 +1,16 @@
+use borrow.Author.Tests.{eq-eqb, ne-eqb}
 use native.Mathlib.Omega.{arith}
 use borrow.Author.Needs.{needs}
-use borrow.Author.Tests.{eq-eqb, ne-eqb}
 use Rattle.sheet_read.proofs.feeding.tuple_of.Statement.{statement}
 use Rattle.sheet_read.proofs.feeding.tuple_of.Tie as tie
 use Rattle.sheet_read.proofs.feeding.tuple_of.Reads as reads
 use Rattle.sheet_read.proofs.feeding.tuple_of.Lts as lts
 
--- src/lib.rt:237:1
+-- src/feeding.rt:22:1
 returns : tie.Need-returns
 returns c = simp (eq-eqb _ _ (c .if1 .taken))
 
--- src/lib.rt:237:1
+-- src/feeding.rt:22:1
 returns-2 : tie.Need-returns-2
 returns-2 c = simp (ne-eqb _ _ (c .if1 .left))
 

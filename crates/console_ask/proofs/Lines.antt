@@ -1,0 +1,52 @@
+-- A message's line, and that it takes no more bytes than a line has.
+-- Assumes nothing.
+use Prim.Native.Nat.{ℕ, _+_, _≤_}
+use native.Mathlib.Omega.{arith}
+use mathlib.Core.Path.{_≡_}
+use mathlib.Core.List.{List, [], _∷_, _++_}
+use lib.ListN.{length, length-append}
+use Rattle.rules.specs.declared.Message.{Message}
+use Rattle.line.specs.declared.Line.{Line}
+use Rattle.ascii.specs.Decimal.{letters, decimalOf, spaced}
+use Rattle.line.specs.Line.{lineRoom, holding, putOf, puts}
+use Rattle.ascii.proofs.Digits.{digits-short}
+use Rattle.line.proofs.Puts.{then}
+use Rattle.answer_words.specs.Words.{lineOf}
+use Rattle.answer_words.proofs.Lengths.{line-short}
+use Rattle.answer_words.proofs.Ends.{ended}
+use Rattle.console_ask.specs.Questions.{messageText}
+
+-- ---- lengths
+
+-- a number with its space, behind some words
+pub numbered : (w : List ℕ) (n : ℕ) → length (w ++ spaced (decimalOf n)) ≤ length w + 21
+numbered w n = omega (arith, length-append w (spaced (decimalOf n)), digits-short 20 n)
+
+four : (w : List ℕ) (a b c d : ℕ)
+    → length (w ++ spaced (decimalOf a) ++ spaced (decimalOf b) ++ spaced (decimalOf c) ++ spaced (decimalOf d)) ≤ length w + 84
+four w a b c d =
+    omega (
+      arith,
+      numbered (w ++ spaced (decimalOf a) ++ spaced (decimalOf b) ++ spaced (decimalOf c)) d,
+      numbered (w ++ spaced (decimalOf a) ++ spaced (decimalOf b)) c,
+      numbered (w ++ spaced (decimalOf a)) b,
+      numbered w a,
+    )
+
+pub message-short : (i : ℕ) (m : Message) → length (messageText i m) ≤ lineRoom
+unfolding messageText
+message-short i m =
+    line-short (letters "message" ++ spaced (decimalOf i) ++ spaced (decimalOf (m .stream)) ++ spaced (decimalOf (m .deadline)) ++ spaced (decimalOf (m .used)))
+    (omega (arith, four (letters "message") i (m .stream) (m .deadline) (m .used)))
+
+-- ---- a message's line
+
+pub message-is : (b f u v r : Line) (i : ℕ) (m : Message) → b ≡ holding []
+    → f ≡ puts b (letters "message" ++ spaced (decimalOf i) ++ spaced (decimalOf (m .stream)))
+    → u ≡ puts f (spaced (decimalOf (m .deadline))) → v ≡ puts u (spaced (decimalOf (m .used))) → r ≡ putOf v 10
+    → r ≡ holding (messageText i m)
+unfolding messageText
+message-is b f u v r i m e p q x y =
+    ended b v r
+    (letters "message" ++ spaced (decimalOf i) ++ spaced (decimalOf (m .stream)) ++ spaced (decimalOf (m .deadline)) ++ spaced (decimalOf (m .used)))
+    (omega (arith, four (letters "message") i (m .stream) (m .deadline) (m .used))) e (then b u v _ _ (then b f u _ _ p q) x) y

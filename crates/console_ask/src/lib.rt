@@ -1,0 +1,174 @@
+// The console's questions: what each prints, put on a page.
+ghost use mathlib.Core.Path.{_≡_};
+ghost use mathlib.Core.Bool.{true};
+ghost use mathlib.Core.List.{_++_};
+ghost use Prim.Native.Nat.{_≤_};
+ghost use lib.ListN.{length, replicate};
+ghost use Rattle.ascii.specs.Decimal.{decimalOf, spaced};
+ghost use Rattle.line.specs.Line.{holding};
+ghost use Rattle.answer_words.specs.Words.{lineOf};
+ghost use Rattle.page.specs.Pages.{roomFor, Onto};
+ghost use Rattle.console_names.specs.Rows.{mostBytes};
+ghost use Rattle.console_ask.specs.Questions.{messageText, messageLine, messageLines, stateLines, sheetLines, writeLines, messagesRoom, answerRoom, Answered, Asks};
+use console_names::NUMBERS;
+use console_names::Question;
+use line::Line;
+use rules::Message;
+use rules::Set;
+use rules::State;
+
+// Room for any answer: a line for a state's clock, one for its count, and one for each of its messages.
+pub const ROOM: usize = (2 + 64) * line::ROOM;
+
+// The longest buffer for a sheet.
+const MOST_BYTES: usize = console_names::MOST_BYTES as usize;
+
+// ---- the state
+
+fn message_line(i: usize, m: Message) -> Line
+    ensures { λ r. ⌜ r ≡ holding (messageText i m) ⌝ }
+{
+    let front = line::two(line::blank(), b"message", i as u64, m.stream as u64);
+    line::put(
+        line::number(line::number(front, m.deadline as u64), m.used as u64),
+        b'\n',
+    )
+}
+
+// A place that is all zero is left out.
+fn message_onto(i: usize, m: Message, out: &mut [u8], at: usize) -> usize
+    ensures { λ r. ⌜ Onto (now (out .entry)) at (messageLine i m) r (now (out .exit)) ⌝ }
+{
+    if (m.stream == 0) & ((m.deadline == 0) & (m.used == 0)) {
+        at
+    } else {
+        page::append(out, at, message_line(i, m))
+    }
+}
+
+fn messages_onto(s: State, out: &mut [u8], at: usize) -> usize
+    requires { ⌜ roomFor (now out) at messagesRoom ≡ true ⌝ }
+    ensures { λ r. ⌜ Onto (now (out .entry)) at (messageLines 0 (s .messages)) r (now (out .exit)) ⌝ }
+{
+    let messages = s.messages;
+    let mut end = at;
+    let mut i = 0;
+    while i < 64 {
+        end = message_onto(i, messages[i], out, end);
+        i += 1;
+    }
+    end
+}
+
+// A word and a number, as a line.
+fn number_line(w: &[u8], n: u64) -> Line
+    requires { ⌜ length (now w) ≤ 64 ⌝ }
+    ensures { λ r. ⌜ r ≡ holding (lineOf (now (w .entry) ++ spaced (decimalOf n))) ⌝ }
+{
+    line::put(line::one(line::blank(), w, n), b'\n')
+}
+
+fn state_onto(s: State, out: &mut [u8], at: usize) -> usize
+    requires { ⌜ roomFor (now out) at answerRoom ≡ true ⌝ }
+    ensures { λ r. ⌜ Onto (now (out .entry)) at (stateLines s) r (now (out .exit)) ⌝ }
+{
+    let clock = s.clock;
+    let count = s.count;
+    let a = page::append(out, at, number_line(b"clock", clock as u64));
+    let b = page::append(out, a, number_line(b"pending", count as u64));
+    messages_onto(s, out, b)
+}
+
+// ---- the set's sheet
+
+// The set's sheet in a buffer, and the whole buffer in hex.
+fn sheet_onto(x: Set, bytes: &mut [u8], out: &mut [u8], at: usize) -> usize
+    requires { ⌜ (length (now bytes) ≤ mostBytes) × (roomFor (now out) at answerRoom ≡ true) ⌝ }
+    ensures { λ r. ⌜ Onto (now (out .entry)) at (sheetLines x (now (bytes .entry))) r (now (out .exit)) ⌝ }
+{
+    let answer = sheet_write::write(x, bytes);
+    let end = page::append(out, at, console_words::write_line(answer));
+    let last = page_hex::print(bytes, out, end);
+    page::append(out, last, console_words::empty_line())
+}
+
+// The buffer is the first n of these bytes.
+fn sheet_within(x: Set, bytes: &mut [u8], n: usize, out: &mut [u8], at: usize) -> usize
+    requires { ⌜ (now bytes ≡ replicate mostBytes 170) × (roomFor (now out) at answerRoom ≡ true) ⌝ }
+    ensures { λ r. ⌜ Onto (now (out .entry)) at (writeLines x n) r (now (out .exit)) ⌝ }
+{
+    if bytes.len() < n {
+        return page::append(out, at, console_words::unknown_line());
+    }
+    sheet_onto(x, &mut bytes[..n], out, at)
+}
+
+fn write_onto(x: Set, len: u32, out: &mut [u8], at: usize) -> usize
+    requires { ⌜ roomFor (now out) at answerRoom ≡ true ⌝ }
+    ensures { λ r. ⌜ Onto (now (out .entry)) at (writeLines x len) r (now (out .exit)) ⌝ }
+{
+    let mut bytes = [170u8; MOST_BYTES];
+    sheet_within(x, &mut bytes, len as usize, out, at)
+}
+
+// ---- every question
+
+fn question_onto(
+    x: Set,
+    s: State,
+    q: Question,
+    n: [u32; NUMBERS],
+    out: &mut [u8],
+    at: usize,
+) -> usize
+    requires { ⌜ roomFor (now out) at answerRoom ≡ true ⌝ }
+    ensures { λ r. ⌜ Answered q n x s (now (out .entry)) at r (now (out .exit)) ⌝ }
+{
+    match q {
+        Question::Write => write_onto(x, n[0], out, at),
+        Question::Valid => page::append(
+            out,
+            at,
+            console_words::valid_line(stream_valid::is_valid(x)),
+        ),
+        Question::Limit => page::append(
+            out,
+            at,
+            console_words::count_line(stream_limits::event_limit(x, n[0] as usize, n[1])),
+        ),
+        Question::Demand => page::append(
+            out,
+            at,
+            console_words::count_line(load_check::demand(x, n[0])),
+        ),
+        Question::Jitter => page::append(
+            out,
+            at,
+            console_words::jitter_line(stream_limits::jittered(n[0], n[1])),
+        ),
+        Question::Verdict => page::append(
+            out,
+            at,
+            answer_words::verdict_line(load_check::verdict(x)),
+        ),
+        Question::Choose => page::append(out, at, console_words::choose_line(scheduler::choose(s))),
+        Question::State => state_onto(s, out, at),
+        Question::Formed => page::append(
+            out,
+            at,
+            console_words::formed_line(state_formed::well_formed(s)),
+        ),
+    }
+}
+
+// What a question with these numbers prints, behind the first `at` bytes of a page, and where it ends. A page that has not room for any
+// answer stays as it is.
+pub fn ask(x: Set, s: State, q: Question, n: [u32; NUMBERS], out: &mut [u8], at: usize) -> usize
+    ensures { λ r. ⌜ Asks q n x s (now (out .entry)) at r (now (out .exit)) ⌝ }
+{
+    if page::has_room(out, at, ROOM) {
+        question_onto(x, s, q, n, out, at)
+    } else {
+        at
+    }
+}

@@ -1,0 +1,38 @@
+-- On a page that has the room for any answer, what a line prints stands there whole.
+-- Assumes nothing.
+use Prim.Native.Nat.{ℕ, _+_, _≤_}
+use native.Mathlib.Omega.{arith}
+use mathlib.Core.Path.{_≡_, ap, _∙_}
+use mathlib.Core.Bool.{true}
+use mathlib.Core.List.{List}
+use lib.ListN.{length}
+use lib.Seq.{paste}
+use Rattle.line.specs.Line.{lineRoom}
+use Rattle.page.specs.Pages.{roomFor}
+use Rattle.page.proofs.Prints.{printed-there, end-there}
+use Rattle.console_names.specs.declared.Command.{Command}
+use Rattle.console_names.specs.declared.Command.the-variants.{Nothing, Unknown, Set, State, Ask}
+use Rattle.console_set.proofs.Puts.{set-short}
+use Rattle.console_state.proofs.Steps.{state-short}
+use Rattle.console_ask.specs.Questions.{answerRoom}
+use Rattle.console_ask.proofs.Fits.{answer-fits}
+use Rattle.console_parse.specs.Lines.{orderOf}
+use Rattle.console_obey.specs.declared.Desk.{Desk}
+use Rattle.console_obey.specs.declared.Step.{Step}
+use Rattle.console_obey.specs.Obeyed.{Prints, textOf, Obeyed}
+
+-- a state of the machine has 64 places for messages
+pub command-fits : (k : Command) (ns text : List ℕ) (d : Desk) (w : List ℕ) → length (d .state .messages) ≡ 64 → Prints k ns text d w
+    → length w ≤ answerRoom
+command-fits Nothing ns text d w all p = omega (arith, ap length p)
+command-fits Unknown ns text d w all p = omega (arith, ap length p)
+command-fits (Set k) ns text d w all p = omega (arith, ap length p, set-short k text)
+command-fits (State k) ns text d w all p = omega (arith, ap length p, state-short k ns (d .set) (d .state))
+command-fits (Ask q) ns text d w all p = answer-fits q ns (d .set) (d .state) w all p
+
+pub obeyed-whole : (d : Desk) (line out : List ℕ) (at : ℕ) (r : Step) (page : List ℕ) (t : Obeyed d line out at r page)
+    → length (d .state .messages) ≡ 64 → roomFor out at answerRoom ≡ true
+    → (r .at ≡ at + length (t .bytes)) × (page ≡ paste out at (t .bytes) (length (t .bytes)))
+obeyed-whole d line out at r page t all room =
+    let fits : length (t .bytes) ≤ answerRoom = command-fits (orderOf line .command) (orderOf line .numbers) (textOf line) d (t .bytes) all (t .prints) in
+    (t .onto .0 ∙ end-there out (t .bytes) at answerRoom room fits, t .onto .1 ∙ printed-there out (t .bytes) at answerRoom room fits)

@@ -1,0 +1,97 @@
+-- `console_obey::command_step` meets its contract.
+-- Assumes nothing.
+use Rattle.console_obey.proofs.Obeys.{nothing-step, by-command}
+use borrow.Author.Needs.{needs}
+use Rattle.console_obey.proofs.command_step.Statement.{statement}
+use Rattle.console_obey.proofs.command_step.Tie as tie
+
+enum-told : tie.Need-enum-told
+enum-told c = search needs
+
+enum-told-2 : tie.Need-enum-told-2
+enum-told-2 c = search needs
+
+unknown-step-requires : tie.Need-unknown-step-requires
+unknown-step-requires c κs = search needs
+
+enum-known-k : tie.Need-enum-known-k
+enum-known-k c = search needs
+
+set-step-requires : tie.Need-set-step-requires
+set-step-requires c κs = search needs
+
+enum-known-k-2 : tie.Need-enum-known-k-2
+enum-known-k-2 c = search needs
+
+state-step-requires : tie.Need-state-step-requires
+state-step-requires c κs = search needs
+
+enum-known-k-3 : tie.Need-enum-known-k-3
+enum-known-k-3 c = search needs
+
+question-step-requires : tie.Need-question-step-requires
+question-step-requires c κs = search needs
+
+returns : tie.Need-returns
+returns c =
+    let a = c .before .before .before .before .args in
+    nothing-step (a .d) (a .n) (a .bytes .now) (a .out .now) (a .at) (a .k) (c .enum-told .given .1)
+
+same-length : tie.Need-same-length
+same-length c = search needs
+
+returns-2 : tie.Need-returns-2
+returns-2 c =
+    let e = c .before .before .before .before in
+    let a = e .before .before .before .before .args in
+    by-command (a .d) (a .n) (a .bytes .now) (a .out .now) (a .at) (a .k) _ _ _ (e .enum-told2 .given .1) (c .before .before .unknown-step .ensures)
+
+same-length-2 : tie.Need-same-length-2
+same-length-2 c = search needs
+
+returns-3 : tie.Need-returns-3
+returns-3 c =
+    let e = c .before .before .before .before .before in
+    let a = e .before .before .before .before .args in
+    by-command (a .d) (a .n) (a .bytes .now) (a .out .now) (a .at) (a .k) _ _ _ (e .k .given .1) (c .before .before .set-step .ensures)
+
+same-length-3 : tie.Need-same-length-3
+same-length-3 c = search needs
+
+returns-4 : tie.Need-returns-4
+returns-4 c =
+    let e = c .before .before .before .before .before in
+    let a = e .before .before .before .before .args in
+    by-command (a .d) (a .n) (a .bytes .now) (a .out .now) (a .at) (a .k) _ _ _ (e .k2 .given .1) (c .before .before .state-step .ensures)
+
+same-length-4 : tie.Need-same-length-4
+same-length-4 c = search needs
+
+returns-5 : tie.Need-returns-5
+returns-5 c =
+    let e = c .before .before .before .before .before in
+    let a = e .before .before .before .before .args in
+    by-command (a .d) (a .n) (a .bytes .now) (a .out .now) (a .at) (a .k) _ _ _ (e .k3 .given .1) (c .before .before .question-step .ensures)
+
+pub command-step-spec : {M : Type 1} → statement M
+command-step-spec =
+    tie.close
+    (tie.spec
+    enum-told
+    enum-told-2
+    unknown-step-requires
+    enum-known-k
+    set-step-requires
+    enum-known-k-2
+    state-step-requires
+    enum-known-k-3
+    question-step-requires
+    returns
+    same-length
+    returns-2
+    same-length-2
+    returns-3
+    same-length-3
+    returns-4
+    same-length-4
+    returns-5)

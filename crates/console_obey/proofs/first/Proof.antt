@@ -1,0 +1,18 @@
+-- `console_obey::first` meets its contract.
+-- Assumes nothing.
+use Rattle.console_obey.proofs.Obeys.{begun}
+use borrow.Author.Needs.{needs}
+use Rattle.console_obey.proofs.first.Statement.{statement}
+use Rattle.console_obey.proofs.first.Tie as tie
+
+empty-set-requires : tie.Need-empty-set-requires
+empty-set-requires c κs = search needs
+
+start-requires : tie.Need-start-requires
+start-requires c κs = search needs
+
+returns : tie.Need-returns
+returns c = begun _ _ (c .before .before .empty-set .ensures) (c .before .start .ensures)
+
+pub first-spec : {M : Type 1} → statement M
+first-spec = tie.close (tie.spec empty-set-requires start-requires returns)

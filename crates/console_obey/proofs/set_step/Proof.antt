@@ -1,0 +1,23 @@
+-- `console_obey::set_step` meets its contract.
+-- Assumes nothing.
+use Rattle.console_obey.proofs.Obeys.{set-step}
+use borrow.Author.Needs.{needs}
+use Rattle.console_obey.proofs.set_step.Statement.{statement}
+use Rattle.console_obey.proofs.set_step.Tie as tie
+
+after-requires : tie.Need-after-requires
+after-requires c κs = search needs
+
+append-requires : tie.Need-append-requires
+append-requires c κs = search needs
+
+same-length : tie.Need-same-length
+same-length c = search needs
+
+returns : tie.Need-returns
+returns c =
+    let a = c .before .before .before .before .before .before .before .before .before .args in
+    set-step (a .d) (a .n) (a .bytes .now) (a .out .now) (a .at) _ _ (a .k) _ (c .before .before .before .before .before .before .after .ensures) (c .before .before .append .ensures)
+
+pub set-step-spec : {M : Type 1} → statement M
+set-step-spec = tie.close (tie.spec after-requires append-requires same-length returns)

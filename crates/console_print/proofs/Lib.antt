@@ -1,7 +1,0 @@
-pub mod Lines
-pub mod Pieces
-pub mod States
-pub mod Sheets
-pub mod Once
-pub mod Answers
-pub mod Fits

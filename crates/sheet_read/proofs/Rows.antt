@@ -1,0 +1,157 @@
+-- The table of fields: what holds of every row, and a row and its values by cases.
+-- Assumes nothing.
+use Prim.Native.Nat.{ℕ, zero, suc, _+_, _-_, _≤_, _<_}
+use mathlib.Core.List.{List, [], _∷_}
+use mathlib.Core.Path.{_≡_, refl, sym, ap, _∙_}
+use mathlib.Core.Bool.{Bool, true, false, cond, _&&_}
+use native.Mathlib.Omega.{arith}
+use lib.ListN.{length, take, drop, getD}
+use lib.Seq.{getD-drop, getD-take}
+use lib.Dec.{eqb, leb, ltb}
+use borrow.Author.Tests.{eqb-false, eqb-true, le-leb, lt-leb, leb-true, ltb-false, ltb-true, ne-eqb}
+use Rattle.laws.specs.Lists.{All, all, within}
+use Rattle.laws.proofs.Sums.{and-no, and-parts, by-test}
+use Rattle.sheet_read.specs.declared.SheetField.{SheetField}
+use Rattle.sheet_read.specs.Table.{greatestOf, inRuleOf, leastOf, refusalOf, row, rowOf, sheetFields, widthOf}
+use Rattle.sheet_read.proofs.Filled.{cond-elim}
+
+-- ---- widths
+
+column-le : (m : ℕ) (l : List SheetField) → all (λ (r : SheetField). leb (r .width) m) l ≡ true → (f : ℕ) → getD l f (row 0 0 0) .width ≤ m
+unfolding all
+column-le m [] e f = omega arith
+column-le m (r ∷ l) e zero = leb-true (r .width) m (and-parts (leb (r .width) m) (all (λ (q : SheetField). leb (q .width) m) l) e .0)
+column-le m (r ∷ l) e (suc f) = column-le m l (and-parts (leb (r .width) m) (all (λ (q : SheetField). leb (q .width) m) l) e .1) f
+
+column-ge : (m : ℕ) (l : List SheetField) → all (λ (r : SheetField). leb m (r .width)) l ≡ true → (f : ℕ) → f < length l → m ≤ getD l f (row 0 0 0) .width
+unfolding all
+column-ge m [] e f h = absurd (omega arith)
+column-ge m (r ∷ l) e zero h = leb-true m (r .width) (and-parts (leb m (r .width)) (all (λ (q : SheetField). leb m (q .width)) l) e .0)
+column-ge m (r ∷ l) e (suc f) h = column-ge m l (and-parts (leb m (r .width)) (all (λ (q : SheetField). leb m (q .width)) l) e .1) f (omega arith)
+
+-- the rows from j on
+row-behind : (j f : ℕ) → j ≤ f → rowOf f ≡ getD (drop j sheetFields) (f - j) (row 0 0 0)
+unfolding rowOf
+row-behind j f h = ap (λ (i : ℕ). getD sheetFields i (row 0 0 0)) (let q : f ≡ j + (f - j) = omega arith in q) ∙ sym (getD-drop j sheetFields (f - j) (row 0 0 0))
+
+behind-le : (m j f : ℕ) → j ≤ f → all (λ (r : SheetField). leb (r .width) m) (drop j sheetFields) ≡ true → widthOf f ≤ m
+behind-le m j f h e = omega (arith, column-le m (drop j sheetFields) e (f - j), ap (λ (r : SheetField). r .width) (row-behind j f h))
+
+pub width-le : (f : ℕ) → widthOf f ≤ 20
+unfolding all
+width-le f = behind-le 20 0 f (omega arith) refl
+
+-- a bit of padding is a field of its own
+pub width-pad : (f : ℕ) → 8 ≤ f → widthOf f ≤ 1
+unfolding all
+width-pad f h = behind-le 1 8 f h refl
+
+-- a refused sheet has no bit to come, and any other has
+pub width-none : (f : ℕ) → 16 ≤ f → widthOf f ≤ 0
+unfolding all
+width-none f h = behind-le 0 16 f h refl
+
+pub width-some : (f : ℕ) → f < 16 → 0 < widthOf f
+unfolding rowOf all
+width-some f h = omega (arith, column-ge 1 (take 16 sheetFields) refl f (omega arith), ap (λ (r : SheetField). r .width) (getD-take 16 sheetFields f (row 0 0 0) h))
+
+pub row-some : (f : ℕ) → 0 < widthOf f → f < 16
+row-some f h = by-test (ltb f 16) (λ e. omega (arith, ltb-true f 16 e)) (λ e. absurd (omega (arith, width-none f (ltb-false f 16 e))))
+
+-- ---- refusals
+
+pub refusal-row : (f : ℕ) → (16 ≤ refusalOf f) × (refusalOf f < 19)
+unfolding refusalOf
+refusal-row f =
+    cond-elim (λ (g : ℕ). (16 ≤ g) × (g < 19)) (eqb f 0) 16 (cond (ltb f 8) 17 18) (λ e. (omega arith, omega arith))
+    (λ e. cond-elim (λ (g : ℕ). (16 ≤ g) × (g < 19)) (ltb f 8) 17 18 (λ q. (omega arith, omega arith)) (λ q. (omega arith, omega arith)))
+
+-- ---- what a value may be
+
+pub rule-high : (f n low v : ℕ) → inRuleOf f n low v ≡ true → v ≤ greatestOf f n
+unfolding inRuleOf
+rule-high f n low v e = leb-true v (greatestOf f n) (and-parts (leb (leastOf f low) v) (leb v (greatestOf f n)) e .1)
+
+pub rule-offset : (f n low v : ℕ) → f ≡ 7 → within low v (greatestOf 7 n) ≡ inRuleOf f n low v
+unfolding inRuleOf leastOf
+rule-offset f n low v e = ap (λ (g : ℕ). inRuleOf g n low v) (sym e)
+
+pub rule-other : (f n low v : ℕ) → (f ≡ 7 → ⊥) → within (rowOf f .least) v (rowOf f .greatest) ≡ inRuleOf f n low v
+unfolding inRuleOf leastOf greatestOf
+rule-other f n low v h = ap (λ (t : Bool). within (cond t low (rowOf f .least)) v (cond (t && eqb n 0) 0 (rowOf f .greatest))) (sym (ne-eqb f 7 h))
+
+pub within-zero : (v b : ℕ) → within 0 v b ≡ leb v b
+within-zero v b = ap (λ (t : Bool). t && leb v b) (le-leb 0 v (omega arith))
+
+pub within-one : (v : ℕ) → within 1 v 1 ≡ eqb v 1
+within-one v =
+    by-test (eqb v 1) (λ e. ap (λ (u : ℕ). within 1 u 1) (eqb-true v 1 e) ∙ sym e)
+    (λ e. by-test (leb 1 v) (λ h. ap (λ (t : Bool). t && leb v 1) h ∙ lt-leb v 1 (omega (arith, leb-true 1 v h, eqb-false v 1 e)) ∙ sym e)
+    (λ h. ap (λ (t : Bool). t && leb v 1) h ∙ sym e))
+
+pub within-all : (v b : ℕ) → v ≤ b → within 0 v b ≡ true
+within-all v b h = within-zero v b ∙ le-leb v b h
+
+-- ---- by cases
+
+pub by-value-row : (P : ℕ → Type 0) → P 0 → P 1 → P 2 → P 3 → P 4 → P 5 → P 6 → P 7 → (f : ℕ) → f < 8 → P f
+by-value-row P a b c d e f g h zero k = a
+by-value-row P a b c d e f g h (suc zero) k = b
+by-value-row P a b c d e f g h (suc (suc zero)) k = c
+by-value-row P a b c d e f g h (suc (suc (suc zero))) k = d
+by-value-row P a b c d e f g h (suc (suc (suc (suc zero)))) k = e
+by-value-row P a b c d e f g h (suc (suc (suc (suc (suc zero))))) k = f
+by-value-row P a b c d e f g h (suc (suc (suc (suc (suc (suc zero)))))) k = g
+by-value-row P a b c d e f g h (suc (suc (suc (suc (suc (suc (suc zero))))))) k = h
+by-value-row P a b c d e f g h (suc (suc (suc (suc (suc (suc (suc (suc i)))))))) k = absurd (omega arith)
+
+-- eight values, each by itself
+pub by-values : (P : List ℕ → Type 0) → ((a b c d e f g h : ℕ) → P (a ∷ b ∷ c ∷ d ∷ e ∷ f ∷ g ∷ h ∷ [])) → (vs : List ℕ) → length vs ≡ 8 → P vs
+by-values P q [] k = absurd (omega arith)
+by-values P q (a ∷ []) k = absurd (omega arith)
+by-values P q (a ∷ b ∷ []) k = absurd (omega arith)
+by-values P q (a ∷ b ∷ c ∷ []) k = absurd (omega arith)
+by-values P q (a ∷ b ∷ c ∷ d ∷ []) k = absurd (omega arith)
+by-values P q (a ∷ b ∷ c ∷ d ∷ e ∷ []) k = absurd (omega arith)
+by-values P q (a ∷ b ∷ c ∷ d ∷ e ∷ f ∷ []) k = absurd (omega arith)
+by-values P q (a ∷ b ∷ c ∷ d ∷ e ∷ f ∷ g ∷ []) k = absurd (omega arith)
+by-values P q (a ∷ b ∷ c ∷ d ∷ e ∷ f ∷ g ∷ h ∷ []) k = q a b c d e f g h
+by-values P q (a ∷ b ∷ c ∷ d ∷ e ∷ f ∷ g ∷ h ∷ i ∷ l) k = absurd (omega arith)
+
+-- a padding bit must be 0, and there are seven at most
+zero-is : (v : ℕ) → within 0 v 0 ≡ eqb v 0 && true
+zero-is v =
+    by-test (eqb v 0) (λ e. ap (λ (u : ℕ). within 0 u 0) (eqb-true v 0 e) ∙ sym (ap (λ (t : Bool). t && true) e))
+    (λ e. within-zero v 0 ∙ lt-leb v 0 (omega (arith, eqb-false v 0 e)) ∙ sym (ap (λ (t : Bool). t && true) e))
+
+none-is : (v : ℕ) → within 1 v 0 ≡ eqb v 0 && false
+none-is v =
+    by-test (leb 1 v) (λ e. ap (λ (t : Bool). t && leb v 0) e ∙ lt-leb v 0 (omega (arith, leb-true 1 v e)) ∙ sym (and-no (eqb v 0) false refl))
+    (λ e. ap (λ (t : Bool). t && leb v 0) e ∙ sym (and-no (eqb v 0) false refl))
+
+pub pad-rule : (f n low v : ℕ) → 8 ≤ f → f < 16 → inRuleOf f n low v ≡ eqb v 0 && ltb (f - 8) 7
+unfolding inRuleOf leastOf greatestOf rowOf
+pad-rule f n low v h k =
+    ap (λ (g : ℕ). inRuleOf g n low v) (let e : f ≡ 8 + (f - 8) = omega arith in e)
+    ∙ by-value-row (λ (g : ℕ). inRuleOf (8 + g) n low v ≡ eqb v 0 && ltb g 7) (zero-is v) (zero-is v) (zero-is v) (zero-is v) (zero-is v) (zero-is v) (zero-is v) (none-is v) (f - 8) (omega arith)
+
+-- the rows of seven padding bits are the same
+pub padding-row : (f : ℕ) → 8 ≤ f → f < 16 → (f ≡ 15 → ⊥) → rowOf f ≡ row 1 0 0
+unfolding rowOf
+padding-row f h k z =
+    row-behind 8 f h
+    ∙ by-value-row (λ (g : ℕ). g < 7 → getD (drop 8 sheetFields) g (row 0 0 0) ≡ row 1 0 0) (λ _. refl) (λ _. refl) (λ _. refl) (λ _. refl) (λ _. refl) (λ _. refl) (λ _. refl) (λ i. absurd (omega arith)) (f - 8) (omega arith) (omega (arith, z))
+
+-- and those from the first refusal on
+none-all : (l : List SheetField) → All (λ (r : SheetField). r ≡ row 0 0 0) l → (f : ℕ) → getD l f (row 0 0 0) ≡ row 0 0 0
+none-all [] a f = refl
+none-all (r ∷ l) a zero = a .0
+none-all (r ∷ l) a (suc f) = none-all l (a .1) f
+
+pub refused-row : (f : ℕ) → 16 ≤ f → rowOf f ≡ row 0 0 0
+refused-row f h = row-behind 16 f h ∙ none-all (drop 16 sheetFields) (refl, (refl, (refl, tt))) (f - 16)
+
+-- what a match on the row leaves for its last way
+pub last-value : (f : ℕ) → f < 8 → (f ≡ 0 → ⊥) → (f ≡ 1 → ⊥) → (f ≡ 2 → ⊥) → (f ≡ 3 → ⊥) → (f ≡ 4 → ⊥) → (f ≡ 5 → ⊥) → (f ≡ 6 → ⊥) → f ≡ 7
+last-value f h a b c d e g i =
+    by-test (eqb f 7) (λ q. eqb-true f 7 q) (λ q. absurd (by-value-row (λ (j : ℕ). f ≡ j → ⊥) a b c d e g i (eqb-false f 7 q) f h refl))

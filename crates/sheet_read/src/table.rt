@@ -1,0 +1,115 @@
+// The fields of a sheet as data: a row for each, in document 01's order.
+ghost use mathlib.Core.Path.{_≡_};
+ghost use Rattle.sheet_read.specs.Table.{row, rowOf, greatestOf, inRuleOf, refusalOf, openedOf};
+ghost use Rattle.sheet_read.specs.Reader.{pointAt};
+use crate::Point;
+use crate::SheetField;
+
+// The rows that something else than the next row can come behind, or that a value is looked up by.
+pub(crate) const VERSION: usize = 0;
+
+pub(crate) const COUNT: usize = 1;
+
+pub(crate) const TASK: usize = 2;
+
+pub(crate) const COST: usize = 3;
+
+pub(crate) const DEADLINE: usize = 4;
+
+pub(crate) const TUPLES: usize = 5;
+
+pub(crate) const CYCLE: usize = 6;
+
+pub(crate) const OFFSET: usize = 7;
+// seven padding bits, and a bit of a further byte
+pub(crate) const PADDING: usize = 8;
+// refused with 6, 7 and 10
+pub(crate) const REFUSED: usize = 16;
+
+fn field(width: u32, least: u32, greatest: u32) -> SheetField
+    ensures { λ r. ⌜ r ≡ row width least greatest ⌝ }
+{
+    SheetField {
+        width,
+        least,
+        greatest,
+    }
+}
+
+// The table, row by row. A padding bit is 0, a bit of a further byte has no value, and a refused sheet has no bits.
+fn row(f: usize) -> SheetField
+    ensures { λ r. ⌜ r ≡ rowOf f ⌝ }
+{
+    if f < PADDING {
+        return match f {
+            0 => field(4, 1, 1),
+            1 => field(5, 0, 16),
+            2 => field(4, 0, 15),
+            3 => field(16, 1, 65535),
+            4 => field(18, 1, 200000),
+            5 => field(2, 0, 3),
+            6 => field(20, 0, 1000000),
+            _ => field(17, 0, 100000),
+        };
+    }
+    if REFUSED <= f {
+        return field(0, 0, 0);
+    }
+    if f == REFUSED - 1 {
+        field(1, 1, 0)
+    } else {
+        field(1, 0, 0)
+    }
+}
+
+// "the first is 0 and they never fall": how large an offset behind `n` tuples may be.
+fn greatest_offset(n: usize) -> u32
+    ensures { λ r. ⌜ r ≡ greatestOf 7 n ⌝ }
+{
+    if n == 0 { 0 } else { 100000 }
+}
+
+// Whether `v` may be the value of the field `f`, behind `n` tuples of which the last has the offset `low`.
+pub(crate) fn in_rule(f: usize, n: usize, low: u32, v: u32) -> bool
+    ensures { λ r. ⌜ r ≡ inRuleOf f n low v ⌝ }
+{
+    if f == OFFSET {
+        return (low <= v) & (v <= greatest_offset(n));
+    }
+    let r = row(f);
+    (r.least <= v) & (v <= r.greatest)
+}
+
+// The row of the refusal that any other value gets.
+pub(crate) fn refusal(f: usize) -> usize
+    ensures { λ r. ⌜ r ≡ refusalOf f ⌝ }
+{
+    if f == VERSION {
+        return REFUSED;
+    }
+    if f < PADDING {
+        REFUSED + 1
+    } else {
+        REFUSED + 2
+    }
+}
+
+// What comes behind `k` whole streams of `n`.
+pub(crate) fn opened(k: usize, n: usize) -> usize
+    ensures { λ r. ⌜ r ≡ openedOf k n ⌝ }
+{
+    if k < n { TASK } else { PADDING }
+}
+
+// Before the field `f`, of which no bit has come, behind `n` tuples.
+pub(crate) fn begun(f: usize, n: usize) -> Point
+    ensures { λ r. ⌜ r ≡ pointAt f n ⌝ }
+{
+    let r = row(f);
+    Point {
+        row: f,
+        tuples: n,
+        acc: 0,
+        left: r.width,
+    }
+}
