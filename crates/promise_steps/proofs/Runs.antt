@@ -51,7 +51,7 @@ start-gives S placed = by-test (valid S)
 
 -- ---- the calls
 
-step-keeps : (r : Run) (c : Call) → Formed (r .state) → Formed (stepOf r c .state)
+pub step-keeps : (r : Run) (c : Call) → Formed (r .state) → Formed (stepOf r c .state)
 unfolding callOf PostKeeps UnitKeeps
 step-keeps r (Posts k) f = subst Formed (sym (step-state r (Posts k))) (post-keeps (r .state) k f)
 step-keeps r (Units done) f = subst Formed (sym (step-state r (Units done))) (unit-keeps (r .state) done f)

@@ -114,7 +114,7 @@ fn made(s: State, c: Call, byte: usize, bit: u32) -> ReplayResult
 }
 
 // One step of a replay, or end, 12, 13 or 14, which leave state and place as they are.
-pub fn step(s: State, recording: &[u8], byte: usize, bit: u32) -> ReplayResult
+pub fn step(recording: &[u8], byte: usize, bit: u32, s: State) -> ReplayResult
     ensures { λ r. ⌜ r ≡ replayStep s (now (recording .entry)) (place byte bit) ⌝ }
 {
     let formed = state_formed::well_formed(s);

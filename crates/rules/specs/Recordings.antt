@@ -21,6 +21,7 @@ use Rattle.rules.specs.declared.ReplayStart.{ReplayStart}
 use Rattle.rules.specs.States.{wellFormed}
 use Rattle.rules.specs.Steps.{startOf, callOf}
 use Rattle.rules.specs.Sheet.{isZero, readOf}
+use Rattle.rules.specs.Numbers.{Says, replaySays}
 
 -- ---- what a recording of calls is
 
@@ -107,6 +108,22 @@ replayStart sheet = record { answer = readOf sheet .answer; state = startOf (rea
 
 abbrev pub firstPlace : Place
 firstPlace = record { byte = 0; bit = 0 }
+
+-- ---- steps one after the other
+
+abbrev pub placeOfResult : ReplayResult → Place
+placeOfResult r = record { byte = r .byte; bit = r .bit }
+
+-- what n steps answer, and the state that they leave
+unfoldable pub replayAnswers : ℕ → List ℕ → State → Place → List Says
+replayAnswers zero recording s p = []
+replayAnswers (suc n) recording s p =
+    let r = replayStep s recording p in
+    replaySays (r .answer) ∷ replayAnswers n recording (r .state) (placeOfResult r)
+
+unfoldable pub replayState : ℕ → List ℕ → State → Place → State
+replayState zero recording s p = s
+replayState (suc n) recording s p = let r = replayStep s recording p in replayState n recording (r .state) (placeOfResult r)
 
 -- ---- a whole recording
 

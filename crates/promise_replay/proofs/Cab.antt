@@ -1,0 +1,125 @@
+-- The replay of a recording gives the cab's answers, call by call, then end, and the cab's last state. Assumes nothing.
+use Prim.Native.Nat.{ℕ, zero, suc, _+_, _-_, _*_, _/_, _%_, _≤_, _<_}
+use native.Mathlib.Omega.{arith}
+use mathlib.Core.Bool.{Bool, true, false, cond, _&&_, _||_}
+use mathlib.Core.List.{List, [], _∷_, _++_, map, append-assoc}
+use mathlib.Core.Path.{_≡_, refl, ap, ap₂, sym, subst, _∙_}
+use borrow.Author.Tests.{le-leb, lt-ltb, le-ltb, ltb-false, eq-eqb}
+use lib.Dec.{ltb, leb, eqb}
+use lib.ListN.{length, take, drop, length-append}
+use lib.Seq.{drop-at}
+use Rattle.laws.specs.Lists.{all, flat}
+use Rattle.laws.specs.Bits.{toBits, bits, zeros}
+use Rattle.laws.proofs.Sums.{and-parts, by-test}
+use Rattle.laws.proofs.Fields.{bits-length}
+use Rattle.rules.specs.declared.Call.{Call}
+use Rattle.rules.specs.declared.Mark.{Mark}
+use Rattle.rules.specs.declared.Mark.the-variants.{Makes, Ends}
+use Rattle.rules.specs.declared.Set.{Set}
+use Rattle.rules.specs.declared.State.{State}
+use Rattle.rules.specs.declared.ReadResult.{ReadResult}
+use Rattle.rules.specs.declared.ReplayResult.{ReplayResult}
+use Rattle.rules.specs.Streams.{Placed, valid}
+use Rattle.rules.specs.States.{wellFormed}
+use Rattle.rules.specs.Steps.{startOf, callOf}
+use Rattle.rules.specs.Sheet.{sheetOf, readOf}
+use Rattle.rules.specs.Numbers.{Says, ended, replaySays}
+use Rattle.rules.specs.Runs.{Run, Step, saidAt, stepTo, stepOf, begin, runFrom, runOf, stepsFrom, stepsOf, answersOf}
+use Rattle.rules.specs.Recordings.{Place, callBits, recordable, recordingOf, placeIn, bitAt, placeAfter, markOf, stepBy, replayStep, replayStart, firstPlace, placeOfResult, replayAnswers, replayState}
+use Rattle.rules.proofs.Events.{step-state}
+use Rattle.sheet_write.proofs.Back.{read-back}
+use Rattle.promise_steps.specs.Formed.{Formed, StartGives}
+use Rattle.promise_steps.proofs.Runs.{start-gives, step-keeps}
+use Rattle.promise_replay.specs.Replays.{IsTheCabs, ReplayIsTheCabs}
+use Rattle.promise_replay.proofs.Reading.{mark-call, mark-end, padding, padding-few, recording-bits}
+
+-- ---- places
+
+place-later : (p : Place) (n : ℕ) → bitAt (placeAfter p n) ≡ bitAt p + n
+unfolding placeAfter
+place-later p n = omega arith
+
+place-bit : (p : Place) (n : ℕ) → placeAfter p n .bit < 8
+unfolding placeAfter
+place-bit p n = omega arith
+
+place-ok : (s : List ℕ) (p : Place) → p .bit < 8 → bitAt p ≤ 8 * length s → placeIn s p ≡ true
+unfolding placeIn
+place-ok s p h e =
+    rw (le-leb (p .byte) (length s) (omega arith), lt-ltb (p .bit) 8 h)
+    (by-test (ltb (p .byte) (length s)) (λ y. rw y) (λ y. rw (y, eq-eqb (p .bit) 0 (omega (arith, ltb-false (p .byte) (length s) y)))))
+
+-- ---- a step where bits are known
+
+module _ (recording : List ℕ) (s : State) (p : Place) (formed : wellFormed s ≡ true) (small : p .bit < 8) (front rest : List ℕ) (at : bitAt p ≡ length front) (split : bits recording ≡ front ++ rest) where
+  inside : placeIn recording p ≡ true
+  inside = place-ok recording p small (omega (arith, at, ap length split, length-append front rest, bits-length recording))
+
+  pub step-is : replayStep s recording p ≡ stepBy s p (markOf rest)
+  unfolding replayStep
+  step-is = rw (formed, inside) (ap (λ (l : List ℕ). stepBy s p (markOf l)) (ap₂ drop at split ∙ drop-at front rest (length front) refl))
+
+-- ---- all steps
+
+module _ (recording : List ℕ) (pad : ℕ) (few : pad < 8) where
+  -- behind the bits `front`, the calls cs and the end are left
+  pub record From (r : Run) (p : Place) (front : List ℕ) (cs : List Call) : Type 0 where
+    pub formed : Formed (r .state)
+    pub small : p .bit < 8
+    pub at : bitAt p ≡ length front
+    pub split : bits recording ≡ front ++ (flat callBits cs ++ (toBits 2 3 ++ zeros pad))
+    pub can : all recordable cs ≡ true
+
+  pub record Gives (r : Run) (p : Place) (cs : List Call) : Type 0 where
+    pub answers : replayAnswers (suc (length cs)) recording (r .state) p ≡ map saidAt (stepsFrom r cs) ++ (ended ∷ [])
+    pub state : replayState (suc (length cs)) recording (r .state) p ≡ runFrom r cs .state
+
+  end-step : (r : Run) (p : Place) (front : List ℕ) → From r p front [] → replayStep (r .state) recording p ≡ stepBy (r .state) p Ends
+  unfolding flat
+  end-step r p front f = step-is recording (r .state) p (f .formed .formed) (f .small) front (toBits 2 3 ++ zeros pad) (f .at) (f .split) ∙ ap (stepBy (r .state) p) (mark-end pad few)
+
+  call-step : (r : Run) (p : Place) (front : List ℕ) (c : Call) (cs : List Call) → From r p front (c ∷ cs) → replayStep (r .state) recording p ≡ stepBy (r .state) p (Makes c)
+  unfolding flat all
+  call-step r p front c cs f =
+      step-is recording (r .state) p (f .formed .formed) (f .small) front (callBits c ++ (flat callBits cs ++ (toBits 2 3 ++ zeros pad))) (f .at) (f .split ∙ ap (λ (l : List ℕ). front ++ l) (append-assoc (callBits c) (flat callBits cs) (toBits 2 3 ++ zeros pad)))
+      ∙ ap (stepBy (r .state) p) (mark-call c (flat callBits cs ++ (toBits 2 3 ++ zeros pad)) (and-parts (recordable c) (all recordable cs) (f .can) .0))
+
+  -- the place behind a call
+  from-next : (r : Run) (p : Place) (front : List ℕ) (c : Call) (cs : List Call) → From r p front (c ∷ cs) → From (stepOf r c) (placeAfter p (length (callBits c))) (front ++ callBits c) cs
+  unfolding flat all
+  from-next r p front c cs f = record {
+    formed = step-keeps r c (f .formed);
+    small = place-bit p (length (callBits c));
+    at = place-later p (length (callBits c)) ∙ omega (arith, f .at, length-append front (callBits c));
+    split = f .split ∙ ap (λ (l : List ℕ). front ++ l) (append-assoc (callBits c) (flat callBits cs) (toBits 2 3 ++ zeros pad)) ∙ sym (append-assoc front (callBits c) (flat callBits cs ++ (toBits 2 3 ++ zeros pad)));
+    can = and-parts (recordable c) (all recordable cs) (f .can) .1;
+  }
+
+  pub gives : (r : Run) (p : Place) (front : List ℕ) (cs : List Call) → From r p front cs → Gives r p cs
+  unfolding replayAnswers replayState stepsFrom runFrom
+  gives r p front [] f = record {
+    answers = rw (end-step r p front f);
+    state = rw (end-step r p front f);
+  }
+  gives r p front (c ∷ cs) f = more (gives (stepOf r c) (placeAfter p (length (callBits c))) (front ++ callBits c) cs (from-next r p front c cs f))
+    where
+      more : Gives (stepOf r c) (placeAfter p (length (callBits c))) cs → Gives r p (c ∷ cs)
+      more g = record {
+        answers = rw (call-step r p front c cs f) (ap (λ (l : List Says). saidAt (stepTo (r .state) c) ∷ l) (subst (λ (s : State). replayAnswers (suc (length cs)) recording s (placeAfter p (length (callBits c))) ≡ map saidAt (stepsFrom (stepOf r c) cs) ++ (ended ∷ [])) (step-state r c) (g .answers)));
+        state = rw (call-step r p front c cs f) (subst (λ (s : State). replayState (suc (length cs)) recording s (placeAfter p (length (callBits c))) ≡ runFrom (stepOf r c) cs .state) (step-state r c) (g .state));
+      }
+
+-- ---- from the sheet
+
+sheet-start : (S : Set) → Placed S → valid S ≡ true → replayStart (sheetOf S) .state ≡ startOf S .state
+unfolding replayStart
+sheet-start S placed ok = ap (λ (r : ReadResult). startOf (r .set) .state) (read-back S ok placed)
+
+pub replay-is-the-cabs : ReplayIsTheCabs
+unfolding ReplayIsTheCabs answersOf stepsOf runOf begin StartGives
+replay-is-the-cabs S placed ok calls can =
+    let g = gives (recordingOf calls) (padding calls) (padding-few calls) (begin S) firstPlace [] calls (record { formed = start-gives S placed; small = omega arith; at = refl; split = recording-bits calls; can = can }) in
+    record {
+      answers = rw (sheet-start S placed ok) (g .answers);
+      state = rw (sheet-start S placed ok) (g .state);
+    }

@@ -1,0 +1,3 @@
+-- The replay of a recording. Assumes nothing.
+pub mod Reading
+pub mod Cab
