@@ -1,3 +1,4 @@
 -- The replay of a recording. Assumes nothing.
 pub mod Reading
 pub mod Cab
+pub mod Tapes

@@ -61,7 +61,7 @@ unfolding callBits
 call-bits (Posts k) = all-append IsBit (toBits 2 0) (toBits 4 k) (toBits-bits 2 0) (toBits-bits 4 k)
 call-bits (Units done) = all-append IsBit (toBits 2 (cond done 2 1)) [] (toBits-bits 2 (cond done 2 1)) tt
 
-calls-bits : (cs : List Call) → AreBits (flat callBits cs)
+pub calls-bits : (cs : List Call) → AreBits (flat callBits cs)
 unfolding flat
 calls-bits [] = tt
 calls-bits (c ∷ cs) = all-append IsBit (callBits c) (flat callBits cs) (call-bits c) (calls-bits cs)
