@@ -2,8 +2,7 @@
 
 mod common;
 
-use common::{set_b, SHEET_W12};
-use second::console::{lines, Console};
+use common::{said, set_b, SHEET_W12};
 use second::sheet::{fields, pack};
 use second::trace;
 
@@ -111,14 +110,6 @@ fn posts_name_streams_in_lower_case_hex() {
         traced(&SHEET_W12, b"p0p1p9papf"),
         "accept\n0 posted 0 5\n0 refused 1\n0 refused 1\n0 refused 1\n0 refused 1\n"
     );
-}
-
-/// All that a script prints.
-fn said(script: &str) -> String {
-    let mut console = Console::default();
-    lines(script.as_bytes())
-        .map(|line| console.line(line))
-        .collect()
 }
 
 #[test]

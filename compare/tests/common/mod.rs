@@ -1,8 +1,17 @@
-//! Sets of document 01 for the tests.
+//! Sets of document 01 for the tests, and what a console script prints.
 
 #![allow(dead_code)]
 
+use second::console::{lines, Console};
 use second::set::{Set, Stream, Tuple};
+
+/// All that a script prints.
+pub fn said(script: &str) -> String {
+    let mut console = Console::default();
+    lines(script.as_bytes())
+        .map(|line| console.line(line))
+        .collect()
+}
 
 pub fn once(offset: u32) -> Tuple {
     Tuple::Once { offset }

@@ -7,12 +7,13 @@ mod cases;
 mod console_mode;
 mod ontime_mode;
 mod plays;
+mod process_mode;
 mod programs;
 mod random;
+mod recordings;
 mod scripts;
 mod sets;
 mod sheets;
-mod trace_mode;
 mod traces;
 
 use std::io;
@@ -27,6 +28,8 @@ compare trace BIN CASES SEED    the trace program BIN against the library
 compare console BIN LINES SEED  the console program BIN against the library
 compare many BIN CASES SEED     the program BIN of many cases against the library, on mixed sheets
 compare damaged BIN CASES SEED  the program BIN of many cases against the library, on damaged sheets
+compare replay BIN CASES SEED   the replay program BIN against the library
+compare record BIN CASES SEED   the record program BIN against the library
 compare batch CASES SEED DIR    writes DIR/cases.bin and DIR/expected.txt
 compare ontime CASES SEED       that accepted sets run on time";
 
@@ -52,9 +55,14 @@ fn main() -> ExitCode {
 fn run(arguments: &[&str]) -> Option<io::Result<bool>> {
     let number = |word: &str| word.parse::<u64>().ok();
     match arguments {
-        ["trace", program, cases, seed] => {
+        [which @ ("trace" | "replay" | "record"), program, cases, seed] => {
             let (cases, seed) = (number(cases)?, number(seed)?);
-            Some(Program::at(program).and_then(|p| trace_mode::compare(&p, cases, seed)))
+            let kind = match *which {
+                "trace" => process_mode::TRACE,
+                "replay" => process_mode::REPLAY,
+                _ => process_mode::RECORD,
+            };
+            Some(Program::at(program).and_then(|p| process_mode::compare(&kind, &p, cases, seed)))
         }
         ["console", program, lines, seed] => {
             let (lines, seed) = (number(lines)?, number(seed)?);

@@ -4,6 +4,7 @@
 //! scene knows the set and the state it has in hand. Scenes never look at what the first program
 //! answers.
 
+mod about_recordings;
 mod about_sets;
 mod about_states;
 mod odd_lines;
@@ -61,7 +62,7 @@ impl Script<'_> {
 
     /// Several lines about one thing.
     fn scene(&mut self) {
-        match self.random.below(40) {
+        match self.random.below(52) {
             0..=2 => self.set_put_together(),
             3..=9 => self.set_with_one_fault(),
             10..=13 => self.sheet_read(),
@@ -74,7 +75,12 @@ impl Script<'_> {
             27 => self.long_run(),
             28..=36 => self.lines_that_are_no_commands(),
             37 => self.questions_about_set(),
-            _ => self.any_commands(),
+            38..=39 => self.any_commands(),
+            40..=42 => self.replay(),
+            43..=44 => self.places(),
+            45 => self.replay_on_a_state_with_one_fault(),
+            46..=47 => self.recording_about_as_long_as_the_longest(),
+            _ => self.recorded(),
         }
     }
 }
@@ -120,7 +126,12 @@ fn around(random: &mut Random, limits: &[u32]) -> u32 {
 }
 
 fn read_line(bytes: &[u8]) -> String {
-    let mut line = "read".to_string();
+    hex_line("read", bytes)
+}
+
+/// A command and its HEX. "an empty HEX leaves its space out as well".
+fn hex_line(name: &str, bytes: &[u8]) -> String {
+    let mut line = name.to_string();
     for (place, byte) in bytes.iter().enumerate() {
         if place == 0 {
             line.push(' ');
@@ -176,10 +187,47 @@ mod tests {
             "\ntask ",
             "\nwell formed\n",
             "\nmessage 63 ",
+            "\nrecording ",
+            "\nend\n",
+            "\nrefused 13\n",
+            "\nrefused 14\n",
+            "\nat ",
+            "\nrecorded ",
             "\n?\n",
         ] {
             let count = answers.matches(answer).count();
             assert!(count >= 10, "{answer:?} came up {count} times");
+        }
+    }
+
+    #[test]
+    fn every_answer_to_the_commands_of_a_replay_comes_up() {
+        let mut random = Random::new(3);
+        let mut lines = Vec::new();
+        for _ in 0..60 {
+            lines.extend(make(&mut random, 500));
+        }
+        let expected: &[(&str, &[&str])] = &[
+            ("next", &["end\n", "refused 12\n", "refused 13\n"]),
+            ("next", &["refused 14\n", " posted ", " ran ", " done "]),
+            ("next", &[" cut ", " idle\n", " refused 1\n"]),
+            ("next", &[" refused 2\n", " refused 3\n", " refused 4\n"]),
+            ("recording", &["recording ", "recording 1024\n", "?"]),
+            ("record", &["recorded ", "refused 11\n", "?"]),
+            ("reader", &["put", "?"]),
+            ("where", &["at "]),
+        ];
+        for (command, answers) in expected {
+            for answer in *answers {
+                // An answer with a space before it comes after a clock.
+                let is_it = |line: &&Line| {
+                    line.text.split(|&byte| byte == b' ').next() == Some(command.as_bytes())
+                        && (line.answer.starts_with(answer)
+                            || answer.starts_with(' ') && line.answer.contains(answer))
+                };
+                let count = lines.iter().filter(is_it).count();
+                assert!(count >= 5, "{command}: {answer:?} came up {count} times");
+            }
         }
     }
 
