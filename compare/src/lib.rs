@@ -6,7 +6,7 @@
 //! [`load::verdict`], which keeps running sums, and beside it stands
 //! [`load::verdict_each_length`], which does not.
 //!
-//! - [`set`]: streams, sets, the event limit and the jittered cycle
+//! - [`set`]: streams, sets, the event limit and the jittered cycle (by request 2)
 //! - [`load`]: demand, H, long-run load and the verdicts
 //! - [`sheet`]: reading and writing the packed sheet
 //! - [`state`]: the state, its rules, and the calls start, post, choose and unit

@@ -28,3 +28,8 @@ fn check(section: &str, count: usize) {
 fn request_1_replay() {
     check(include_str!("examples/cr-01.md"), 5);
 }
+
+#[test]
+fn request_2_jitter_both_ways() {
+    check(include_str!("examples/cr-02.md"), 3);
+}

@@ -214,8 +214,12 @@ pending 0
 
 #[test]
 fn jitter_in_the_console() {
-    assert_eq!(said("jitter 10 3"), "once 0 every 10 7\n");
+    assert_eq!(said("jitter 10 3"), "once 0 every 10 4\n");
+    assert_eq!(said("jitter 10 5"), "once 0 every 10 0\n");
+    assert_eq!(said("jitter 10 6"), "refused 7\n");
     assert_eq!(said("jitter 10 11"), "refused 7\n");
+    assert_eq!(said("jitter 10 4294967295"), "refused 7\n");
+    assert_eq!(said("jitter 10 4294967296"), "?\n");
 }
 
 #[test]

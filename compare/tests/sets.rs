@@ -152,21 +152,76 @@ fn limits_and_demands_refused() {
 
 #[test]
 fn jittered_cycles() {
-    assert_eq!(jittered_cycle(10, 3), Ok([once(0), every(10, 7)]));
-    assert_eq!(jittered_cycle(10, 10), Ok([once(0), every(10, 0)]));
-    assert_eq!(
-        jittered_cycle(1_000_000, 900_000),
-        Ok([once(0), every(1_000_000, 100_000)])
-    );
+    for (cycle, jitter, offset) in [
+        (20, 0, 20),
+        (20, 2, 16),
+        (20, 9, 2),
+        (20, 10, 0),
+        (21, 10, 1),
+        (1, 0, 1),
+        (2, 1, 0),
+        (100_000, 0, 100_000),
+        (100_001, 1, 99_999),
+        (100_002, 1, 100_000),
+        (999_999, 450_000, 99_999),
+        (1_000_000, 450_000, 100_000),
+        (1_000_000, 500_000, 0),
+    ] {
+        assert_eq!(
+            jittered_cycle(cycle, jitter),
+            Ok([once(0), every(cycle, offset)]),
+            "{cycle} {jitter}"
+        );
+    }
     for (cycle, jitter) in [
         (0, 0),
-        (1_000_001, 1_000_000),
-        (10, 11),
-        (1_000_000, 899_999),
+        (0, 1),
+        (1_000_001, 450_001),
+        (1_000_001, 500_000),
+        (1, 1),
+        (20, 11),
+        (20, 20),
+        (21, 11),
+        (1_000_000, 449_999),
+        (1_000_000, 500_001),
+        (999_999, 449_999),
         (100_001, 0),
+        (100_003, 1),
         (u32::MAX, u32::MAX),
+        (u32::MAX, u32::MAX / 2),
     ] {
-        assert_eq!(jittered_cycle(cycle, jitter), Err(Refusal::OutOfRule));
+        let refused = Err(Refusal::OutOfRule);
+        assert_eq!(jittered_cycle(cycle, jitter), refused, "{cycle} {jitter}");
+    }
+}
+
+#[test]
+fn a_jitter_of_which_twice_is_more_than_32_bits() {
+    for cycle in [0, 1, 10, 20, 1_000_000, u32::MAX] {
+        // What is left of 2j in 32 bits would be 0, 10 and so on.
+        for jitter in [1 << 31, (1 << 31) + 5, (1 << 31) + 450_000, u32::MAX] {
+            assert_eq!(jittered_cycle(cycle, jitter), Err(Refusal::OutOfRule));
+        }
+    }
+}
+
+#[test]
+fn jittered_cycles_keep_the_rules_and_count_both_ways() {
+    for cycle in 1..=40 {
+        for jitter in 0..=cycle / 2 {
+            let tuples = jittered_cycle(cycle, jitter).unwrap();
+            let set = one(&tuples);
+            assert!(set.valid());
+            // The earliest that one can come after another: z - 2j, and every z after that.
+            let limit = |length| event_limit(&set, 0, length).unwrap();
+            let nearest = cycle - 2 * jitter;
+            if nearest > 0 {
+                assert_eq!(limit(nearest - 1), 1);
+            }
+            assert_eq!(limit(nearest), 2);
+            assert_eq!(limit(nearest + cycle - 1), 2);
+            assert_eq!(limit(nearest + cycle), 3);
+        }
     }
 }
 

@@ -60,7 +60,7 @@ fn small_streams(random: &mut Random, count: usize, longest_deadline: u32) -> Se
 fn put_small_tuples(random: &mut Random, stream: &mut Stream, common: u32) {
     if random.one_in(5) {
         let cycle = divisor(random, common);
-        let jitter = random.between(0, cycle);
+        let jitter = random.between(0, cycle / 2);
         let tuples = jittered_cycle(cycle, jitter).expect("a small cycle");
         stream.tuple_count = 2;
         stream.tuples[..2].copy_from_slice(&tuples);
