@@ -6,6 +6,7 @@ use crate::load;
 use crate::recording::{self, Place};
 use crate::refusal::Refusal;
 use crate::replay;
+use crate::requests::REPLAY;
 use crate::set::{self, Set, Tuple, STREAM_PLACES, TUPLE_PLACES};
 use crate::sheet;
 use crate::state::{Message, State, MESSAGE_PLACES};
@@ -25,6 +26,8 @@ pub const LONGEST_RECORDING: usize = 1_024;
 /// reader's place.
 #[derive(Clone, Debug, PartialEq, Eq)]
 pub struct Console {
+    /// The requests that are in force: all up to this number.
+    pub requests: u32,
     /// The set.
     pub set: Set,
     /// The state.
@@ -35,14 +38,12 @@ pub struct Console {
     pub place: Place,
 }
 
-impl Default for Console {
-    fn default() -> Self {
-        Console {
-            set: Set::EMPTY,
-            state: State::EMPTY,
-            recording: Vec::new(),
-            place: Place::START,
-        }
+/// "Each request's commands come with its landing." The request that brings a command, 0 for every
+/// other word.
+fn request_of(name: &[u8]) -> u32 {
+    match name {
+        b"recording" | b"next" | b"reader" | b"where" | b"record" => REPLAY,
+        _ => 0,
     }
 }
 
@@ -54,6 +55,17 @@ pub fn lines(input: &[u8]) -> impl Iterator<Item = &[u8]> {
 }
 
 impl Console {
+    /// A console as it is at first, with the requests up to the number in force.
+    pub fn new(requests: u32) -> Console {
+        Console {
+            requests,
+            set: Set::EMPTY,
+            state: State::EMPTY,
+            recording: Vec::new(),
+            place: Place::START,
+        }
+    }
+
     /// Does what a line says and gives all it prints. The line comes without its newline.
     ///
     /// "A line that is not one of those below, or has a number or index that is out of the
@@ -77,6 +89,9 @@ impl Console {
     fn command(&mut self, line: &[u8]) -> Option<String> {
         let words: Vec<&[u8]> = line.split(|&byte| byte == b' ').collect();
         let (name, rest) = words.split_first()?;
+        if request_of(name) > self.requests {
+            return None;
+        }
         match *name {
             b"read" => return self.read(rest),
             b"recording" => return self.take_recording(rest),
@@ -118,7 +133,7 @@ impl Console {
                 Ok(demand) => demand.to_string(),
                 Err(refusal) => format!("{refusal} 0"),
             }),
-            (b"jitter", &[cycle, jitter]) => Some(jitter_answer(cycle, jitter)),
+            (b"jitter", &[cycle, jitter]) => Some(self.jitter(cycle, jitter)),
             (b"verdict", []) => Some(load::verdict(&self.set).to_string()),
             (b"start", []) => {
                 let (state, result) = State::start(&self.set);
@@ -215,6 +230,18 @@ impl Console {
         put()
     }
 
+    /// "`jitter Z J`: prints the tuples as `once 0 every Z A`, or `refused 7`."
+    fn jitter(&self, cycle: u32, jitter: u32) -> String {
+        let words = |tuple: &Tuple| match tuple {
+            Tuple::Once { offset } => format!("once {offset}"),
+            Tuple::Every { cycle, offset } => format!("every {cycle} {offset}"),
+        };
+        match set::jittered_cycle(cycle, jitter, self.requests) {
+            Ok(tuples) => tuples.iter().map(words).collect::<Vec<_>>().join(" "),
+            Err(refusal) => refusal.to_string(),
+        }
+    }
+
     /// "`choose`: prints `none`, `task T stream S`, or `refused 12`."
     fn choose(&self) -> String {
         match self.state.choose() {
@@ -255,18 +282,6 @@ impl Console {
 /// "Print `put`."
 fn put() -> Option<String> {
     Some("put".to_string())
-}
-
-/// "`jitter Z J`: prints the tuples as `once 0 every Z A`, or `refused 7`."
-fn jitter_answer(cycle: u32, jitter: u32) -> String {
-    let words = |tuple: &Tuple| match tuple {
-        Tuple::Once { offset } => format!("once {offset}"),
-        Tuple::Every { cycle, offset } => format!("every {cycle} {offset}"),
-    };
-    match set::jittered_cycle(cycle, jitter) {
-        Ok(tuples) => tuples.iter().map(words).collect::<Vec<_>>().join(" "),
-        Err(refusal) => refusal.to_string(),
-    }
 }
 
 /// "`record LEN TRACE`: TRACE is steps of a trace with no spaces (`p1uud`), or is left out with

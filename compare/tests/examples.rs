@@ -1,9 +1,11 @@
 //! The examples of the requests: each file in `examples/` is a request's section of the document
-//! of examples as it stands there, with console scripts and what they must print.
+//! of examples as it stands there, with console scripts and what they must print. "Each section is
+//! at the level of its request: that request and those before it are in force."
 
 mod common;
 
-use common::said;
+use common::said_with;
+use second::requests::{JITTER_BOTH_WAYS, REPLAY};
 
 /// The scripts of a section, each with what it must print: a block, a line `prints`, a block.
 fn scripts(section: &str) -> Vec<(&str, &str)> {
@@ -16,20 +18,20 @@ fn scripts(section: &str) -> Vec<(&str, &str)> {
     blocks.chunks(2).map(|pair| (pair[0], pair[1])).collect()
 }
 
-fn check(section: &str, count: usize) {
+fn check(request: u32, section: &str, count: usize) {
     let scripts = scripts(section);
     assert_eq!(scripts.len(), count);
     for (script, prints) in scripts {
-        assert_eq!(said(script), prints, "{script}");
+        assert_eq!(said_with(request, script), prints, "{script}");
     }
 }
 
 #[test]
 fn request_1_replay() {
-    check(include_str!("examples/cr-01.md"), 5);
+    check(REPLAY, include_str!("examples/cr-01.md"), 5);
 }
 
 #[test]
 fn request_2_jitter_both_ways() {
-    check(include_str!("examples/cr-02.md"), 3);
+    check(JITTER_BOTH_WAYS, include_str!("examples/cr-02.md"), 3);
 }

@@ -5,14 +5,20 @@ mod common;
 use std::io::Write;
 use std::process::{Command, Output, Stdio};
 
-use common::{every, said, set_b, set_w12, stream, SHEET_W12};
+use common::{every, said_from, set_b, set_w12, stream, SHEET_W12};
 use second::recording::{append, finish, record, recording_of, said_at, Place, Said};
 use second::refusal::Refusal;
 use second::replay::{self, step, Reader, Replayed};
+use second::requests::REPLAY;
 use second::set::Set;
 use second::sheet::{fields, pack};
 use second::state::{Answer, State, LAST_CLOCK};
 use second::trace::{self, call, Step};
+
+/// All that a script prints once request 1 is in force.
+fn said(script: &str) -> String {
+    said_from(REPLAY, script)
+}
 
 fn place(byte: usize, bit: usize) -> Place {
     Place { byte, bit }

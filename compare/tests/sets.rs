@@ -5,6 +5,7 @@ mod common;
 use common::{every, full_set, once, set_b, set_w12, set_w3, stream};
 use second::load::{demand, least_common_cycle, verdict, verdict_each_length, Verdict};
 use second::refusal::Refusal;
+use second::requests::{JITTER_BOTH_WAYS, REPLAY};
 use second::set::{event_limit, jittered_cycle, Set, Tuple};
 
 fn late(length: u64, demand: u64) -> Verdict {
@@ -13,6 +14,18 @@ fn late(length: u64, demand: u64) -> Verdict {
 
 fn one(tuples: &[Tuple]) -> Set {
     Set::of(&[stream(0, 1, 1, tuples)])
+}
+
+/// A jittered cycle before request 2 is in force.
+fn one_way(cycle: u32, jitter: u32) -> Result<[Tuple; 2], Refusal> {
+    let tuples = jittered_cycle(cycle, jitter, 0);
+    assert_eq!(jittered_cycle(cycle, jitter, REPLAY), tuples);
+    tuples
+}
+
+/// A jittered cycle with request 2 in force.
+fn both_ways(cycle: u32, jitter: u32) -> Result<[Tuple; 2], Refusal> {
+    jittered_cycle(cycle, jitter, JITTER_BOTH_WAYS)
 }
 
 fn both_verdicts(set: &Set) -> Verdict {
@@ -153,6 +166,36 @@ fn limits_and_demands_refused() {
 #[test]
 fn jittered_cycles() {
     for (cycle, jitter, offset) in [
+        (10, 0, 10),
+        (10, 3, 7),
+        (10, 10, 0),
+        (100_001, 1, 100_000),
+        (1_000_000, 900_000, 100_000),
+        (1_000_000, 1_000_000, 0),
+    ] {
+        assert_eq!(
+            one_way(cycle, jitter),
+            Ok([once(0), every(cycle, offset)]),
+            "{cycle} {jitter}"
+        );
+    }
+    for (cycle, jitter) in [
+        (0, 0),
+        (1_000_001, 1_000_000),
+        (10, 11),
+        (1_000_000, 899_999),
+        (100_001, 0),
+        (10, u32::MAX),
+        (u32::MAX, u32::MAX),
+    ] {
+        let refused = Err(Refusal::OutOfRule);
+        assert_eq!(one_way(cycle, jitter), refused, "{cycle} {jitter}");
+    }
+}
+
+#[test]
+fn cycles_jittered_both_ways() {
+    for (cycle, jitter, offset) in [
         (20, 0, 20),
         (20, 2, 16),
         (20, 9, 2),
@@ -168,7 +211,7 @@ fn jittered_cycles() {
         (1_000_000, 500_000, 0),
     ] {
         assert_eq!(
-            jittered_cycle(cycle, jitter),
+            both_ways(cycle, jitter),
             Ok([once(0), every(cycle, offset)]),
             "{cycle} {jitter}"
         );
@@ -191,7 +234,7 @@ fn jittered_cycles() {
         (u32::MAX, u32::MAX / 2),
     ] {
         let refused = Err(Refusal::OutOfRule);
-        assert_eq!(jittered_cycle(cycle, jitter), refused, "{cycle} {jitter}");
+        assert_eq!(both_ways(cycle, jitter), refused, "{cycle} {jitter}");
     }
 }
 
@@ -200,7 +243,7 @@ fn a_jitter_of_which_twice_is_more_than_32_bits() {
     for cycle in [0, 1, 10, 20, 1_000_000, u32::MAX] {
         // What is left of 2j in 32 bits would be 0, 10 and so on.
         for jitter in [1 << 31, (1 << 31) + 5, (1 << 31) + 450_000, u32::MAX] {
-            assert_eq!(jittered_cycle(cycle, jitter), Err(Refusal::OutOfRule));
+            assert_eq!(both_ways(cycle, jitter), Err(Refusal::OutOfRule));
         }
     }
 }
@@ -209,7 +252,7 @@ fn a_jitter_of_which_twice_is_more_than_32_bits() {
 fn jittered_cycles_keep_the_rules_and_count_both_ways() {
     for cycle in 1..=40 {
         for jitter in 0..=cycle / 2 {
-            let tuples = jittered_cycle(cycle, jitter).unwrap();
+            let tuples = both_ways(cycle, jitter).unwrap();
             let set = one(&tuples);
             assert!(set.valid());
             // The earliest that one can come after another: z - 2j, and every z after that.

@@ -6,6 +6,7 @@ use std::io;
 
 use second::recording;
 use second::replay;
+use second::requests;
 use second::trace::{self, Run};
 
 use crate::cases::{self, Case};
@@ -16,6 +17,8 @@ use crate::random::Random;
 pub struct Kind {
     /// Its name.
     name: &'static str,
+    /// The request that brings it, 0 for a program of document 01.
+    request: u32,
     /// What it reads from standard input.
     input: &'static str,
     /// How the files are named that hold what it writes.
@@ -37,6 +40,7 @@ struct Expected {
 /// The trace program.
 pub const TRACE: Kind = Kind {
     name: "trace",
+    request: 0,
     input: "trace",
     written: ["expected.txt", "found.txt"],
     make: |random| cases::make(random, &cases::TO_RUN),
@@ -53,6 +57,7 @@ pub const TRACE: Kind = Kind {
 /// The replay program.
 pub const REPLAY: Kind = Kind {
     name: "replay",
+    request: requests::REPLAY,
     input: "recording",
     written: ["expected.txt", "found.txt"],
     make: cases::to_replay,
@@ -75,6 +80,7 @@ pub const REPLAY: Kind = Kind {
 /// is not compared.
 pub const RECORD: Kind = Kind {
     name: "record",
+    request: requests::REPLAY,
     input: "trace",
     written: ["expected.bin", "found.bin"],
     make: cases::to_record,
@@ -91,6 +97,19 @@ pub const RECORD: Kind = Kind {
     },
     first_difference: programs::first_different_byte,
 };
+
+impl Kind {
+    /// Nothing, or that the request that brings the program is not in force.
+    pub fn in_force(&self, requests: u32) -> io::Result<()> {
+        if self.request <= requests {
+            return Ok(());
+        }
+        let Kind { name, request, .. } = self;
+        Err(io::Error::other(format!(
+            "request {request}, which brings the program {name}, is not in force"
+        )))
+    }
+}
 
 fn sheet_of(case: &Case) -> &[u8] {
     case.sheet.as_deref().unwrap_or(&[])

@@ -1,5 +1,6 @@
 //! Scenes about the console's set.
 
+use second::requests::JITTER_BOTH_WAYS;
 use second::set::{
     Set, Stream, Tuple, GREATEST_COST, GREATEST_CYCLE, GREATEST_DEADLINE, GREATEST_OFFSET,
     GREATEST_TASK, STREAM_PLACES, TUPLE_PLACES,
@@ -256,6 +257,35 @@ impl Script<'_> {
     }
 
     pub(super) fn jittered_cycles(&mut self) {
+        if self.in_force(JITTER_BOTH_WAYS) {
+            self.jitter_both_ways();
+        } else {
+            self.jitter_one_way();
+        }
+    }
+
+    /// Cycles and jitters at the edges of document 01's rule.
+    fn jitter_one_way(&mut self) {
+        for _ in 0..self.random.between(1, 6) {
+            let cycle = match self.random.below(3) {
+                0 => self.random.between(0, GREATEST_CYCLE + 1),
+                1 => around(
+                    self.random,
+                    &[0, 1, GREATEST_OFFSET, 2 * GREATEST_OFFSET, GREATEST_CYCLE],
+                ),
+                _ => near_limit(self.random),
+            };
+            let limits = [0, cycle, cycle.saturating_sub(GREATEST_OFFSET)];
+            let jitter = match self.random.below(4) {
+                0 => self.random.between(0, cycle),
+                _ => around(self.random, &limits),
+            };
+            self.say(format!("jitter {cycle} {jitter}"));
+        }
+    }
+
+    /// Cycles and jitters at the edges of request 2's rule.
+    fn jitter_both_ways(&mut self) {
         for _ in 0..self.random.between(4, 20) {
             let cycle = self.cycle_to_jitter();
             let jitter = self.jitter_of(cycle);

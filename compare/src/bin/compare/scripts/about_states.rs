@@ -1,5 +1,6 @@
 //! Scenes about the console's state.
 
+use second::requests::REPLAY;
 use second::set::{Stream, GREATEST_TASK, STREAM_PLACES};
 use second::state::{Message, State, LAST_CLOCK, MESSAGE_PLACES};
 
@@ -37,7 +38,10 @@ impl Script<'_> {
 
     /// One call, a step of the replay, or a question about the state.
     pub(super) fn step(&mut self) {
-        match self.random.below(18) {
+        if self.in_force(REPLAY) && self.random.one_in(9) {
+            return self.say("next");
+        }
+        match self.random.below(16) {
             0..=4 => {
                 let stream = self.stream_number();
                 self.say(format!("post {stream}"));
@@ -46,7 +50,6 @@ impl Script<'_> {
             11..=12 => self.say("done"),
             13 => self.say("choose"),
             14 => self.say("formed"),
-            15..=16 => self.say("next"),
             _ => self.say("state"),
         }
     }

@@ -81,7 +81,8 @@ const ODD_LINES: &[&[u8]] = &[
 ];
 
 impl Script<'_> {
-    /// A line of any command with numbers that may be anything.
+    /// A line of any command with numbers that may be anything. Where the request that brings the
+    /// command is not in force, it is no command.
     fn any_command(&mut self) -> String {
         let (name, numbers) = self.random.pick(&[
             ("read", 0),
