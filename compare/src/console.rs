@@ -3,11 +3,14 @@
 use std::fmt::Write;
 
 use crate::load;
+use crate::recording::{self, Place};
 use crate::refusal::Refusal;
+use crate::replay;
+use crate::requests::REPLAY;
 use crate::set::{self, Set, Tuple, STREAM_PLACES, TUPLE_PLACES};
 use crate::sheet;
 use crate::state::{Message, State, MESSAGE_PLACES};
-use crate::trace::{take, Step};
+use crate::trace::{self, take, Step};
 
 /// "Lines are at most 4,096 bytes; a longer one prints `?`."
 pub const LONGEST_LINE: usize = 4_096;
@@ -15,23 +18,32 @@ pub const LONGEST_LINE: usize = 4_096;
 pub const LONGEST_BUFFER: u32 = 1_024;
 /// "each 170 before"
 const BUFFER_BYTE: u8 = 170;
+/// "the recording that is replayed, at most 1,024 bytes, else `?`"
+pub const LONGEST_RECORDING: usize = 1_024;
 
 /// "The console holds a set (at first the empty set) and a state (at first the start of the empty
-/// set)."
+/// set)." Of request 1 it holds "the recording that is replayed" ("At first it is empty.") and the
+/// reader's place.
 #[derive(Clone, Debug, PartialEq, Eq)]
 pub struct Console {
+    /// The requests that are in force: all up to this number.
+    pub requests: u32,
     /// The set.
     pub set: Set,
     /// The state.
     pub state: State,
+    /// The recording that is replayed.
+    pub recording: Vec<u8>,
+    /// The reader's place.
+    pub place: Place,
 }
 
-impl Default for Console {
-    fn default() -> Self {
-        Console {
-            set: Set::EMPTY,
-            state: State::EMPTY,
-        }
+/// "Each request's commands come with its landing." The request that brings a command, 0 for every
+/// other word.
+fn request_of(name: &[u8]) -> u32 {
+    match name {
+        b"recording" | b"next" | b"reader" | b"where" | b"record" => REPLAY,
+        _ => 0,
     }
 }
 
@@ -43,6 +55,17 @@ pub fn lines(input: &[u8]) -> impl Iterator<Item = &[u8]> {
 }
 
 impl Console {
+    /// A console as it is at first, with the requests up to the number in force.
+    pub fn new(requests: u32) -> Console {
+        Console {
+            requests,
+            set: Set::EMPTY,
+            state: State::EMPTY,
+            recording: Vec::new(),
+            place: Place::START,
+        }
+    }
+
     /// Does what a line says and gives all it prints. The line comes without its newline.
     ///
     /// "A line that is not one of those below, or has a number or index that is out of the
@@ -66,8 +89,14 @@ impl Console {
     fn command(&mut self, line: &[u8]) -> Option<String> {
         let words: Vec<&[u8]> = line.split(|&byte| byte == b' ').collect();
         let (name, rest) = words.split_first()?;
-        if *name == b"read" {
-            return self.read(rest);
+        if request_of(name) > self.requests {
+            return None;
+        }
+        match *name {
+            b"read" => return self.read(rest),
+            b"recording" => return self.take_recording(rest),
+            b"record" => return record(rest),
+            _ => {}
         }
         let numbers: Vec<u32> = rest
             .iter()
@@ -104,7 +133,7 @@ impl Console {
                 Ok(demand) => demand.to_string(),
                 Err(refusal) => format!("{refusal} 0"),
             }),
-            (b"jitter", &[cycle, jitter]) => Some(jitter_answer(cycle, jitter)),
+            (b"jitter", &[cycle, jitter]) => Some(self.jitter(cycle, jitter)),
             (b"verdict", []) => Some(load::verdict(&self.set).to_string()),
             (b"start", []) => {
                 let (state, result) = State::start(&self.set);
@@ -136,20 +165,23 @@ impl Console {
             (b"choose", []) => Some(self.choose()),
             (b"state", []) => Some(self.show_state()),
             (b"formed", []) => Some(self.formed()),
+            (b"next", []) => Some(self.next_step()),
+            (b"reader", &[byte, bit]) => {
+                self.place = Place {
+                    byte: byte as usize,
+                    bit: bit as usize,
+                };
+                put()
+            }
+            (b"where", []) => Some(format!("at {} {}", self.place.byte, self.place.bit)),
             _ => None,
         }
     }
 
     /// "`read HEX`: reads the bytes as a sheet. Prints `set N` with the number of streams, and the
-    /// set becomes the one read; or `refused N`, and the set becomes the empty set." "an empty HEX
-    /// leaves its space out as well (`read`)".
+    /// set becomes the one read; or `refused N`, and the set becomes the empty set."
     fn read(&mut self, words: &[&[u8]]) -> Option<String> {
-        let bytes = match words {
-            [] => Vec::new(),
-            [hex] => bytes_of_hex(hex)?,
-            _ => return None,
-        };
-        Some(match sheet::read(&bytes) {
+        Some(match sheet::read(&hex_argument(words)?) {
             Ok(set) => {
                 self.set = set;
                 format!("set {}", set.count)
@@ -166,21 +198,48 @@ impl Console {
     /// in hex (an empty line for LEN 0)."
     fn write(&self, length: u32) -> String {
         let mut buffer = vec![BUFFER_BYTE; length as usize];
-        let mut answer = match sheet::write(&self.set, &mut buffer) {
+        let answer = match sheet::write(&self.set, &mut buffer) {
             Ok(written) => format!("wrote {written}"),
             Err(refusal) => refusal.to_string(),
         };
-        answer.push('\n');
-        for byte in buffer {
-            write!(answer, "{byte:02x}").expect("a string takes all that is written to it");
+        format!("{answer}\n{}", hex_of_bytes(&buffer))
+    }
+
+    /// "`recording HEX`: the recording that is replayed, at most 1,024 bytes, else `?`; the reader
+    /// goes to its start. Prints `recording N` with its bytes."
+    fn take_recording(&mut self, words: &[&[u8]]) -> Option<String> {
+        let bytes = hex_argument(words)?;
+        if bytes.len() > LONGEST_RECORDING {
+            return None;
         }
-        answer
+        let answer = format!("recording {}", bytes.len());
+        self.recording = bytes;
+        self.place = Place::START;
+        Some(answer)
+    }
+
+    /// "`next`: one step of the replay on the console's state."
+    fn next_step(&mut self) -> String {
+        let clock_before = self.state.clock;
+        replay::step(&mut self.state, &self.recording, &mut self.place).line(clock_before)
     }
 
     fn put_tuple(&mut self, place: u32, tuple_place: u32, tuple: Tuple) -> Option<String> {
         let stream = &mut self.set.streams[index(place, STREAM_PLACES)?];
         stream.tuples[index(tuple_place, TUPLE_PLACES)?] = tuple;
         put()
+    }
+
+    /// "`jitter Z J`: prints the tuples as `once 0 every Z A`, or `refused 7`."
+    fn jitter(&self, cycle: u32, jitter: u32) -> String {
+        let words = |tuple: &Tuple| match tuple {
+            Tuple::Once { offset } => format!("once {offset}"),
+            Tuple::Every { cycle, offset } => format!("every {cycle} {offset}"),
+        };
+        match set::jittered_cycle(cycle, jitter, self.requests) {
+            Ok(tuples) => tuples.iter().map(words).collect::<Vec<_>>().join(" "),
+            Err(refusal) => refusal.to_string(),
+        }
     }
 
     /// "`choose`: prints `none`, `task T stream S`, or `refused 12`."
@@ -225,16 +284,24 @@ fn put() -> Option<String> {
     Some("put".to_string())
 }
 
-/// "`jitter Z J`: prints the tuples as `once 0 every Z A`, or `refused 7`."
-fn jitter_answer(cycle: u32, jitter: u32) -> String {
-    let words = |tuple: &Tuple| match tuple {
-        Tuple::Once { offset } => format!("once {offset}"),
-        Tuple::Every { cycle, offset } => format!("every {cycle} {offset}"),
+/// "`record LEN TRACE`: TRACE is steps of a trace with no spaces (`p1uud`), or is left out with
+/// its space. Its recording into a buffer of LEN bytes (at most 1,024, else `?`), each 170 before.
+/// Prints `recorded N` with its bytes, or `refused 11`; then the buffer in hex as `write` does. A
+/// TRACE that has any other byte, or ends in `p`, is `?`."
+fn record(words: &[&[u8]]) -> Option<String> {
+    let (length, trace): (&[u8], &[u8]) = match words {
+        [length] => (length, &[]),
+        [length, trace] if !trace.is_empty() => (length, trace),
+        _ => return None,
     };
-    match set::jittered_cycle(cycle, jitter) {
-        Ok(tuples) => tuples.iter().map(words).collect::<Vec<_>>().join(" "),
+    let length = number(length).filter(|&length| length <= LONGEST_BUFFER)?;
+    let calls = trace::steps(trace).ok()?;
+    let mut buffer = vec![BUFFER_BYTE; length as usize];
+    let answer = match recording::record(&mut buffer, &calls) {
+        Ok(bytes) => format!("recorded {bytes}"),
         Err(refusal) => refusal.to_string(),
-    }
+    };
+    Some(format!("{answer}\n{}", hex_of_bytes(&buffer)))
 }
 
 /// The index, if it is one of the given number of places.
@@ -258,6 +325,16 @@ fn number(word: &[u8]) -> Option<u32> {
     u32::try_from(value).ok()
 }
 
+/// The bytes of the HEX of a line, which may be left out: "an empty HEX leaves its space out as
+/// well (`read`)".
+fn hex_argument(words: &[&[u8]]) -> Option<Vec<u8>> {
+    match words {
+        [] => Some(Vec::new()),
+        [hex] => bytes_of_hex(hex),
+        _ => None,
+    }
+}
+
 /// "HEX is an even number of lower-case hex digits". A word has at least one byte, as "an empty
 /// HEX leaves its space out as well".
 fn bytes_of_hex(word: &[u8]) -> Option<Vec<u8>> {
@@ -275,4 +352,13 @@ fn hex_digit(byte: u8) -> Option<u8> {
         b'a'..=b'f' => Some(byte - b'a' + 10),
         _ => None,
     }
+}
+
+/// "the whole buffer in hex"
+fn hex_of_bytes(bytes: &[u8]) -> String {
+    let mut hex = String::new();
+    for byte in bytes {
+        write!(hex, "{byte:02x}").expect("a string takes all that is written to it");
+    }
+    hex
 }

@@ -1,14 +1,20 @@
-//! The second program: a plain rendering of document 01 that shares nothing with the first one.
+//! The second program: a plain rendering of document 01, and of the first requests of document 02,
+//! that shares nothing with the first one. Which of the requests are in force is one number,
+//! [`requests::IN_FORCE`].
 //!
-//! Every function that renders a sentence of document 01 quotes it. Nothing here is made fast
-//! where that would hide the sentence; the exception is [`load::verdict`], which keeps running
-//! sums, and beside it stands [`load::verdict_each_length`], which does not.
+//! Every function that renders a sentence of document 01, of a request or of how a request is
+//! read quotes it. Nothing here is made fast where that would hide the sentence; the exception is
+//! [`load::verdict`], which keeps running sums, and beside it stands
+//! [`load::verdict_each_length`], which does not.
 //!
-//! - [`set`]: streams, sets, the event limit and the jittered cycle
+//! - [`requests`]: which requests are in force
+//! - [`set`]: streams, sets, the event limit and the jittered cycle (with request 2)
 //! - [`load`]: demand, H, long-run load and the verdicts
 //! - [`sheet`]: reading and writing the packed sheet
 //! - [`state`]: the state, its rules, and the calls start, post, choose and unit
 //! - [`trace`]: the trace program
+//! - [`recording`]: recordings of calls, and the cab's recorder (request 1)
+//! - [`replay`]: replay of a recording, step by step and whole (request 1)
 //! - [`console`]: the console program
 
 #![forbid(unsafe_code)]
@@ -16,7 +22,10 @@
 
 pub mod console;
 pub mod load;
+pub mod recording;
 pub mod refusal;
+pub mod replay;
+pub mod requests;
 pub mod set;
 pub mod sheet;
 pub mod state;

@@ -25,10 +25,15 @@ pub enum Refusal {
     BadTraceByte = 9,
     /// "a set padding bit or a further byte gives 10"
     AfterLastField = 10,
-    /// "sheet longer than the buffer lent for writing"
+    /// "sheet longer than the buffer lent for writing"; of a recording too, "11 where there is no
+    /// room"
     BufferTooShort = 11,
-    /// "state not well formed"
+    /// "state not well formed"; in a replay also "the reader's place is not in its recording"
     NotWellFormed = 12,
+    /// "13 for a recording that stops before end"
+    StopsBeforeEnd = 13,
+    /// "14 for set padding or further bytes"
+    AfterEnd = 14,
 }
 
 impl Refusal {

@@ -3,6 +3,7 @@
 //! A set here can hold any number in any place, so that sets out of rule can be asked about.
 
 use crate::refusal::Refusal;
+use crate::requests::JITTER_BOTH_WAYS;
 
 /// "A set has 0 to 16 streams."
 pub const STREAM_PLACES: usize = 16;
@@ -191,15 +192,20 @@ pub fn event_limit(set: &Set, stream: u32, length: u32) -> Result<u64, Refusal> 
 /// "A jittered cycle (z, j) is written as once at 0, and every z from z - j. It is refused with 7
 /// exactly if z is 0 or above 1,000,000, j is above z, or z - j is above 100,000; no tuples are
 /// then returned."
-pub fn jittered_cycle(cycle: u32, jitter: u32) -> Result<[Tuple; 2], Refusal> {
-    if cycle == 0 || cycle > GREATEST_CYCLE || jitter > cycle || cycle - jitter > GREATEST_OFFSET {
+///
+/// With request 2 in force, 2j stands for j: "Source document 000 (7.1.2) has the second tuple
+/// start at z - 2j. Every jittered cycle is to be written so. Refusals: 7 now when 2j is above z or
+/// z - 2j is above 100,000, and for z as before." "`j` is any 32-bit number: 2j may not overflow."
+pub fn jittered_cycle(cycle: u32, jitter: u32, requests: u32) -> Result<[Tuple; 2], Refusal> {
+    let ways = if requests >= JITTER_BOTH_WAYS { 2 } else { 1 };
+    let (z, nearer) = (u64::from(cycle), ways * u64::from(jitter));
+    if cycle == 0 || cycle > GREATEST_CYCLE || nearer > z {
         return Err(Refusal::OutOfRule);
     }
-    Ok([
-        Tuple::Once { offset: 0 },
-        Tuple::Every {
-            cycle,
-            offset: cycle - jitter,
-        },
-    ])
+    // At most the cycle, so it is a 32-bit number.
+    let offset = (z - nearer) as u32;
+    if offset > GREATEST_OFFSET {
+        return Err(Refusal::OutOfRule);
+    }
+    Ok([Tuple::Once { offset: 0 }, Tuple::Every { cycle, offset }])
 }

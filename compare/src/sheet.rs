@@ -1,5 +1,7 @@
 //! "The sheet": a stream set as packed bit fields.
 
+use std::{fs, io};
+
 use crate::refusal::Refusal;
 use crate::set::{
     Set, Stream, Tuple, GREATEST_COST, GREATEST_CYCLE, GREATEST_DEADLINE, GREATEST_OFFSET,
@@ -22,6 +24,14 @@ pub mod width {
     pub const TUPLES_LESS_ONE: u32 = 2;
     pub const CYCLE: u32 = 20;
     pub const OFFSET: u32 = 17;
+}
+
+/// The bytes of the file set.bin. "A missing set.bin is read as no bytes."
+pub fn bytes_of_file() -> io::Result<Vec<u8>> {
+    match fs::read("set.bin") {
+        Err(error) if error.kind() == io::ErrorKind::NotFound => Ok(Vec::new()),
+        bytes => bytes,
+    }
 }
 
 /// Bytes read as "Bit fields, most significant first, no gaps".

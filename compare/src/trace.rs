@@ -5,7 +5,7 @@ use std::fmt::Write;
 use crate::load;
 use crate::refusal::Refusal;
 use crate::sheet;
-use crate::state::State;
+use crate::state::{Answer, State};
 
 /// One step of a trace.
 #[derive(Clone, Copy, Debug, PartialEq, Eq)]
@@ -29,25 +29,12 @@ pub struct Run {
     pub sheet_refused: bool,
 }
 
-/// Runs a trace. "The first line is the verdict (accept, late I demand, overload, refused N); a
-/// refused sheet prints only that line, and after any verdict on a sheet that was read, 8
-/// included, the steps follow."
+/// Runs a trace: the verdict, then the steps.
 pub fn run(sheet: &[u8], trace: &[u8]) -> Run {
-    let mut run = Run {
-        output: String::new(),
-        calls: 0,
-        sheet_refused: false,
+    let (mut run, mut state) = match Run::begin(sheet) {
+        (run, Some(state)) => (run, state),
+        (run, None) => return run,
     };
-    let set = match sheet::read(sheet) {
-        Ok(set) => set,
-        Err(refusal) => {
-            run.print(refusal);
-            run.sheet_refused = true;
-            return run;
-        }
-    };
-    run.print(load::verdict(&set));
-    let (mut state, _) = State::start(&set);
     let mut steps = Steps { rest: trace };
     loop {
         match steps.next_step() {
@@ -66,20 +53,63 @@ pub fn run(sheet: &[u8], trace: &[u8]) -> Run {
 }
 
 impl Run {
-    fn print(&mut self, line: impl std::fmt::Display) {
+    /// "The first line is the verdict (accept, late I demand, overload, refused N); a refused
+    /// sheet prints only that line, and after any verdict on a sheet that was read, 8 included,
+    /// the steps follow": the run so far, and the start of the set if one was read.
+    pub(crate) fn begin(sheet: &[u8]) -> (Run, Option<State>) {
+        let mut run = Run {
+            output: String::new(),
+            calls: 0,
+            sheet_refused: false,
+        };
+        match sheet::read(sheet) {
+            Ok(set) => {
+                run.print(load::verdict(&set));
+                let (state, _) = State::start(&set);
+                (run, Some(state))
+            }
+            Err(refusal) => {
+                run.print(refusal);
+                run.sheet_refused = true;
+                (run, None)
+            }
+        }
+    }
+
+    pub(crate) fn print(&mut self, line: impl std::fmt::Display) {
         writeln!(self.output, "{line}").expect("a string takes all that is written to it");
+    }
+}
+
+/// Makes the call of a step.
+pub fn call(state: &mut State, step: Step) -> Answer {
+    match step {
+        Step::Post(stream) => state.post(stream),
+        Step::Unit => state.unit(false),
+        Step::Done => state.unit(true),
     }
 }
 
 /// "Each step prints the clock before it and its answer".
 pub fn take(state: &mut State, step: Step) -> String {
     let clock_before = state.clock;
-    let answer = match step {
-        Step::Post(stream) => state.post(stream),
-        Step::Unit => state.unit(false),
-        Step::Done => state.unit(true),
-    };
+    let answer = call(state, step);
+    line(clock_before, &answer)
+}
+
+/// The line of a step: "the clock before it and its answer".
+pub(crate) fn line(clock_before: u32, answer: &Answer) -> String {
     format!("{clock_before} {answer}")
+}
+
+/// All the steps of a trace; 9 for "Any other byte, or p without its digit".
+pub fn steps(trace: &[u8]) -> Result<Vec<Step>, Refusal> {
+    let mut rest = Steps { rest: trace };
+    let mut steps = Vec::new();
+    while let Some(step) = rest.next_step()? {
+        steps.push(step);
+    }
+    Ok(steps)
 }
 
 /// The part of a trace that is still to be read.

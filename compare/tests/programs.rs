@@ -2,10 +2,15 @@
 
 mod common;
 
-use common::{set_b, SHEET_W12};
-use second::console::{lines, Console};
+use common::{said_from, said_with, set_b, SHEET_W12};
+use second::requests::{JITTER_BOTH_WAYS, REPLAY};
 use second::sheet::{fields, pack};
 use second::trace;
+
+/// All that a script of commands of document 01 prints, whichever requests are in force.
+fn said(script: &str) -> String {
+    said_from(0, script)
+}
 
 fn sheet_b() -> Vec<u8> {
     pack(&fields(&set_b()))
@@ -113,14 +118,6 @@ fn posts_name_streams_in_lower_case_hex() {
     );
 }
 
-/// All that a script prints.
-fn said(script: &str) -> String {
-    let mut console = Console::default();
-    lines(script.as_bytes())
-        .map(|line| console.line(line))
-        .collect()
-}
-
 #[test]
 fn the_example_of_the_console() {
     let script = "\
@@ -223,8 +220,17 @@ pending 0
 
 #[test]
 fn jitter_in_the_console() {
-    assert_eq!(said("jitter 10 3"), "once 0 every 10 7\n");
+    for requests in [0, REPLAY] {
+        assert_eq!(said_with(requests, "jitter 10 3"), "once 0 every 10 7\n");
+        assert_eq!(said_with(requests, "jitter 10 10"), "once 0 every 10 0\n");
+    }
+    let both_ways = |script| said_from(JITTER_BOTH_WAYS, script);
+    assert_eq!(both_ways("jitter 10 3"), "once 0 every 10 4\n");
+    assert_eq!(both_ways("jitter 10 5"), "once 0 every 10 0\n");
+    assert_eq!(both_ways("jitter 10 6"), "refused 7\n");
     assert_eq!(said("jitter 10 11"), "refused 7\n");
+    assert_eq!(said("jitter 10 4294967295"), "refused 7\n");
+    assert_eq!(said("jitter 10 4294967296"), "?\n");
 }
 
 #[test]

@@ -5,6 +5,7 @@ mod common;
 use common::{every, full_set, once, set_b, set_w12, set_w3, stream};
 use second::load::{demand, least_common_cycle, verdict, verdict_each_length, Verdict};
 use second::refusal::Refusal;
+use second::requests::{JITTER_BOTH_WAYS, REPLAY};
 use second::set::{event_limit, jittered_cycle, Set, Tuple};
 
 fn late(length: u64, demand: u64) -> Verdict {
@@ -13,6 +14,18 @@ fn late(length: u64, demand: u64) -> Verdict {
 
 fn one(tuples: &[Tuple]) -> Set {
     Set::of(&[stream(0, 1, 1, tuples)])
+}
+
+/// A jittered cycle before request 2 is in force.
+fn one_way(cycle: u32, jitter: u32) -> Result<[Tuple; 2], Refusal> {
+    let tuples = jittered_cycle(cycle, jitter, 0);
+    assert_eq!(jittered_cycle(cycle, jitter, REPLAY), tuples);
+    tuples
+}
+
+/// A jittered cycle with request 2 in force.
+fn both_ways(cycle: u32, jitter: u32) -> Result<[Tuple; 2], Refusal> {
+    jittered_cycle(cycle, jitter, JITTER_BOTH_WAYS)
 }
 
 fn both_verdicts(set: &Set) -> Verdict {
@@ -152,21 +165,106 @@ fn limits_and_demands_refused() {
 
 #[test]
 fn jittered_cycles() {
-    assert_eq!(jittered_cycle(10, 3), Ok([once(0), every(10, 7)]));
-    assert_eq!(jittered_cycle(10, 10), Ok([once(0), every(10, 0)]));
-    assert_eq!(
-        jittered_cycle(1_000_000, 900_000),
-        Ok([once(0), every(1_000_000, 100_000)])
-    );
+    for (cycle, jitter, offset) in [
+        (10, 0, 10),
+        (10, 3, 7),
+        (10, 10, 0),
+        (100_001, 1, 100_000),
+        (1_000_000, 900_000, 100_000),
+        (1_000_000, 1_000_000, 0),
+    ] {
+        assert_eq!(
+            one_way(cycle, jitter),
+            Ok([once(0), every(cycle, offset)]),
+            "{cycle} {jitter}"
+        );
+    }
     for (cycle, jitter) in [
         (0, 0),
         (1_000_001, 1_000_000),
         (10, 11),
         (1_000_000, 899_999),
         (100_001, 0),
+        (10, u32::MAX),
         (u32::MAX, u32::MAX),
     ] {
-        assert_eq!(jittered_cycle(cycle, jitter), Err(Refusal::OutOfRule));
+        let refused = Err(Refusal::OutOfRule);
+        assert_eq!(one_way(cycle, jitter), refused, "{cycle} {jitter}");
+    }
+}
+
+#[test]
+fn cycles_jittered_both_ways() {
+    for (cycle, jitter, offset) in [
+        (20, 0, 20),
+        (20, 2, 16),
+        (20, 9, 2),
+        (20, 10, 0),
+        (21, 10, 1),
+        (1, 0, 1),
+        (2, 1, 0),
+        (100_000, 0, 100_000),
+        (100_001, 1, 99_999),
+        (100_002, 1, 100_000),
+        (999_999, 450_000, 99_999),
+        (1_000_000, 450_000, 100_000),
+        (1_000_000, 500_000, 0),
+    ] {
+        assert_eq!(
+            both_ways(cycle, jitter),
+            Ok([once(0), every(cycle, offset)]),
+            "{cycle} {jitter}"
+        );
+    }
+    for (cycle, jitter) in [
+        (0, 0),
+        (0, 1),
+        (1_000_001, 450_001),
+        (1_000_001, 500_000),
+        (1, 1),
+        (20, 11),
+        (20, 20),
+        (21, 11),
+        (1_000_000, 449_999),
+        (1_000_000, 500_001),
+        (999_999, 449_999),
+        (100_001, 0),
+        (100_003, 1),
+        (u32::MAX, u32::MAX),
+        (u32::MAX, u32::MAX / 2),
+    ] {
+        let refused = Err(Refusal::OutOfRule);
+        assert_eq!(both_ways(cycle, jitter), refused, "{cycle} {jitter}");
+    }
+}
+
+#[test]
+fn a_jitter_of_which_twice_is_more_than_32_bits() {
+    for cycle in [0, 1, 10, 20, 1_000_000, u32::MAX] {
+        // What is left of 2j in 32 bits would be 0, 10 and so on.
+        for jitter in [1 << 31, (1 << 31) + 5, (1 << 31) + 450_000, u32::MAX] {
+            assert_eq!(both_ways(cycle, jitter), Err(Refusal::OutOfRule));
+        }
+    }
+}
+
+#[test]
+fn jittered_cycles_keep_the_rules_and_count_both_ways() {
+    for cycle in 1..=40 {
+        for jitter in 0..=cycle / 2 {
+            let tuples = both_ways(cycle, jitter).unwrap();
+            let set = one(&tuples);
+            assert!(set.valid());
+            // The earliest that one can come after another: z - 2j, and every z after that.
+            let limit = |length| event_limit(&set, 0, length).unwrap();
+            let nearest = cycle - 2 * jitter;
+            if nearest > 0 {
+                assert_eq!(limit(nearest - 1), 1);
+            }
+            assert_eq!(limit(nearest), 2);
+            assert_eq!(limit(nearest + cycle - 1), 2);
+            assert_eq!(limit(nearest + cycle), 3);
+        }
     }
 }
 

@@ -3,15 +3,12 @@
 
 use std::io::{self, Read, Write};
 
+use second::{sheet, trace};
+
 fn main() -> io::Result<()> {
-    let sheet = match std::fs::read("set.bin") {
-        Ok(bytes) => bytes,
-        // "A missing set.bin is read as no bytes."
-        Err(error) if error.kind() == io::ErrorKind::NotFound => Vec::new(),
-        Err(error) => return Err(error),
-    };
-    let mut trace = Vec::new();
-    io::stdin().read_to_end(&mut trace)?;
-    let run = second::trace::run(&sheet, &trace);
+    let sheet = sheet::bytes_of_file()?;
+    let mut steps = Vec::new();
+    io::stdin().read_to_end(&mut steps)?;
+    let run = trace::run(&sheet, &steps);
     io::stdout().write_all(run.output.as_bytes())
 }

@@ -1,8 +1,28 @@
-//! Sets of document 01 for the tests.
+//! Sets of document 01 for the tests, and what a console script prints.
 
 #![allow(dead_code)]
 
+use second::console::{lines, Console};
+use second::requests::RENDERED;
 use second::set::{Set, Stream, Tuple};
+
+/// All that a script prints with the requests up to a number in force.
+pub fn said_with(requests: u32, script: &str) -> String {
+    let mut console = Console::new(requests);
+    lines(script.as_bytes())
+        .map(|line| console.line(line))
+        .collect()
+}
+
+/// All that a script prints once a request is in force, 0 for from the beginning: the requests
+/// behind it do not change it.
+pub fn said_from(request: u32, script: &str) -> String {
+    let said = said_with(request, script);
+    for requests in request..=RENDERED {
+        assert_eq!(said_with(requests, script), said, "{requests}: {script}");
+    }
+    said
+}
 
 pub fn once(offset: u32) -> Tuple {
     Tuple::Once { offset }

@@ -47,9 +47,9 @@ fn stored(which: Sheets, lengths: &Lengths, seed: u64, numbers: Range<u64>) -> S
     for (place, number) in numbers.enumerate() {
         let case = cases::make_of(which, &mut Random::for_case(seed, number), lengths);
         let sheet = case.sheet.unwrap_or_default();
-        let run = trace::run(&sheet, &case.trace);
+        let run = trace::run(&sheet, &case.input);
         store(&mut all.bytes, &sheet);
-        store(&mut all.bytes, &case.trace);
+        store(&mut all.bytes, &case.input);
         writeln!(all.expected, "case {place}").expect("a string takes all that is written to it");
         all.expected += &run.output;
         all.damaged += u64::from(run.sheet_refused);
@@ -78,7 +78,7 @@ pub fn write(cases: u64, seed: u64, folder: &Path) -> io::Result<()> {
 /// Compares; whether all agreed.
 pub fn compare(program: &Program, which: Sheets, cases: u64, seed: u64) -> io::Result<bool> {
     let lengths = match which {
-        Sheets::Mixed => &cases::TO_RUN,
+        Sheets::Mixed | Sheets::MoreGood => &cases::TO_RUN,
         Sheets::Damaged => &cases::TO_STORE,
     };
     let folder = TemporaryFolder::new()?;

@@ -1,19 +1,21 @@
-//! Random cases for the trace program: a sheet and a trace.
+//! Random cases for the programs that read a sheet and standard input: a trace or a recording.
 
 use second::set::Set;
 use second::sheet;
+use second::trace::Step;
 
 use crate::random::Random;
+use crate::recordings;
 use crate::sets;
 use crate::sheets;
 use crate::traces::{self, Lengths};
 
-/// What the trace program is given.
+/// What a program is given.
 pub struct Case {
     /// The bytes of set.bin, none if the file is missing.
     pub sheet: Option<Vec<u8>>,
     /// Standard input.
-    pub trace: Vec<u8>,
+    pub input: Vec<u8>,
 }
 
 /// Cases to be run at once, of all sizes.
@@ -32,11 +34,24 @@ pub const TO_STORE: Lengths = Lengths {
     full_one_in: 120,
 };
 
+/// Traces of a few steps, so that none and each number of padding bits come up.
+const SHORT: Lengths = Lengths {
+    usual: 4,
+    long: 20,
+    long_one_in: 10,
+    full_one_in: 1_000,
+};
+
+/// At most so many calls are recorded.
+const MOST_CALLS: usize = 30_000;
+
 /// Which sheets the cases have.
 #[derive(Clone, Copy)]
 pub enum Sheets {
     /// About one in three is damaged.
     Mixed,
+    /// About one in four is damaged.
+    MoreGood,
     /// Each is damaged: no set is read from it.
     Damaged,
 }
@@ -56,23 +71,71 @@ fn no_sheet(random: &mut Random, set: &Set) -> Vec<u8> {
     }
 }
 
-pub fn make_of(which: Sheets, random: &mut Random, lengths: &Lengths) -> Case {
+/// A set's sheet, in so many of 36 cases as it should be; of the rest most are damaged.
+fn mixed(random: &mut Random, set: &Set, good: u64) -> Option<Vec<u8>> {
+    match random.below(36) {
+        case if case < good => Some(sheets::of_set(set)),
+        34 => Some(Vec::new()),
+        35 => None,
+        _ => Some(sheets::damaged(random, set)),
+    }
+}
+
+/// A sheet, and the set that is read from it, or the one that was meant.
+fn sheet_and_set(which: Sheets, random: &mut Random) -> (Option<Vec<u8>>, Set) {
     loop {
         let set = sets::any(random);
         let sheet = match which {
             Sheets::Damaged => Some(no_sheet(random, &set)),
-            Sheets::Mixed => match random.below(36) {
-                0..=23 => Some(sheets::of_set(&set)),
-                24..=33 => Some(sheets::damaged(random, &set)),
-                34 => Some(Vec::new()),
-                _ => None,
-            },
+            Sheets::Mixed => mixed(random, &set, 24),
+            Sheets::MoreGood => mixed(random, &set, 27),
         };
-        // The trace is made for the set that is read, or for the one that was meant.
         let read = sheet::read(sheet.as_deref().unwrap_or(&[])).unwrap_or(set);
         if sets::worth_judging(random, &read) {
-            let trace = traces::make(random, &read, lengths);
-            return Case { sheet, trace };
+            return (sheet, read);
         }
     }
+}
+
+pub fn make_of(which: Sheets, random: &mut Random, lengths: &Lengths) -> Case {
+    let (sheet, set) = sheet_and_set(which, random);
+    let input = traces::make(random, &set, lengths);
+    Case { sheet, input }
+}
+
+/// A case for the replay program: a sheet and a recording.
+pub fn to_replay(random: &mut Random) -> Case {
+    let (sheet, set) = sheet_and_set(Sheets::MoreGood, random);
+    let calls = lengthened(traces::steps(random, &set, &TO_RUN), random);
+    let input = recordings::any(random, &calls);
+    Case { sheet, input }
+}
+
+/// A case for the record program: a trace, and no sheet.
+pub fn to_record(random: &mut Random) -> Case {
+    let set = sets::small(random);
+    let input = match random.below(50) {
+        0 => lengthened_trace(random, &set),
+        1..=10 => traces::make(random, &set, &SHORT),
+        _ => traces::make(random, &set, &TO_RUN),
+    };
+    Case { sheet: None, input }
+}
+
+/// The calls, now and then many times over.
+fn lengthened(calls: Vec<Step>, random: &mut Random) -> Vec<Step> {
+    if !random.one_in(50) {
+        return calls;
+    }
+    let mut longer = calls.repeat(random.index(40) + 1);
+    longer.truncate(MOST_CALLS);
+    longer
+}
+
+/// A trace of many steps.
+fn lengthened_trace(random: &mut Random, set: &Set) -> Vec<u8> {
+    let mut trace = traces::make(random, set, &TO_RUN);
+    trace = trace.repeat(random.index(40) + 1);
+    trace.truncate(2 * MOST_CALLS);
+    trace
 }

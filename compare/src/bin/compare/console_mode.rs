@@ -10,14 +10,14 @@ use crate::scripts::{self, Line};
 const LINES_IN_SCRIPT: u64 = 2_000;
 
 /// Compares; whether all agreed.
-pub fn compare(program: &Program, lines: u64, seed: u64) -> io::Result<bool> {
+pub fn compare(program: &Program, requests: u32, lines: u64, seed: u64) -> io::Result<bool> {
     let folder = TemporaryFolder::new()?;
     let mut compared = 0;
     let mut number = 0;
     while compared < lines {
         let mut random = Random::for_case(seed, number);
         let at_least = LINES_IN_SCRIPT.min(lines - compared) as usize;
-        let script = scripts::make(&mut random, at_least);
+        let script = scripts::make(&mut random, requests, at_least);
         let input = input_of(&mut random, &script);
         let piece = random.pick(&[61, 4_096, usize::MAX]);
         let found = program.run(folder.path(), &input, piece)?;

@@ -7,17 +7,20 @@ mod cases;
 mod console_mode;
 mod ontime_mode;
 mod plays;
+mod process_mode;
 mod programs;
 mod random;
+mod recordings;
 mod scripts;
 mod sets;
 mod sheets;
-mod trace_mode;
 mod traces;
 
 use std::io;
 use std::path::Path;
 use std::process::ExitCode;
+
+use second::requests;
 
 use cases::Sheets;
 use programs::Program;
@@ -27,14 +30,20 @@ compare trace BIN CASES SEED    the trace program BIN against the library
 compare console BIN LINES SEED  the console program BIN against the library
 compare many BIN CASES SEED     the program BIN of many cases against the library, on mixed sheets
 compare damaged BIN CASES SEED  the program BIN of many cases against the library, on damaged sheets
+compare replay BIN CASES SEED   the replay program BIN against the library
+compare record BIN CASES SEED   the record program BIN against the library
 compare batch CASES SEED DIR    writes DIR/cases.bin and DIR/expected.txt
-compare ontime CASES SEED       that accepted sets run on time";
+compare ontime CASES SEED       that accepted sets run on time
+compare in-force                prints the number up to which requests are in force
+With --requests N behind the others that number is N, for trying.";
 
 /// Exit status 0 if nothing differs, 1 if something does, 2 if it could not be compared.
 fn main() -> ExitCode {
     let arguments: Vec<String> = std::env::args().skip(1).collect();
     let arguments: Vec<&str> = arguments.iter().map(String::as_str).collect();
-    match run(&arguments) {
+    let done = requests::of_arguments(&arguments)
+        .and_then(|(requests, arguments)| run(arguments, requests));
+    match done {
         Some(Ok(true)) => ExitCode::SUCCESS,
         Some(Ok(false)) => ExitCode::from(1),
         Some(Err(error)) => {
@@ -48,17 +57,25 @@ fn main() -> ExitCode {
     }
 }
 
-/// Does what the arguments say; none if they say nothing that can be done.
-fn run(arguments: &[&str]) -> Option<io::Result<bool>> {
+/// Does what the arguments say, with the requests up to a number in force; none if they say
+/// nothing that can be done.
+fn run(arguments: &[&str], requests: u32) -> Option<io::Result<bool>> {
     let number = |word: &str| word.parse::<u64>().ok();
     match arguments {
-        ["trace", program, cases, seed] => {
+        [which @ ("trace" | "replay" | "record"), program, cases, seed] => {
             let (cases, seed) = (number(cases)?, number(seed)?);
-            Some(Program::at(program).and_then(|p| trace_mode::compare(&p, cases, seed)))
+            let kind = match *which {
+                "trace" => process_mode::TRACE,
+                "replay" => process_mode::REPLAY,
+                _ => process_mode::RECORD,
+            };
+            let program = kind.in_force(requests).and_then(|()| Program::at(program));
+            Some(program.and_then(|p| process_mode::compare(&kind, &p, cases, seed)))
         }
         ["console", program, lines, seed] => {
             let (lines, seed) = (number(lines)?, number(seed)?);
-            Some(Program::at(program).and_then(|p| console_mode::compare(&p, lines, seed)))
+            let program = Program::at(program);
+            Some(program.and_then(|p| console_mode::compare(&p, requests, lines, seed)))
         }
         [which @ ("many" | "damaged"), program, cases, seed] => {
             let (cases, seed) = (number(cases)?, number(seed)?);
@@ -71,6 +88,10 @@ fn run(arguments: &[&str]) -> Option<io::Result<bool>> {
         ["batch", cases, seed, folder] => {
             let (cases, seed) = (number(cases)?, number(seed)?);
             Some(batch_mode::write(cases, seed, Path::new(folder)).map(|()| true))
+        }
+        ["in-force"] => {
+            println!("{requests}");
+            Some(Ok(true))
         }
         ["ontime", cases, seed] => Some(ontime_mode::check(number(cases)?, number(seed)?)),
         _ => None,

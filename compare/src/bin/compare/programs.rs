@@ -108,3 +108,17 @@ pub fn first_difference(expected: &[u8], found: &[u8]) -> String {
         number += 1;
     }
 }
+
+/// The first byte in which two outputs differ, counted from 0, and what each has there.
+pub fn first_different_byte(expected: &[u8], found: &[u8]) -> String {
+    let longer = expected.len().max(found.len());
+    let shown = |byte: Option<&u8>| byte.map_or("nothing".to_string(), |b| format!("{b:02x}"));
+    match (0..longer).find(|&place| expected.get(place) != found.get(place)) {
+        Some(place) => format!(
+            "byte {place}: expected {}, found {}",
+            shown(expected.get(place)),
+            shown(found.get(place))
+        ),
+        None => "no byte".to_string(),
+    }
+}

@@ -2,8 +2,8 @@
 
 use second::load::{self, Verdict};
 use second::set::{
-    jittered_cycle, Set, Stream, Tuple, GREATEST_COST, GREATEST_CYCLE, GREATEST_DEADLINE,
-    GREATEST_OFFSET, GREATEST_TASK, STREAM_PLACES, TUPLE_PLACES,
+    Set, Stream, Tuple, GREATEST_COST, GREATEST_CYCLE, GREATEST_DEADLINE, GREATEST_OFFSET,
+    GREATEST_TASK, STREAM_PLACES, TUPLE_PLACES,
 };
 
 use crate::random::Random;
@@ -59,11 +59,13 @@ fn small_streams(random: &mut Random, count: usize, longest_deadline: u32) -> Se
 
 fn put_small_tuples(random: &mut Random, stream: &mut Stream, common: u32) {
     if random.one_in(5) {
+        // As jittered cycles are written, with any offset up to the cycle: the sets are the same
+        // whether jitter goes one way or both.
         let cycle = divisor(random, common);
-        let jitter = random.between(0, cycle);
-        let tuples = jittered_cycle(cycle, jitter).expect("a small cycle");
+        let offset = cycle - random.between(0, cycle);
         stream.tuple_count = 2;
-        stream.tuples[..2].copy_from_slice(&tuples);
+        stream.tuples[0] = Tuple::Once { offset: 0 };
+        stream.tuples[1] = Tuple::Every { cycle, offset };
         return;
     }
     stream.tuple_count = random.pick(&[1, 1, 1, 2, 2, 3, 4]);

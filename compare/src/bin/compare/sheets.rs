@@ -38,18 +38,20 @@ pub fn damaged(random: &mut Random, set: &Set) -> Vec<u8> {
     sheet
 }
 
-fn flip_bits(random: &mut Random, sheet: &mut [u8]) {
+/// Flips up to three bits.
+pub fn flip_bits(random: &mut Random, bytes: &mut [u8]) {
     for _ in 0..random.between(1, 3) {
-        if !sheet.is_empty() {
-            sheet[random.index(sheet.len())] ^= 1 << random.below(8);
+        if !bytes.is_empty() {
+            bytes[random.index(bytes.len())] ^= 1 << random.below(8);
         }
     }
 }
 
-fn append_bytes(random: &mut Random, sheet: &mut Vec<u8>) {
+/// Adds up to 400 bytes, most of them zero.
+pub fn append_bytes(random: &mut Random, bytes: &mut Vec<u8>) {
     for _ in 0..random.between(1, 400) {
         let byte = random.byte();
-        sheet.push(if random.one_in(4) { byte } else { 0 });
+        bytes.push(if random.one_in(4) { byte } else { 0 });
     }
 }
 

@@ -1,6 +1,7 @@
-//! Random traces for a set.
+//! Random traces for a set, and the calls they make.
 
 use second::set::Set;
+use second::trace::Step;
 
 use crate::random::Random;
 
@@ -18,8 +19,19 @@ pub struct Lengths {
     pub full_one_in: u64,
 }
 
-/// A trace: parts that each post, run or both, and now and then a byte that is not allowed.
+/// A trace: steps, with spaces and newlines between them, and now and then a byte that is not
+/// allowed.
 pub fn make(random: &mut Random, set: &Set, lengths: &Lengths) -> Vec<u8> {
+    let steps = steps(random, set, lengths);
+    let mut trace = spaced(random, &steps);
+    if random.one_in(4) {
+        damage(random, &mut trace);
+    }
+    trace
+}
+
+/// The steps of a trace: parts that each post, run or both.
+pub fn steps(random: &mut Random, set: &Set, lengths: &Lengths) -> Vec<Step> {
     let at_least = if random.one_in(lengths.long_one_in) {
         lengths.long
     } else {
@@ -34,19 +46,23 @@ pub fn make(random: &mut Random, set: &Set, lengths: &Lengths) -> Vec<u8> {
     while steps.steps.len() < wanted {
         steps.part(lengths.full_one_in);
     }
-    let steps = steps.steps;
-    let mut trace = spaced(random, &steps);
-    if random.one_in(4) {
-        damage(random, &mut trace);
-    }
-    trace
+    steps.steps
 }
 
-/// The steps of a trace while it is being made, each one or two bytes.
+/// A step as a trace has it, one or two bytes.
+pub fn written(step: Step) -> Vec<u8> {
+    match step {
+        Step::Post(stream) => vec![b'p', HEX_DIGITS[stream as usize]],
+        Step::Unit => vec![b'u'],
+        Step::Done => vec![b'd'],
+    }
+}
+
+/// The steps of a trace while they are being made.
 struct Steps<'a> {
     random: &'a mut Random,
     set: &'a Set,
-    steps: Vec<Vec<u8>>,
+    steps: Vec<Step>,
 }
 
 impl Steps<'_> {
@@ -64,13 +80,13 @@ impl Steps<'_> {
     }
 
     fn post(&mut self, stream: usize) {
-        self.steps.push(vec![b'p', HEX_DIGITS[stream]]);
+        self.steps.push(Step::Post(stream as u32));
     }
 
     /// A unit, with done once in so many times; never with 0.
     fn unit(&mut self, done_one_in: u64) {
         let done = done_one_in > 0 && self.random.one_in(done_one_in);
-        self.steps.push(vec![if done { b'd' } else { b'u' }]);
+        self.steps.push(if done { Step::Done } else { Step::Unit });
     }
 
     /// A stream of the set, seldom one that is not in it.
@@ -152,11 +168,11 @@ impl Steps<'_> {
 }
 
 /// The steps one after the other, with spaces and newlines between them in one of several styles.
-fn spaced(random: &mut Random, steps: &[Vec<u8>]) -> Vec<u8> {
+fn spaced(random: &mut Random, steps: &[Step]) -> Vec<u8> {
     let style = random.below(4);
     let mut trace = Vec::new();
-    for step in steps {
-        trace.extend(step);
+    for &step in steps {
+        trace.extend(written(step));
         match style {
             0 | 1 => {}
             2 => trace.push(b'\n'),

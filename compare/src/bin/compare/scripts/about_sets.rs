@@ -1,5 +1,6 @@
 //! Scenes about the console's set.
 
+use second::requests::JITTER_BOTH_WAYS;
 use second::set::{
     Set, Stream, Tuple, GREATEST_COST, GREATEST_CYCLE, GREATEST_DEADLINE, GREATEST_OFFSET,
     GREATEST_TASK, STREAM_PLACES, TUPLE_PLACES,
@@ -256,6 +257,15 @@ impl Script<'_> {
     }
 
     pub(super) fn jittered_cycles(&mut self) {
+        if self.in_force(JITTER_BOTH_WAYS) {
+            self.jitter_both_ways();
+        } else {
+            self.jitter_one_way();
+        }
+    }
+
+    /// Cycles and jitters at the edges of document 01's rule.
+    fn jitter_one_way(&mut self) {
         for _ in 0..self.random.between(1, 6) {
             let cycle = match self.random.below(3) {
                 0 => self.random.between(0, GREATEST_CYCLE + 1),
@@ -271,6 +281,46 @@ impl Script<'_> {
                 _ => around(self.random, &limits),
             };
             self.say(format!("jitter {cycle} {jitter}"));
+        }
+    }
+
+    /// Cycles and jitters at the edges of request 2's rule.
+    fn jitter_both_ways(&mut self) {
+        for _ in 0..self.random.between(4, 20) {
+            let cycle = self.cycle_to_jitter();
+            let jitter = self.jitter_of(cycle);
+            self.say(format!("jitter {cycle} {jitter}"));
+        }
+    }
+
+    /// A cycle, even or odd: any, or at one of the edges of the rule for jittered cycles.
+    fn cycle_to_jitter(&mut self) -> u32 {
+        match self.random.below(6) {
+            0..=1 => self.random.between(0, GREATEST_CYCLE + 1),
+            2 => self.random.between(0, 30),
+            3 => self.random.between(GREATEST_CYCLE - 1, GREATEST_CYCLE + 1),
+            4 => around(
+                self.random,
+                &[0, 1, GREATEST_OFFSET, 2 * GREATEST_OFFSET, GREATEST_CYCLE],
+            ),
+            _ => near_limit(self.random),
+        }
+    }
+
+    /// A jitter in rule for this cycle, or at, just below or just above an edge: where 2j is z,
+    /// where z - 2j is the greatest offset, where j is z or z - j is that offset (the edges there
+    /// would be if lateness alone were counted), and where 2j has more than 32 bits, and its last
+    /// 32 would be in rule.
+    fn jitter_of(&mut self, cycle: u32) -> u32 {
+        const HALF: u32 = 1 << 31;
+        let above_offset = cycle.saturating_sub(GREATEST_OFFSET);
+        match self.random.below(10) {
+            0..=1 => self.random.between(above_offset / 2, cycle / 2),
+            2..=3 => around(self.random, &[cycle / 2]),
+            4..=6 => around(self.random, &[above_offset / 2, above_offset.div_ceil(2)]),
+            7 => around(self.random, &[0, cycle, above_offset]),
+            8 => HALF.saturating_add(around(self.random, &[0, above_offset / 2, cycle / 2])),
+            _ => around(self.random, &[HALF, u32::MAX]),
         }
     }
 }

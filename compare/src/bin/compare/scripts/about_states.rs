@@ -1,5 +1,6 @@
 //! Scenes about the console's state.
 
+use second::requests::REPLAY;
 use second::set::{Stream, GREATEST_TASK, STREAM_PLACES};
 use second::state::{Message, State, LAST_CLOCK, MESSAGE_PLACES};
 
@@ -9,7 +10,7 @@ use crate::sheets;
 
 impl Script<'_> {
     /// A started state with a set that has streams, mostly.
-    fn start_something(&mut self) {
+    pub(super) fn start_something(&mut self) {
         let usable = self.state().set.count > 0 && self.state().well_formed();
         if usable && !self.random.one_in(4) {
             if self.random.one_in(2) && self.state().set == *self.set() {
@@ -35,8 +36,11 @@ impl Script<'_> {
         }
     }
 
-    /// One call, or a question about the state.
-    fn step(&mut self) {
+    /// One call, a step of the replay, or a question about the state.
+    pub(super) fn step(&mut self) {
+        if self.in_force(REPLAY) && self.random.one_in(9) {
+            return self.say("next");
+        }
         match self.random.below(16) {
             0..=4 => {
                 let stream = self.stream_number();
@@ -210,7 +214,7 @@ impl Script<'_> {
     }
 
     /// A line that puts one number of the state at, just below or just above its limit.
-    fn state_fault(&mut self) -> String {
+    pub(super) fn state_fault(&mut self) -> String {
         let state = *self.state();
         let pending = (state.pending as usize).min(MESSAGE_PLACES);
         let place = self.random.index(pending.max(1));
@@ -287,7 +291,7 @@ impl Script<'_> {
     }
 
     /// Puts the numbers back that differ from an earlier state of the same set.
-    fn put_state_back(&mut self, before: &State) {
+    pub(super) fn put_state_back(&mut self, before: &State) {
         let now = *self.state();
         if now.clock != before.clock {
             self.say(format!("clock {}", before.clock));

@@ -4,11 +4,13 @@
 //! scene knows the set and the state it has in hand. Scenes never look at what the first program
 //! answers.
 
+mod about_recordings;
 mod about_sets;
 mod about_states;
 mod odd_lines;
 
 use second::console::Console;
+use second::requests::REPLAY;
 use second::set::{Set, GREATEST_COST, GREATEST_CYCLE, GREATEST_DEADLINE, GREATEST_OFFSET};
 use second::state::{State, LAST_CLOCK};
 
@@ -21,11 +23,11 @@ pub struct Line {
     pub answer: String,
 }
 
-/// A script of at least so many lines.
-pub fn make(random: &mut Random, at_least: usize) -> Vec<Line> {
+/// A script of at least so many lines, with the requests up to a number in force.
+pub fn make(random: &mut Random, requests: u32, at_least: usize) -> Vec<Line> {
     let mut script = Script {
         random,
-        console: Console::default(),
+        console: Console::new(requests),
         lines: Vec::new(),
     };
     while script.lines.len() < at_least {
@@ -59,9 +61,15 @@ impl Script<'_> {
         &self.console.state
     }
 
+    /// Whether a request is in force.
+    fn in_force(&self, request: u32) -> bool {
+        self.console.requests >= request
+    }
+
     /// Several lines about one thing.
     fn scene(&mut self) {
-        match self.random.below(40) {
+        let scenes = if self.in_force(REPLAY) { 52 } else { 40 };
+        match self.random.below(scenes) {
             0..=2 => self.set_put_together(),
             3..=9 => self.set_with_one_fault(),
             10..=13 => self.sheet_read(),
@@ -74,7 +82,12 @@ impl Script<'_> {
             27 => self.long_run(),
             28..=36 => self.lines_that_are_no_commands(),
             37 => self.questions_about_set(),
-            _ => self.any_commands(),
+            38..=39 => self.any_commands(),
+            40..=42 => self.replay(),
+            43..=44 => self.places(),
+            45 => self.replay_on_a_state_with_one_fault(),
+            46..=47 => self.recording_about_as_long_as_the_longest(),
+            _ => self.recorded(),
         }
     }
 }
@@ -120,7 +133,12 @@ fn around(random: &mut Random, limits: &[u32]) -> u32 {
 }
 
 fn read_line(bytes: &[u8]) -> String {
-    let mut line = "read".to_string();
+    hex_line("read", bytes)
+}
+
+/// A command and its HEX. "an empty HEX leaves its space out as well".
+fn hex_line(name: &str, bytes: &[u8]) -> String {
+    let mut line = name.to_string();
     for (place, byte) in bytes.iter().enumerate() {
         if place == 0 {
             line.push(' ');
@@ -133,17 +151,36 @@ fn read_line(bytes: &[u8]) -> String {
 #[cfg(test)]
 mod tests {
     use super::*;
+    use second::requests::RENDERED;
+
+    /// The lines of many scripts.
+    fn many_lines(seed: u64, requests: u32) -> Vec<Line> {
+        let mut random = Random::new(seed);
+        (0..60)
+            .flat_map(|_| make(&mut random, requests, 500))
+            .collect()
+    }
+
+    /// A line's first word.
+    fn name(line: &Line) -> &[u8] {
+        line.text.split(|&byte| byte == b' ').next().unwrap_or(&[])
+    }
+
+    /// That each of the answers is among those to the lines, ten times at least.
+    fn come_up(lines: &[Line], expected: &[&str]) {
+        let mut answers = String::from("\n");
+        for line in lines {
+            answers += &line.answer;
+        }
+        for answer in expected {
+            let count = answers.matches(answer).count();
+            assert!(count >= 10, "{answer:?} came up {count} times");
+        }
+    }
 
     #[test]
     fn every_answer_comes_up() {
-        let mut random = Random::new(1);
-        let mut answers = String::from("\n");
-        for _ in 0..60 {
-            for line in make(&mut random, 500) {
-                answers += &line.answer;
-            }
-        }
-        for answer in [
+        let of_document_01 = [
             "\nset ",
             "\nwrote ",
             "\nput\n",
@@ -177,17 +214,71 @@ mod tests {
             "\nwell formed\n",
             "\nmessage 63 ",
             "\n?\n",
-        ] {
-            let count = answers.matches(answer).count();
-            assert!(count >= 10, "{answer:?} came up {count} times");
+        ];
+        let of_a_replay = [
+            "\nrecording ",
+            "\nend\n",
+            "\nrefused 13\n",
+            "\nrefused 14\n",
+            "\nat ",
+            "\nrecorded ",
+        ];
+        for requests in 0..=RENDERED {
+            let lines = many_lines(1, requests);
+            come_up(&lines, &of_document_01);
+            if requests >= REPLAY {
+                come_up(&lines, &of_a_replay);
+            }
+        }
+    }
+
+    #[test]
+    fn commands_of_a_request_that_is_not_in_force_come_up_seldom_and_are_none() {
+        let lines = many_lines(1, 0);
+        for command in ["recording", "next", "reader", "where", "record"] {
+            let found: Vec<&Line> = lines
+                .iter()
+                .filter(|line| name(line) == command.as_bytes())
+                .collect();
+            assert!(found.iter().all(|line| line.answer == "?\n"), "{command}");
+            let seldom = 10..lines.len() / 50;
+            assert!(seldom.contains(&found.len()), "{command}: {}", found.len());
+        }
+    }
+
+    #[test]
+    fn every_answer_to_the_commands_of_a_replay_comes_up() {
+        let lines = many_lines(3, REPLAY);
+        let expected: &[(&str, &[&str])] = &[
+            ("next", &["end\n", "refused 12\n", "refused 13\n"]),
+            ("next", &["refused 14\n", " posted ", " ran ", " done "]),
+            ("next", &[" cut ", " idle\n", " refused 1\n"]),
+            ("next", &[" refused 2\n", " refused 3\n", " refused 4\n"]),
+            ("recording", &["recording ", "recording 1024\n", "?"]),
+            ("record", &["recorded ", "refused 11\n", "?"]),
+            ("reader", &["put", "?"]),
+            ("where", &["at "]),
+        ];
+        for (command, answers) in expected {
+            for answer in *answers {
+                // An answer with a space before it comes after a clock.
+                let is_it = |line: &&Line| {
+                    name(line) == command.as_bytes()
+                        && (line.answer.starts_with(answer)
+                            || answer.starts_with(' ') && line.answer.contains(answer))
+                };
+                let count = lines.iter().filter(is_it).count();
+                assert!(count >= 5, "{command}: {answer:?} came up {count} times");
+            }
         }
     }
 
     #[test]
     fn no_line_has_a_newline_in_it() {
-        let mut random = Random::new(2);
-        for line in make(&mut random, 20_000) {
-            assert!(!line.text.contains(&b'\n'));
+        for requests in 0..=RENDERED {
+            for line in make(&mut Random::new(2), requests, 20_000) {
+                assert!(!line.text.contains(&b'\n'));
+            }
         }
     }
 }

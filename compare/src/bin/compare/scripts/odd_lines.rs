@@ -4,7 +4,7 @@ use second::console::LONGEST_LINE;
 use second::set::{STREAM_PLACES, TUPLE_PLACES};
 use second::state::MESSAGE_PLACES;
 
-use super::{around, near_limit, read_line, Script};
+use super::{around, hex_line, near_limit, Script};
 use crate::sets;
 use crate::sheets;
 
@@ -55,12 +55,34 @@ const ODD_LINES: &[&[u8]] = &[
     b"choose 0",
     b"formed 0",
     b"verdict 0",
+    b"recording ",
+    b"recording c",
+    b"recording C0",
+    b"recording c0 00",
+    b"recordingc0",
+    b"next 1",
+    b"NEXT",
+    b"where 0",
+    b"reader",
+    b"reader 0",
+    b"reader 0 0 0",
+    b"record",
+    b"record ",
+    b"record u",
+    b"record 5 ",
+    b"record 5 u ",
+    b"record 5 u u",
+    b"record 5 p",
+    b"record 1025",
+    b"record 1025 u",
+    b"end",
     b"#",
     b"// unit",
 ];
 
 impl Script<'_> {
-    /// A line of any command with numbers that may be anything.
+    /// A line of any command with numbers that may be anything. Where the request that brings the
+    /// command is not in force, it is no command.
     fn any_command(&mut self) -> String {
         let (name, numbers) = self.random.pick(&[
             ("read", 0),
@@ -84,6 +106,11 @@ impl Script<'_> {
             ("choose", 0),
             ("state", 0),
             ("formed", 0),
+            ("recording", 0),
+            ("next", 0),
+            ("reader", 2),
+            ("where", 0),
+            ("record", 1),
         ]);
         let mut line = name.to_string();
         for place in 0..numbers {
@@ -95,6 +122,11 @@ impl Script<'_> {
             };
             line += &format!(" {number}");
         }
+        line += match name {
+            "recording" => self.random.pick(&["", " 01b0", " 5555c0"]),
+            "record" => self.random.pick(&["", " p0ud", " uuuu", " pfpf"]),
+            _ => "",
+        };
         line
     }
 
@@ -142,10 +174,22 @@ impl Script<'_> {
             2 * LONGEST_LINE,
             20_000,
         ]);
-        let start = self
-            .random
-            .pick(&["read 1000", "read 20", "read ", "unit ", "unit", ""]);
-        let fill = self.random.pick(b"00000 \r1a");
+        let start = self.random.pick(&[
+            "read 1000",
+            "read 20",
+            "read ",
+            "unit ",
+            "unit",
+            "",
+            "recording c0",
+            "record 1024 u",
+            "record 1022 ",
+        ]);
+        let fill = if start.starts_with("record ") {
+            self.random.pick(b"uuud0p")
+        } else {
+            self.random.pick(b"00000 \r1a")
+        };
         let mut line = start.as_bytes().to_vec();
         line.resize(length, fill);
         line
@@ -198,18 +242,23 @@ impl Script<'_> {
             "every 0 0 N 0",
             "message N 0 0 0",
             "message 0 0 0 N",
+            "reader N 0",
+            "reader 0 N",
+            "record N",
+            "record N u",
         ]);
         line.replace('N', number).into_bytes()
     }
 
     fn line_with_odd_hex(&mut self) -> Vec<u8> {
         let set = sets::small(self.random);
-        let mut line = read_line(&sheets::of_set(&set)).into_bytes();
-        let digits = line.len() - 5;
-        let place = 5 + self.random.index(digits);
+        let name = self.random.pick(&["read", "recording"]);
+        let mut line = hex_line(name, &sheets::of_set(&set)).into_bytes();
+        let hex = name.len() + 1;
+        let place = hex + self.random.index(line.len() - hex);
         match self.random.below(5) {
             0 => line.make_ascii_uppercase(),
-            1 => line[5..].make_ascii_uppercase(),
+            1 => line[hex..].make_ascii_uppercase(),
             2 => line.truncate(place),
             3 => line[place] = self.random.pick(b"ABCDEFGgx /:@`\r\t-"),
             _ => line.insert(place, self.random.pick(b"0f ")),

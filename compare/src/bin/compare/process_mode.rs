@@ -1,0 +1,236 @@
+//! `compare trace|replay|record BIN CASES SEED`: a program against the library, whole outputs, a
+//! process for each case.
+
+use std::fs;
+use std::io;
+
+use second::recording;
+use second::replay;
+use second::requests;
+use second::trace::{self, Run};
+
+use crate::cases::{self, Case};
+use crate::programs::{self, Program, TemporaryFolder};
+use crate::random::Random;
+
+/// A program that is started anew for each case.
+pub struct Kind {
+    /// Its name.
+    name: &'static str,
+    /// The request that brings it, 0 for a program of document 01.
+    request: u32,
+    /// What it reads from standard input.
+    input: &'static str,
+    /// How the files are named that hold what it writes.
+    written: [&'static str; 2],
+    /// Makes a case.
+    make: fn(&mut Random) -> Case,
+    /// What it is to write.
+    expected: fn(&Case) -> Expected,
+    /// Where two of its outputs differ first.
+    first_difference: fn(&[u8], &[u8]) -> String,
+}
+
+/// What a program is to write on standard output, and what is counted of the case.
+struct Expected {
+    output: Vec<u8>,
+    counts: Vec<(&'static str, u64)>,
+}
+
+/// The trace program.
+pub const TRACE: Kind = Kind {
+    name: "trace",
+    request: 0,
+    input: "trace",
+    written: ["expected.txt", "found.txt"],
+    make: |random| cases::make(random, &cases::TO_RUN),
+    expected: |case| {
+        let run = trace::run(sheet_of(case), &case.input);
+        Expected {
+            counts: counts_of_run(&run),
+            output: run.output.into_bytes(),
+        }
+    },
+    first_difference: programs::first_difference,
+};
+
+/// The replay program.
+pub const REPLAY: Kind = Kind {
+    name: "replay",
+    request: requests::REPLAY,
+    input: "recording",
+    written: ["expected.txt", "found.txt"],
+    make: cases::to_replay,
+    expected: |case| {
+        let run = replay::run(sheet_of(case), &case.input);
+        let last = run.output.lines().last().filter(|_| !run.sheet_refused);
+        let mut counts = counts_of_run(&run);
+        counts.push(("ended", u64::from(last == Some("end"))));
+        counts.push(("refused with 13", u64::from(last == Some("refused 13"))));
+        counts.push(("refused with 14", u64::from(last == Some("refused 14"))));
+        Expected {
+            counts,
+            output: run.output.into_bytes(),
+        }
+    },
+    first_difference: programs::first_difference,
+};
+
+/// The record program. "a bad trace writes nothing but a message on standard error": that message
+/// is not compared.
+pub const RECORD: Kind = Kind {
+    name: "record",
+    request: requests::REPLAY,
+    input: "trace",
+    written: ["expected.bin", "found.bin"],
+    make: cases::to_record,
+    expected: |case| {
+        let calls = trace::steps(&case.input);
+        let counted = calls.as_ref().map_or(0, Vec::len) as u64;
+        Expected {
+            counts: vec![
+                ("bad traces", u64::from(calls.is_err())),
+                ("calls", counted),
+            ],
+            output: calls.map_or(Vec::new(), |calls| recording::recording_of(&calls)),
+        }
+    },
+    first_difference: programs::first_different_byte,
+};
+
+impl Kind {
+    /// Nothing, or that the request that brings the program is not in force.
+    pub fn in_force(&self, requests: u32) -> io::Result<()> {
+        if self.request <= requests {
+            return Ok(());
+        }
+        let Kind { name, request, .. } = self;
+        Err(io::Error::other(format!(
+            "request {request}, which brings the program {name}, is not in force"
+        )))
+    }
+}
+
+fn sheet_of(case: &Case) -> &[u8] {
+    case.sheet.as_deref().unwrap_or(&[])
+}
+
+fn counts_of_run(run: &Run) -> Vec<(&'static str, u64)> {
+    vec![
+        ("damaged sheets", u64::from(run.sheet_refused)),
+        ("calls", run.calls),
+    ]
+}
+
+/// Compares; whether all agreed.
+pub fn compare(kind: &Kind, program: &Program, cases: u64, seed: u64) -> io::Result<bool> {
+    let folder = TemporaryFolder::new()?;
+    let mut totals: Vec<(&str, u64)> = Vec::new();
+    for number in 0..cases {
+        let mut random = Random::for_case(seed, number);
+        let case = (kind.make)(&mut random);
+        let expected = (kind.expected)(&case);
+        let piece = random.pick(&[5, 64, usize::MAX, usize::MAX]);
+        let found = run_case(program, &folder, &case, piece)?;
+        add(&mut totals, &expected.counts);
+        if found != expected.output {
+            report(kind, seed, number, &case, &expected.output, &found)?;
+            say_totals(number + 1, &totals, 1);
+            return Ok(false);
+        }
+    }
+    say_totals(cases, &totals, 0);
+    Ok(true)
+}
+
+/// Adds the counts of a case to those of the cases before it.
+fn add(totals: &mut Vec<(&'static str, u64)>, counts: &[(&'static str, u64)]) {
+    if totals.is_empty() {
+        totals.extend(counts);
+    } else {
+        for (total, count) in totals.iter_mut().zip(counts) {
+            total.1 += count.1;
+        }
+    }
+}
+
+fn say_totals(cases: u64, totals: &[(&str, u64)], differ: u64) {
+    let mut line = format!("{cases} cases");
+    for (name, count) in totals {
+        line += &format!(", {count} {name}");
+    }
+    println!("{line}, {differ} differ");
+}
+
+/// Runs the program with the case's set.bin, or without one, and its input in pieces.
+fn run_case(
+    program: &Program,
+    folder: &TemporaryFolder,
+    case: &Case,
+    piece: usize,
+) -> io::Result<Vec<u8>> {
+    let file = folder.path().join("set.bin");
+    match &case.sheet {
+        Some(sheet) => fs::write(&file, sheet)?,
+        None if file.exists() => fs::remove_file(&file)?,
+        None => {}
+    }
+    program.run(folder.path(), &case.input, piece)
+}
+
+fn report(
+    kind: &Kind,
+    seed: u64,
+    number: u64,
+    case: &Case,
+    expected: &[u8],
+    found: &[u8],
+) -> io::Result<()> {
+    let name = kind.name;
+    let mut files: Vec<(&str, &[u8])> = vec![
+        (kind.input, &case.input),
+        (kind.written[0], expected),
+        (kind.written[1], found),
+    ];
+    if let Some(sheet) = &case.sheet {
+        files.push(("set.bin", sheet));
+    }
+    let folder = programs::write_out(&format!("{name}-seed-{seed}-case-{number}"), &files)?;
+    println!(
+        "{name} case {number} of seed {seed} differs, written to {}",
+        folder.display()
+    );
+    println!("{}", (kind.first_difference)(expected, found));
+    Ok(())
+}
+
+#[cfg(test)]
+mod tests {
+    use super::*;
+
+    /// The totals of 200 cases, by name.
+    fn totals(kind: &Kind) -> Vec<(&'static str, u64)> {
+        let mut totals = Vec::new();
+        for number in 0..200 {
+            let case = (kind.make)(&mut Random::for_case(1, number));
+            add(&mut totals, &(kind.expected)(&case).counts);
+        }
+        totals
+    }
+
+    #[test]
+    fn every_kind_of_case_comes_up() {
+        for kind in [&TRACE, &REPLAY, &RECORD] {
+            let totals = totals(kind);
+            for (name, total) in &totals {
+                assert!(*total >= 20, "{} {name}: {total}", kind.name);
+            }
+            if kind.name == "replay" {
+                // About one sheet in four.
+                let (name, damaged) = totals[0];
+                assert_eq!(name, "damaged sheets");
+                assert!((30..=70).contains(&damaged), "{damaged}");
+            }
+        }
+    }
+}

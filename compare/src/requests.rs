@@ -1,0 +1,27 @@
+//! Which requests of document 02 are in force.
+//!
+//! What depends on it takes the number from its caller; programs give it [`IN_FORCE`].
+
+/// The requests of document 02 that are in force: all up to this number. A request's landing
+/// raises it.
+pub const IN_FORCE: u32 = 0;
+
+/// The last request that is rendered here. Those above [`IN_FORCE`] wait for their landing.
+pub const RENDERED: u32 = JITTER_BOTH_WAYS;
+
+/// "CR 1. Replay a cab's recording in the office."
+pub const REPLAY: u32 = 1;
+/// "CR 2. Jitter goes both ways."
+pub const JITTER_BOTH_WAYS: u32 = 2;
+
+/// The number that a program goes by, and its other arguments: [`IN_FORCE`], or, for trying, N
+/// where the last arguments are `--requests N`. None if request N is not rendered here.
+pub fn of_arguments<'a, 'b>(arguments: &'b [&'a str]) -> Option<(u32, &'b [&'a str])> {
+    match arguments {
+        [others @ .., "--requests", number] => {
+            let number = number.parse().ok().filter(|&number| number <= RENDERED)?;
+            Some((number, others))
+        }
+        _ => Some((IN_FORCE, arguments)),
+    }
+}

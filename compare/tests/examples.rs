@@ -1,0 +1,37 @@
+//! The examples of the requests: each file in `examples/` is a request's section of the document
+//! of examples as it stands there, with console scripts and what they must print. "Each section is
+//! at the level of its request: that request and those before it are in force."
+
+mod common;
+
+use common::said_with;
+use second::requests::{JITTER_BOTH_WAYS, REPLAY};
+
+/// The scripts of a section, each with what it must print: a block, a line `prints`, a block.
+fn scripts(section: &str) -> Vec<(&str, &str)> {
+    let parts: Vec<&str> = section.split("```\n").collect();
+    let blocks: Vec<&str> = parts.iter().skip(1).step_by(2).copied().collect();
+    let between: Vec<&str> = parts.iter().skip(2).step_by(2).copied().collect();
+    assert_eq!(parts.len(), 2 * blocks.len() + 1, "a block has no end");
+    assert!(blocks.len().is_multiple_of(2), "a script prints nothing");
+    assert!(between.iter().step_by(2).all(|text| *text == "prints\n"));
+    blocks.chunks(2).map(|pair| (pair[0], pair[1])).collect()
+}
+
+fn check(request: u32, section: &str, count: usize) {
+    let scripts = scripts(section);
+    assert_eq!(scripts.len(), count);
+    for (script, prints) in scripts {
+        assert_eq!(said_with(request, script), prints, "{script}");
+    }
+}
+
+#[test]
+fn request_1_replay() {
+    check(REPLAY, include_str!("examples/cr-01.md"), 5);
+}
+
+#[test]
+fn request_2_jitter_both_ways() {
+    check(JITTER_BOTH_WAYS, include_str!("examples/cr-02.md"), 3);
+}

@@ -1,0 +1,131 @@
+//! Which requests are in force, and that those that are not change nothing.
+
+mod common;
+
+use std::process::{Command, Output};
+
+use common::{said_from, said_with};
+use second::console::Console;
+use second::requests::{of_arguments, IN_FORCE, JITTER_BOTH_WAYS, RENDERED, REPLAY};
+
+/// Lines that are commands by request 1.
+const COMMANDS_OF_REPLAY: [&str; 9] = [
+    "recording",
+    "recording 01b0",
+    "recording 10",
+    "next",
+    "reader 0 0",
+    "reader 1 7",
+    "where",
+    "record 3",
+    "record 3 p0ud",
+];
+
+#[test]
+fn what_is_in_force_is_rendered() {
+    assert!((0..=RENDERED).contains(&IN_FORCE));
+}
+
+#[test]
+fn commands_come_with_their_request() {
+    for command in COMMANDS_OF_REPLAY {
+        assert_eq!(said_with(0, command), "?\n", "{command}");
+        assert_ne!(said_from(REPLAY, command), "?\n", "{command}");
+    }
+}
+
+#[test]
+fn a_command_that_is_not_in_force_changes_nothing() {
+    let mut console = Console::new(0);
+    for line in ["read 10980010000a0000500000", "start", "post 0", "unit"] {
+        console.line(line.as_bytes());
+    }
+    let before = console.clone();
+    for command in COMMANDS_OF_REPLAY {
+        assert_eq!(console.line(command.as_bytes()), "?\n", "{command}");
+        assert_eq!(console, before, "{command}");
+    }
+}
+
+#[test]
+fn jitter_is_that_of_document_01_before_request_2() {
+    let script = "\
+jitter 10 3
+jitter 10 5
+jitter 10 6
+jitter 10 10
+jitter 10 11
+jitter 100001 0
+jitter 100001 1
+jitter 1000000 900000
+jitter 1000000 899999
+jitter 1000000 450000
+jitter 10 2147483653";
+    let expected = "\
+once 0 every 10 7
+once 0 every 10 5
+once 0 every 10 4
+once 0 every 10 0
+refused 7
+refused 7
+once 0 every 100001 100000
+once 0 every 1000000 100000
+refused 7
+refused 7
+refused 7
+";
+    for requests in 0..JITTER_BOTH_WAYS {
+        assert_eq!(said_with(requests, script), expected, "{requests}");
+    }
+}
+
+#[test]
+fn the_number_among_the_arguments_of_a_program() {
+    assert_eq!(of_arguments(&[]), Some((IN_FORCE, &[][..])));
+    assert_eq!(of_arguments(&["a", "b"]), Some((IN_FORCE, &["a", "b"][..])));
+    for requests in 0..=RENDERED {
+        let number = requests.to_string();
+        let found = of_arguments(&["a", "--requests", &number]).map(|(n, o)| (n, o.to_vec()));
+        assert_eq!(found, Some((requests, vec!["a"])));
+    }
+    let above = (RENDERED + 1).to_string();
+    for number in [above.as_str(), "", "-1", "x", "4294967296"] {
+        assert_eq!(of_arguments(&["a", "--requests", number]), None, "{number}");
+    }
+}
+
+fn compared(arguments: &[&str]) -> Output {
+    Command::new(env!("CARGO_BIN_EXE_compare"))
+        .args(arguments)
+        .output()
+        .expect("the program starts")
+}
+
+#[test]
+fn programs_of_a_request_that_is_not_in_force_are_not_compared() {
+    for (mode, program) in [
+        ("replay", env!("CARGO_BIN_EXE_second-replay")),
+        ("record", env!("CARGO_BIN_EXE_second-record")),
+    ] {
+        let with = |requests| compared(&[mode, program, "2", "1", "--requests", requests]);
+        let output = with("0");
+        assert_eq!(output.status.code(), Some(2));
+        assert!(output.stdout.is_empty());
+        let said = String::from_utf8_lossy(&output.stderr).into_owned();
+        assert!(said.contains("request 1") && said.contains("not in force"));
+        assert_eq!(with("1").status.code(), Some(0));
+    }
+}
+
+#[test]
+fn the_number_that_compare_prints() {
+    assert_eq!(
+        compared(&["in-force"]).stdout,
+        format!("{IN_FORCE}\n").into_bytes()
+    );
+    assert_eq!(compared(&["in-force", "--requests", "2"]).stdout, b"2\n");
+    assert_eq!(
+        compared(&["in-force", "--requests", "x"]).status.code(),
+        Some(2)
+    );
+}
