@@ -20,5 +20,7 @@ pub fn refusal_number(why: Refusal) -> u64
         Refusal::Leftover => 10,
         Refusal::ShortBuffer => 11,
         Refusal::IllFormed => 12,
+        Refusal::StopsEarly => 13,
+        Refusal::Trailing => 14,
     }
 }

@@ -6,7 +6,7 @@ use Rattle.rules.specs.declared.Tuple.{Tuple}
 use Rattle.rules.specs.declared.Tuple.the-variants.{Once, Every}
 use Rattle.rules.specs.declared.ReadAnswer.{ReadAnswer}
 use Rattle.rules.specs.declared.ReadAnswer.the-variants.{Read, Refused}
-use Rattle.rules.specs.Numbers.{Says, number, refused, refused-with-0, started, posted, none, runs, ran, done, cut, idle, gives, tuples, accept, late, overload, read, wrote}
+use Rattle.rules.specs.Numbers.{Says, number, refused, refused-with-0, started, posted, none, runs, ran, done, cut, idle, gives, tuples, accept, late, overload, read, wrote, ended}
 use Rattle.ascii.specs.Decimal.{letters, decimalOf, signedOf, spaced, newline}
 
 -- a number behind a space
@@ -38,6 +38,7 @@ says (late i w) = letters "late" ++ nr i ++ nr w
 says overload = letters "overload"
 says read = letters "read"
 says (wrote n) = letters "wrote" ++ nr n
+says ended = letters "end"
 
 -- "Prints `set N` with the number of streams .. or `refused N`"
 abbrev pub readWords : ReadAnswer → ℕ → List ℕ
