@@ -17,14 +17,7 @@ fn number(n: usize) {
 
 fn refused(why: Refusal) {
     io::write_all(1, b"refused ");
-    match why {
-        Refusal::BitsMissing => number(5),
-        Refusal::BadVersion => number(6),
-        Refusal::OutOfRule => number(7),
-        Refusal::Leftover => number(10),
-        Refusal::ShortBuffer => number(11),
-        _ => number(0),
-    }
+    number(answer_numbers::refusal_number(why) as usize);
     io::write_all(1, b"\n");
 }
 
@@ -41,7 +34,7 @@ fn wrote(a: WriteAnswer) {
 
 // The sheet of a set, written to as many bytes as the longest sheet has.
 fn again(set: Set) {
-    let mut buf = [238u8; 378];
+    let mut buf = [238u8; rules::LONGEST_SHEET];
     wrote(sheet_write::write(set, &mut buf));
 }
 

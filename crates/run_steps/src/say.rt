@@ -18,26 +18,9 @@ fn value(n: u64) {
     io::print_decimal(STDOUT_FILENO, n);
 }
 
-fn number(why: Refusal) -> u64 {
-    match why {
-        Refusal::NoStream => 1,
-        Refusal::Full => 2,
-        Refusal::LastClock => 3,
-        Refusal::NothingPending => 4,
-        Refusal::BitsMissing => 5,
-        Refusal::BadVersion => 6,
-        Refusal::OutOfRule => 7,
-        Refusal::LongCycles => 8,
-        Refusal::BadByte => 9,
-        Refusal::Leftover => 10,
-        Refusal::ShortBuffer => 11,
-        Refusal::IllFormed => 12,
-    }
-}
-
 fn refused(why: Refusal) {
     words(b"refused");
-    value(number(why));
+    value(answer_numbers::refusal_number(why));
 }
 
 pub fn post(a: PostAnswer) {
