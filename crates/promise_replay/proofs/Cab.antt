@@ -59,6 +59,17 @@ module _ (recording : List ℕ) (s : State) (p : Place) (formed : wellFormed s �
   unfolding replayStep
   step-is = rw (formed, inside) (ap (λ (l : List ℕ). stepBy s p (markOf l)) (ap₂ drop at split ∙ drop-at front rest (length front) refl))
 
+-- one step more, whatever it comes to
+answers-by : (n : ℕ) (recording : List ℕ) (s : State) (p : Place) (r : ReplayResult) → replayStep s recording p ≡ r
+    → replayAnswers (suc n) recording s p ≡ replaySays (r .answer) ∷ replayAnswers n recording (r .state) (placeOfResult r)
+unfolding replayAnswers
+answers-by n recording s p r e = ap (λ (r : ReplayResult). replaySays (r .answer) ∷ replayAnswers n recording (r .state) (placeOfResult r)) e
+
+state-by : (n : ℕ) (recording : List ℕ) (s : State) (p : Place) (r : ReplayResult) → replayStep s recording p ≡ r
+    → replayState (suc n) recording s p ≡ replayState n recording (r .state) (placeOfResult r)
+unfolding replayState
+state-by n recording s p r e = ap (λ (r : ReplayResult). replayState n recording (r .state) (placeOfResult r)) e
+
 -- ---- all steps
 
 module _ (recording : List ℕ) (pad : ℕ) (few : pad < 8) where
@@ -96,17 +107,19 @@ module _ (recording : List ℕ) (pad : ℕ) (few : pad < 8) where
   }
 
   pub gives : (r : Run) (p : Place) (front : List ℕ) (cs : List Call) → From r p front cs → Gives r p cs
-  unfolding replayAnswers replayState stepsFrom runFrom
+  unfolding stepsFrom runFrom replayAnswers replayState
   gives r p front [] f = record {
-    answers = rw (end-step r p front f);
-    state = rw (end-step r p front f);
+    answers = answers-by 0 recording (r .state) p (stepBy (r .state) p Ends) (end-step r p front f);
+    state = state-by 0 recording (r .state) p (stepBy (r .state) p Ends) (end-step r p front f);
   }
   gives r p front (c ∷ cs) f = more (gives (stepOf r c) (placeAfter p (length (callBits c))) (front ++ callBits c) cs (from-next r p front c cs f))
     where
       more : Gives (stepOf r c) (placeAfter p (length (callBits c))) cs → Gives r p (c ∷ cs)
       more g = record {
-        answers = rw (call-step r p front c cs f) (ap (λ (l : List Says). saidAt (stepTo (r .state) c) ∷ l) (subst (λ (s : State). replayAnswers (suc (length cs)) recording s (placeAfter p (length (callBits c))) ≡ map saidAt (stepsFrom (stepOf r c) cs) ++ (ended ∷ [])) (step-state r c) (g .answers)));
-        state = rw (call-step r p front c cs f) (subst (λ (s : State). replayState (suc (length cs)) recording s (placeAfter p (length (callBits c))) ≡ runFrom (stepOf r c) cs .state) (step-state r c) (g .state));
+        answers = answers-by (suc (length cs)) recording (r .state) p (stepBy (r .state) p (Makes c)) (call-step r p front c cs f)
+            ∙ ap (λ (l : List Says). saidAt (stepTo (r .state) c) ∷ l) (subst (λ (s : State). replayAnswers (suc (length cs)) recording s (placeAfter p (length (callBits c))) ≡ map saidAt (stepsFrom (stepOf r c) cs) ++ (ended ∷ [])) (step-state r c) (g .answers));
+        state = state-by (suc (length cs)) recording (r .state) p (stepBy (r .state) p (Makes c)) (call-step r p front c cs f)
+            ∙ subst (λ (s : State). replayState (suc (length cs)) recording s (placeAfter p (length (callBits c))) ≡ runFrom (stepOf r c) cs .state) (step-state r c) (g .state);
       }
 
 -- ---- from the sheet

@@ -110,7 +110,12 @@ fn made(s: State, c: Call, byte: usize, bit: u32) -> ReplayResult
     let q = scheduler::call(s, c);
     let said = q.answer;
     let next = q.state;
-    standing(ReplayAnswer::Called(said), next, byte + (n / 8) as usize, n % 8)
+    standing(
+        ReplayAnswer::Called(said),
+        next,
+        byte + (n / 8) as usize,
+        n % 8,
+    )
 }
 
 // One step of a replay, or end, 12, 13 or 14, which leave state and place as they are.
