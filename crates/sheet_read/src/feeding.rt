@@ -146,6 +146,7 @@ pub(crate) fn feed(s: Carried, piece: &[u8]) -> Carried
         let end = bit + g.got;
         byte += (end / 8) as usize;
         bit = end % 8;
+        // `joined` stands twice, so that the compiler sees that a field whose bits came at once is whole
         if g.got < point.left {
             point = joined(point, g);
         } else {
@@ -173,6 +174,7 @@ pub(crate) fn feed(s: Carried, piece: &[u8]) -> Carried
                     rule = table::rule(point, values);
                 }
             } else if f == table::CYCLE {
+                // as any row below, its numbers named: most fields are cycles and offsets
                 values[table::CYCLE] = v;
                 point = table::begun(table::OFFSET, n);
                 rule = table::rule(point, values);

@@ -74,7 +74,7 @@ add-byte c =
     let t : List ℕ = c .before .before .before .before .before .before .before .before .before .before .before .args .piece .now in
     omega (arith, got-few (turned (l .point) (l .values) (l .places) (l .set) t (l .byte) (l .bit) (c .before .gather .result) (l .inv .2) (c .before .before .if1 .taken) (c .before .gather .ensures)), end-le (turned (l .point) (l .values) (l .places) (l .set) t (l .byte) (l .bit) (c .before .gather .result) (l .inv .2) (c .before .before .if1 .taken) (c .before .gather .ensures)) (l .inv .1))
 
--- src/feeding.rt:150:13
+-- src/feeding.rt:151:13
 joined-requires : tie.Need-joined-requires Inv-loop μ-loop
 joined-requires c κs =
     let a = c in
@@ -112,7 +112,7 @@ loop-again c =
       rule-stays w n j (l .rule) (l .inv .4),
     )
 
--- src/feeding.rt:152:13
+-- src/feeding.rt:153:13
 joined-requires-2 : tie.Need-joined-requires-2 Inv-loop μ-loop
 joined-requires-2 c κs =
     let a = c in
@@ -122,7 +122,7 @@ joined-requires-2 c κs =
     let w = turned (l .point) (l .values) (l .places) (l .set) t (l .byte) (l .bit) g (l .inv .2) (a .before .before .before .before .before .if1 .taken) (a .before .before .before .before .gather .ensures) in
     fits w
 
--- src/feeding.rt:155:21
+-- src/feeding.rt:156:21
 cast-v : tie.Need-cast-v Inv-loop μ-loop
 cast-v c =
     let a = c .before in
@@ -135,15 +135,15 @@ cast-v c =
     let b = turn-whole w n j (left-none w n j (a .before .if2 .left)) in
     omega (arith, b .small)
 
--- src/feeding.rt:156:17
+-- src/feeding.rt:157:17
 in-rule-requires : tie.Need-in-rule-requires Inv-loop μ-loop
 in-rule-requires c κs = search needs
 
--- src/feeding.rt:157:32
+-- src/feeding.rt:158:32
 refusal-requires : tie.Need-refusal-requires Inv-loop μ-loop
 refusal-requires c κs = search needs
 
--- src/feeding.rt:157:17
+-- src/feeding.rt:158:17
 refused-requires : tie.Need-refused-requires Inv-loop μ-loop
 refused-requires c κs =
     let a = c .before .before .before .before in
@@ -156,7 +156,7 @@ refused-requires c κs =
     let b = turn-whole w n j (left-none w n j (a .before .if2 .left)) in
     (b .at .few, b .at .streams)
 
--- src/feeding.rt:157:17
+-- src/feeding.rt:158:17
 returns : tie.Need-returns Inv-loop μ-loop
 returns c =
     let a = c .before .before .before .before .before in
@@ -172,7 +172,7 @@ returns c =
     let e = c .refused .ensures ∙ ap refusedOf (c .before .refusal .ensures) in
     e ∙ refused-stays (refusalOf (n .row)) _ t (8 * (l .byte + (l .bit + g .got) / 8) + (l .bit + g .got) % 8) (refusal-row (n .row) .0) (ahead-runs w _ _ (8 * (l .byte + (l .bit + g .got) / 8) + (l .bit + g .got) % 8) (turn-refused b s) (omega arith) (l .inv .3))
 
--- src/feeding.rt:160:38
+-- src/feeding.rt:161:38
 array-read-tuple-of : tie.Need-array-read-tuple-of Inv-loop μ-loop
 array-read-tuple-of c =
     let a = c .before .before .before .before in
@@ -182,11 +182,11 @@ array-read-tuple-of c =
     let w = turned (l .point) (l .values) (l .places) (l .set) t (l .byte) (l .bit) g (l .inv .2) (a .before .before .before .before .before .before .if1 .taken) (a .before .before .before .before .before .gather .ensures) in
     omega (arith, w .kept .at .eight)
 
--- src/feeding.rt:160:29
+-- src/feeding.rt:161:29
 tuple-of-requires : tie.Need-tuple-of-requires Inv-loop μ-loop
 tuple-of-requires c κs = search needs
 
--- src/feeding.rt:160:17
+-- src/feeding.rt:161:17
 mul-places : tie.Need-mul-places Inv-loop μ-loop
 mul-places c =
     let a = c .before .before .before .before .before in
@@ -201,7 +201,7 @@ mul-places c =
     let r = sym q ∙ not-false _ (c .before .before .if3 .left) in
     omega (arith, tuple-room b r (c .before .if4 .taken))
 
--- src/feeding.rt:160:17
+-- src/feeding.rt:161:17
 array-set-from-places : tie.Need-array-set-from-places Inv-loop μ-loop
 array-set-from-places c =
     let a = c .before .before .before .before .before in
@@ -216,7 +216,7 @@ array-set-from-places c =
     let r = sym q ∙ not-false _ (c .before .before .if3 .left) in
     tuple-room b r (c .before .if4 .taken)
 
--- src/feeding.rt:161:29
+-- src/feeding.rt:162:29
 array-read-wide : tie.Need-array-read-wide Inv-loop μ-loop
 array-read-wide c =
     let a = c .before .before .before .before .before in
@@ -226,11 +226,11 @@ array-read-wide c =
     let w = turned (l .point) (l .values) (l .places) (l .set) t (l .byte) (l .bit) g (l .inv .2) (a .before .before .before .before .before .before .if1 .taken) (a .before .before .before .before .before .gather .ensures) in
     omega (arith, w .kept .at .eight)
 
--- src/feeding.rt:161:24
+-- src/feeding.rt:162:24
 wide-requires : tie.Need-wide-requires Inv-loop μ-loop
 wide-requires c κs = search needs
 
--- src/feeding.rt:162:21
+-- src/feeding.rt:163:21
 array-write-values : tie.Need-array-write-values Inv-loop μ-loop
 array-write-values c =
     let a = c .before .before .before .before .before .before .before in
@@ -240,7 +240,7 @@ array-write-values c =
     let w = turned (l .point) (l .values) (l .places) (l .set) t (l .byte) (l .bit) g (l .inv .2) (a .before .before .before .before .before .before .if1 .taken) (a .before .before .before .before .before .gather .ensures) in
     omega (arith, w .kept .at .eight)
 
--- src/feeding.rt:163:21
+-- src/feeding.rt:164:21
 array-write-values-2 : tie.Need-array-write-values-2 Inv-loop μ-loop
 array-write-values-2 c =
     let a = c .before .before .before .before .before .before .before in
@@ -250,7 +250,7 @@ array-write-values-2 c =
     let w = turned (l .point) (l .values) (l .places) (l .set) t (l .byte) (l .bit) g (l .inv .2) (a .before .before .before .before .before .before .if1 .taken) (a .before .before .before .before .before .gather .ensures) in
     omega (arith, length-set (l .values) 6 0, w .kept .at .eight)
 
--- src/feeding.rt:164:56
+-- src/feeding.rt:165:56
 add-begun : tie.Need-add-begun Inv-loop μ-loop
 add-begun c =
     let a = c .before .before .before .before .before .before .before in
@@ -265,11 +265,11 @@ add-begun c =
     let r = sym q ∙ not-false _ (c .before .before .before .before .if3 .left) in
     omega (arith, tuple-room b r (c .before .before .before .if4 .taken))
 
--- src/feeding.rt:164:21
+-- src/feeding.rt:165:21
 begun-requires : tie.Need-begun-requires Inv-loop μ-loop
 begun-requires c κs = search needs
 
--- src/feeding.rt:165:21
+-- src/feeding.rt:166:21
 rule-requires-2 : tie.Need-rule-requires-2 Inv-loop μ-loop
 rule-requires-2 c κs = search needs
 
@@ -304,7 +304,7 @@ loop-again-2 c =
       c .rule2 .ensures,
     )
 
--- src/feeding.rt:168:56
+-- src/feeding.rt:169:56
 add-stream-in : tie.Need-add-stream-in Inv-loop μ-loop
 add-stream-in c =
     let a = c .before .before .before .before .before .before .before in
@@ -319,11 +319,11 @@ add-stream-in c =
     let r = sym q ∙ not-false _ (c .before .before .before .before .if3 .left) in
     omega (arith, tuple-room b r (c .before .before .before .if4 .taken))
 
--- src/feeding.rt:168:38
+-- src/feeding.rt:169:38
 stream-in-requires : tie.Need-stream-in-requires Inv-loop μ-loop
 stream-in-requires c κs = search needs
 
--- src/feeding.rt:168:21
+-- src/feeding.rt:169:21
 mul-t46 : tie.Need-mul-t46 Inv-loop μ-loop
 mul-t46 c =
     let a = c .before .before .before .before .before .before .before .before in
@@ -338,7 +338,7 @@ mul-t46 c =
     let r = sym q ∙ not-false _ (c .before .before .before .before .before .if3 .left) in
     omega (arith, stream-room b r (c .before .before .before .before .if4 .taken))
 
--- src/feeding.rt:168:21
+-- src/feeding.rt:169:21
 element-set-from-set : tie.Need-element-set-from-set Inv-loop μ-loop
 element-set-from-set c =
     let a = c .before .before .before .before .before .before .before .before in
@@ -353,7 +353,7 @@ element-set-from-set c =
     let r = sym q ∙ not-false _ (c .before .before .before .before .before .if3 .left) in
     stream-room b r (c .before .before .before .before .if4 .taken)
 
--- src/feeding.rt:169:33
+-- src/feeding.rt:170:33
 add-set : tie.Need-add-set Inv-loop μ-loop
 add-set c =
     let a = c .before .before .before .before .before .before .before .before in
@@ -368,7 +368,7 @@ add-set c =
     let r = sym q ∙ not-false _ (c .before .before .before .before .before .if3 .left) in
     omega (arith, stream-room b r (c .before .before .before .before .if4 .taken))
 
--- src/feeding.rt:170:56
+-- src/feeding.rt:171:56
 add-opened : tie.Need-add-opened Inv-loop μ-loop
 add-opened c =
     let a = c .before .before .before .before .before .before .before .before in
@@ -383,7 +383,7 @@ add-opened c =
     let r = sym q ∙ not-false _ (c .before .before .before .before .before .if3 .left) in
     omega (arith, stream-room b r (c .before .before .before .before .if4 .taken))
 
--- src/feeding.rt:170:68
+-- src/feeding.rt:171:68
 array-read-wide-2 : tie.Need-array-read-wide-2 Inv-loop μ-loop
 array-read-wide-2 c =
     let a = c .before .before .before .before .before .before .before .before in
@@ -393,27 +393,27 @@ array-read-wide-2 c =
     let w = turned (l .point) (l .values) (l .places) (l .set) t (l .byte) (l .bit) g (l .inv .2) (a .before .before .before .before .before .before .if1 .taken) (a .before .before .before .before .before .gather .ensures) in
     omega (arith, w .kept .at .eight)
 
--- src/feeding.rt:170:63
+-- src/feeding.rt:171:63
 wide-requires-2 : tie.Need-wide-requires-2 Inv-loop μ-loop
 wide-requires-2 c κs = search needs
 
--- src/feeding.rt:170:42
+-- src/feeding.rt:171:42
 opened-requires : tie.Need-opened-requires Inv-loop μ-loop
 opened-requires c κs = search needs
 
--- src/feeding.rt:170:21
+-- src/feeding.rt:171:21
 begun-requires-2 : tie.Need-begun-requires-2 Inv-loop μ-loop
 begun-requires-2 c κs = search needs
 
--- src/feeding.rt:171:30
+-- src/feeding.rt:172:30
 front-requires : tie.Need-front-requires Inv-loop μ-loop
 front-requires c κs = search needs
 
--- src/feeding.rt:172:30
+-- src/feeding.rt:173:30
 no-tuples-requires : tie.Need-no-tuples-requires Inv-loop μ-loop
 no-tuples-requires c κs = search needs
 
--- src/feeding.rt:173:21
+-- src/feeding.rt:174:21
 rule-requires-3 : tie.Need-rule-requires-3 Inv-loop μ-loop
 rule-requires-3 c κs = search needs
 
@@ -449,7 +449,7 @@ loop-again-3 c =
       c .rule3 .ensures,
     )
 
--- src/feeding.rt:176:17
+-- src/feeding.rt:178:17
 array-write-values-3 : tie.Need-array-write-values-3 Inv-loop μ-loop
 array-write-values-3 c =
     let a = c .before .before .before .before .before in
@@ -459,11 +459,11 @@ array-write-values-3 c =
     let w = turned (l .point) (l .values) (l .places) (l .set) t (l .byte) (l .bit) g (l .inv .2) (a .before .before .before .before .before .before .if1 .taken) (a .before .before .before .before .before .gather .ensures) in
     omega (arith, w .kept .at .eight)
 
--- src/feeding.rt:177:17
+-- src/feeding.rt:179:17
 begun-requires-3 : tie.Need-begun-requires-3 Inv-loop μ-loop
 begun-requires-3 c κs = search needs
 
--- src/feeding.rt:178:17
+-- src/feeding.rt:180:17
 rule-requires-4 : tie.Need-rule-requires-4 Inv-loop μ-loop
 rule-requires-4 c κs = search needs
 
@@ -498,7 +498,7 @@ loop-again-4 c =
       c .rule4 .ensures,
     )
 
--- src/feeding.rt:180:17
+-- src/feeding.rt:182:17
 array-write-values-4 : tie.Need-array-write-values-4 Inv-loop μ-loop
 array-write-values-4 c =
     let a = c .before .before .before .before .before .before in
@@ -508,19 +508,19 @@ array-write-values-4 c =
     let w = turned (l .point) (l .values) (l .places) (l .set) t (l .byte) (l .bit) g (l .inv .2) (a .before .before .before .before .before .before .if1 .taken) (a .before .before .before .before .before .gather .ensures) in
     omega (arith, w .kept .at .eight)
 
--- src/feeding.rt:181:55
+-- src/feeding.rt:183:55
 wide-requires-3 : tie.Need-wide-requires-3 Inv-loop μ-loop
 wide-requires-3 c κs = search needs
 
--- src/feeding.rt:181:38
+-- src/feeding.rt:183:38
 opened-requires-2 : tie.Need-opened-requires-2 Inv-loop μ-loop
 opened-requires-2 c κs = search needs
 
--- src/feeding.rt:181:17
+-- src/feeding.rt:183:17
 begun-requires-4 : tie.Need-begun-requires-4 Inv-loop μ-loop
 begun-requires-4 c κs = search needs
 
--- src/feeding.rt:182:17
+-- src/feeding.rt:184:17
 rule-requires-5 : tie.Need-rule-requires-5 Inv-loop μ-loop
 rule-requires-5 c κs = search needs
 
@@ -555,12 +555,12 @@ loop-again-5 c =
       c .rule5 .ensures,
     )
 
--- src/feeding.rt:184:17
+-- src/feeding.rt:186:17
 mul-values : tie.Need-mul-values Inv-loop μ-loop
 mul-values c =
     omega (arith, c .if8 .taken)
 
--- src/feeding.rt:184:17
+-- src/feeding.rt:186:17
 array-write-values-5 : tie.Need-array-write-values-5 Inv-loop μ-loop
 array-write-values-5 c =
     let a = c .before .before .before .before .before .before .before in
@@ -570,16 +570,16 @@ array-write-values-5 c =
     let w = turned (l .point) (l .values) (l .places) (l .set) t (l .byte) (l .bit) g (l .inv .2) (a .before .before .before .before .before .before .if1 .taken) (a .before .before .before .before .before .gather .ensures) in
     omega (arith, w .kept .at .eight, c .if8 .taken)
 
--- src/feeding.rt:185:38
+-- src/feeding.rt:187:38
 add-begun-2 : tie.Need-add-begun-2 Inv-loop μ-loop
 add-begun-2 c =
     omega (arith, c .if8 .taken)
 
--- src/feeding.rt:185:17
+-- src/feeding.rt:187:17
 begun-requires-5 : tie.Need-begun-requires-5 Inv-loop μ-loop
 begun-requires-5 c κs = search needs
 
--- src/feeding.rt:186:17
+-- src/feeding.rt:188:17
 rule-requires-6 : tie.Need-rule-requires-6 Inv-loop μ-loop
 rule-requires-6 c κs = search needs
 
@@ -614,7 +614,7 @@ loop-again-6 c =
       c .rule6 .ensures,
     )
 
--- src/feeding.rt:188:38
+-- src/feeding.rt:190:38
 add-begun-3 : tie.Need-add-begun-3 Inv-loop μ-loop
 add-begun-3 c =
     let a = c .before .before .before .before .before .before .before in
@@ -627,11 +627,11 @@ add-begun-3 c =
     let b = turn-whole w n j (left-none w n j (a .before .if2 .left)) in
     omega (arith, b .row)
 
--- src/feeding.rt:188:17
+-- src/feeding.rt:190:17
 begun-requires-6 : tie.Need-begun-requires-6 Inv-loop μ-loop
 begun-requires-6 c κs = search needs
 
--- src/feeding.rt:189:17
+-- src/feeding.rt:191:17
 rule-requires-7 : tie.Need-rule-requires-7 Inv-loop μ-loop
 rule-requires-7 c κs = search needs
 
