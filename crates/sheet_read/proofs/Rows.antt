@@ -2,7 +2,7 @@
 -- Assumes nothing.
 use Prim.Native.Nat.{ℕ, zero, suc, _+_, _-_, _≤_, _<_}
 use mathlib.Core.List.{List, [], _∷_}
-use mathlib.Core.Path.{_≡_, refl, sym, ap, _∙_}
+use mathlib.Core.Path.{_≡_, refl, sym, ap, ap₂, _∙_}
 use mathlib.Core.Bool.{Bool, true, false, cond, _&&_}
 use native.Mathlib.Omega.{arith}
 use lib.ListN.{length, take, drop, getD}
@@ -12,7 +12,9 @@ use borrow.Author.Tests.{eqb-false, eqb-true, le-leb, lt-leb, leb-true, ltb-fals
 use Rattle.laws.specs.Lists.{All, all, within}
 use Rattle.laws.proofs.Sums.{and-no, and-parts, by-test}
 use Rattle.sheet_read.specs.declared.SheetField.{SheetField}
+use Rattle.sheet_read.specs.declared.Point.{Point}
 use Rattle.sheet_read.specs.Table.{greatestOf, inRuleOf, leastOf, refusalOf, row, rowOf, sheetFields, widthOf}
+use Rattle.sheet_read.specs.Reader.{ruleOf, valueAt}
 use Rattle.sheet_read.proofs.Filled.{cond-elim}
 
 -- ---- widths
@@ -72,13 +74,15 @@ pub rule-high : (f n low v : ℕ) → inRuleOf f n low v ≡ true → v ≤ grea
 unfolding inRuleOf
 rule-high f n low v e = leb-true v (greatestOf f n) (and-parts (leb (leastOf f low) v) (leb v (greatestOf f n)) e .1)
 
-pub rule-offset : (f n low v : ℕ) → f ≡ 7 → within low v (greatestOf 7 n) ≡ inRuleOf f n low v
-unfolding inRuleOf leastOf
-rule-offset f n low v e = ap (λ (g : ℕ). inRuleOf g n low v) (sym e)
+pub rule-offset : (p : Point) (vs : List ℕ) (r : SheetField) (m : ℕ) → p .row ≡ 7 → r ≡ rowOf (p .row) → m ≡ greatestOf 7 (p .tuples) → row (r .width) (valueAt vs 7) m ≡ ruleOf p vs
+unfolding ruleOf leastOf
+rule-offset p vs r m e h k =
+    ap₂ (λ (q : SheetField) (i : ℕ). row (q .width) (valueAt vs 7) i) h k ∙ ap (λ (g : ℕ). row (widthOf (p .row)) (leastOf g (valueAt vs 7)) (greatestOf g (p .tuples))) (sym e)
 
-pub rule-other : (f n low v : ℕ) → (f ≡ 7 → ⊥) → within (rowOf f .least) v (rowOf f .greatest) ≡ inRuleOf f n low v
-unfolding inRuleOf leastOf greatestOf
-rule-other f n low v h = ap (λ (t : Bool). within (cond t low (rowOf f .least)) v (cond (t && eqb n 0) 0 (rowOf f .greatest))) (sym (ne-eqb f 7 h))
+pub rule-other : (p : Point) (vs : List ℕ) → (p .row ≡ 7 → ⊥) → rowOf (p .row) ≡ ruleOf p vs
+unfolding ruleOf leastOf greatestOf
+rule-other p vs h =
+    ap (λ (t : Bool). row (widthOf (p .row)) (cond t (valueAt vs 7) (rowOf (p .row) .least)) (cond (t && eqb (p .tuples) 0) 0 (rowOf (p .row) .greatest))) (sym (ne-eqb (p .row) 7 h))
 
 pub within-zero : (v b : ℕ) → within 0 v b ≡ leb v b
 within-zero v b = ap (λ (t : Bool). t && leb v b) (le-leb 0 v (omega arith))

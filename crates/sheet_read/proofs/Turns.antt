@@ -13,6 +13,7 @@ use lib.Pow.{pow-add, pow-mono, shl-exact, shl-lt}
 use lib.Dec.{eqb, ltb}
 use borrow.Author.Tests.{eq-eqb, le-ltb, lt-ltb, ltb-false, ltb-true, ne-eqb}
 use Rattle.laws.proofs.Sums.{and-parts}
+use Rattle.laws.specs.Lists.{within}
 use Rattle.laws.specs.Bits.{bits, onto, value}
 use Rattle.laws.proofs.Fields.{AreBits, IsBit, all-drop, all-take, bits-bits, bits-length, onto-value, value-lt}
 use Rattle.bits.specs.declared.Gathered.{Gathered}
@@ -22,10 +23,11 @@ use Rattle.rules.specs.declared.Stream.{Stream}
 use Rattle.rules.specs.declared.TuplePlace.{TuplePlace}
 use Rattle.rules.specs.Streams.{emptySet}
 use Rattle.rules.specs.Sheet.{tupleOf}
+use Rattle.sheet_read.specs.declared.SheetField.{SheetField}
 use Rattle.sheet_read.specs.declared.Point.{Point}
 use Rattle.sheet_read.specs.declared.Carried.{Carried}
 use Rattle.sheet_read.specs.Table.{followingOf, inRuleOf, openedOf, refusalOf, widthOf}
-use Rattle.sheet_read.specs.Reader.{begun, behindOffset, frontOf, goesOn, joinedOf, nextField, nextOf, nextStream, nextTuple, noTuples, noValues, placedIn, pointAt, reading, refusedOf, run, streamIn, tupled, valueAt, withStream}
+use Rattle.sheet_read.specs.Reader.{begun, behindOffset, frontOf, goesOn, joinedOf, nextField, nextOf, nextStream, nextTuple, noTuples, noValues, placedIn, pointAt, reading, refusedOf, ruleOf, run, streamIn, tupled, valueAt, withStream}
 use Rattle.sheet_read.specs.Kept.{Kept, KeptAt}
 use Rattle.sheet_read.proofs.Rows.{row-some, width-le, width-none}
 use Rattle.sheet_read.proofs.Keeps.{kept-run}
@@ -173,6 +175,22 @@ module _ {o : Point} {vs : List ℕ} {ts : List TuplePlace} {x : Set} {t : List 
     left-is : n .left ≡ o .left - g .got
     left-is = ap (λ (y : Point). y .left) point-is
 
+    pub left-some : g .got < o .left → n .left ≡ 0 → ⊥
+    left-some h z = omega (arith, left-is)
+
+    pub left-none : o .left ≤ g .got → n .left ≡ 0
+    left-none h = omega (arith, left-is)
+
+    -- they change no rule, and a value is tested by the one that is kept
+    module _ (r : SheetField) (e : r ≡ ruleOf o vs) where
+      pub rule-stays : r ≡ ruleOf n vs
+      unfolding joinedOf ruleOf
+      rule-stays = e ∙ ap (λ (y : Point). ruleOf y vs) (sym jn)
+
+      pub rule-tests : within (r .least) (n .acc) (r .greatest) ≡ inRuleOf (n .row) (n .tuples) (valueAt vs 7) (n .acc)
+      unfolding inRuleOf ruleOf
+      rule-tests = ap (λ (y : SheetField). within (y .least) (n .acc) (y .greatest)) rule-stays
+
     -- the field is not whole yet
     pub turn-part : (n .left ≡ 0 → ⊥) → carried n vs ts x ≡ ahead
     turn-part h =
@@ -250,6 +268,11 @@ module _ {n : Point} {vs : List ℕ} {ts : List TuplePlace} {x : Set} {c : Carri
     turn-field h k new i =
         ap (λ (y : Point). carried y (set vs f v) ts x) i
         ∙ ap (λ (t : Bool). carried (pointAt (cond t (openedOf 0 v) (f + 1)) (n .tuples)) (set vs f v) ts x) (sym (ne-eqb f 1 k)) ∙ other-is h
+
+    -- a cycle, whose place and next row the code names
+    pub turn-cycle : f ≡ 6 → (new : Point) → new ≡ pointAt 7 (n .tuples) → carried new (set vs 6 v) ts x ≡ c
+    turn-cycle h new i =
+        ap (λ (j : ℕ). carried new (set vs j v) ts x) (sym h) ∙ turn-field (λ e. omega arith) (λ e. omega arith) new (i ∙ ap (λ (j : ℕ). pointAt (j + 1) (n .tuples)) (sym h))
 
     -- padding has no value to keep
     pub turn-padding : 8 ≤ f → (new : Point) → new ≡ pointAt (f + 1) (n .tuples) → carried new vs ts x ≡ c

@@ -14,9 +14,10 @@ use Rattle.rules.specs.declared.ReadAnswer.{ReadAnswer}
 use Rattle.rules.specs.declared.ReadAnswer.the-variants.{Read, Refused}
 use Rattle.rules.specs.Streams.{emptySet, noTuple}
 use Rattle.rules.specs.Sheet.{noSet, tupleOf}
+use Rattle.sheet_read.specs.declared.SheetField.{SheetField}
 use Rattle.sheet_read.specs.declared.Point.{Point}
 use Rattle.sheet_read.specs.declared.Carried.{Carried}
-use Rattle.sheet_read.specs.Table.{answerOf, atCost, atCount, atCycle, atDeadline, atOffset, atTask, atTuples, atVersion, followingOf, inRuleOf, openedOf, refusalOf, widthOf}
+use Rattle.sheet_read.specs.Table.{answerOf, atCost, atCount, atCycle, atDeadline, atOffset, atTask, atTuples, atVersion, followingOf, greatestOf, inRuleOf, leastOf, openedOf, refusalOf, row, widthOf}
 
 -- ---- states
 
@@ -36,6 +37,10 @@ reading f n vs ts x a l = record { point = record { row = f; tuples = n; acc = a
 
 abbrev pub pointAt : ℕ → ℕ → Point
 pointAt f n = record { row = f; tuples = n; acc = 0; left = widthOf f }
+
+-- the row of the field that comes, with an offset's own bounds
+unfoldable pub ruleOf : Point → List ℕ → SheetField
+ruleOf p vs = row (widthOf (p .row)) (leastOf (p .row) (valueAt vs atOffset)) (greatestOf (p .row) (p .tuples))
 
 abbrev pub begun : ℕ → ℕ → List ℕ → List TuplePlace → Set → Carried
 begun f n vs ts x = record { point = pointAt f n; values = vs; places = ts; set = x }

@@ -138,6 +138,7 @@ pub(crate) fn feed(s: Carried, piece: &[u8]) -> Carried
     let mut values = s.values;
     let mut places = s.places;
     let mut set = s.set;
+    let mut rule = table::rule(point, values);
     let mut byte: usize = 0;
     let mut bit: u32 = 0;
     while (byte < piece.len()) & (0 < point.left) {
@@ -145,12 +146,15 @@ pub(crate) fn feed(s: Carried, piece: &[u8]) -> Carried
         let end = bit + g.got;
         byte += (end / 8) as usize;
         bit = end % 8;
-        point = joined(point, g);
-        if point.left == 0 {
+        // `joined` stands twice, so that the compiler sees that a field whose bits came at once is whole
+        if g.got < point.left {
+            point = joined(point, g);
+        } else {
+            point = joined(point, g);
             let f = point.row;
             let n = point.tuples;
             let v = point.acc as u32;
-            if !table::in_rule(f, n, values[table::OFFSET], v) {
+            if !table::in_rule(rule, v) {
                 return refused(table::refusal(f), set);
             }
             if f == table::OFFSET {
@@ -159,6 +163,7 @@ pub(crate) fn feed(s: Carried, piece: &[u8]) -> Carried
                     values[table::CYCLE] = 0;
                     values[table::OFFSET] = v;
                     point = table::begun(table::CYCLE, n + 1);
+                    rule = table::rule(point, values);
                 } else {
                     let k = set.count;
                     set.streams[k] = stream_in(values, n + 1, places);
@@ -166,15 +171,24 @@ pub(crate) fn feed(s: Carried, piece: &[u8]) -> Carried
                     point = table::begun(table::opened(k + 1, wide(values[table::COUNT])), 0);
                     values = front(values);
                     places = no_tuples();
+                    rule = table::rule(point, values);
                 }
+            } else if f == table::CYCLE {
+                // as any row below, its numbers named: most fields are cycles and offsets
+                values[table::CYCLE] = v;
+                point = table::begun(table::OFFSET, n);
+                rule = table::rule(point, values);
             } else if f == table::COUNT {
                 values[table::COUNT] = v;
                 point = table::begun(table::opened(0, wide(v)), n);
+                rule = table::rule(point, values);
             } else if f < table::PADDING {
                 values[f] = v;
                 point = table::begun(f + 1, n);
+                rule = table::rule(point, values);
             } else {
                 point = table::begun(f + 1, n);
+                rule = table::rule(point, values);
             }
         }
     }

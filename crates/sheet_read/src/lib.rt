@@ -10,9 +10,6 @@ use rules::TuplePlace;
 ghost use mathlib.Core.Path.{_≡_};
 ghost use Rattle.rules.specs.Sheet.{readOf};
 
-// "A full sheet is 378 bytes.": no valid set's sheet is longer (`sheet-at-most` of crates/sheet_write).
-pub const LONGEST: usize = 378;
-
 // ---- the reader's state
 
 // How many bits a field of a sheet has, and from where to where its value may be.

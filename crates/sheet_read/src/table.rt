@@ -1,7 +1,8 @@
 // The fields of a sheet as data: a row for each, in document 01's order.
 ghost use mathlib.Core.Path.{_≡_};
-ghost use Rattle.sheet_read.specs.Table.{row, rowOf, greatestOf, inRuleOf, refusalOf, openedOf};
-ghost use Rattle.sheet_read.specs.Reader.{pointAt};
+ghost use Rattle.laws.specs.Lists.{within};
+ghost use Rattle.sheet_read.specs.Table.{row, rowOf, greatestOf, refusalOf, openedOf};
+ghost use Rattle.sheet_read.specs.Reader.{pointAt, ruleOf};
 use crate::Point;
 use crate::SheetField;
 
@@ -69,14 +70,22 @@ fn greatest_offset(n: usize) -> u32
     if n == 0 { 0 } else { 100000 }
 }
 
-// Whether `v` may be the value of the field `f`, behind `n` tuples of which the last has the offset `low`.
-pub(crate) fn in_rule(f: usize, n: usize, low: u32, v: u32) -> bool
-    ensures { λ r. ⌜ r ≡ inRuleOf f n low v ⌝ }
+// The row of the field that comes, with an offset's own bounds: it is looked up once for a field.
+pub(crate) fn rule(p: Point, values: [u32; 8]) -> SheetField
+    ensures { λ r. ⌜ r ≡ ruleOf p values ⌝ }
 {
-    if f == OFFSET {
-        return (low <= v) & (v <= greatest_offset(n));
+    let r = row(p.row);
+    if p.row == OFFSET {
+        let low = values[OFFSET];
+        return field(r.width, low, greatest_offset(p.tuples));
     }
-    let r = row(f);
+    r
+}
+
+// Whether `v` may be the value of a field with the rule `r`.
+pub(crate) fn in_rule(r: SheetField, v: u32) -> bool
+    ensures { λ b. ⌜ b ≡ within (r .least) v (r .greatest) ⌝ }
+{
     (r.least <= v) & (v <= r.greatest)
 }
 
