@@ -96,9 +96,12 @@ pub state-none : (s₀ : State) (bytes : List ℕ) → s₀ ≡ runFrom (startAt
 unfolding runFrom
 state-none s₀ bytes = refl
 
-pub state-all : (x : Set) (q : StartResult) (bytes : List ℕ) (k : ℕ) (s : State) → q ≡ startOf x → s ≡ runFrom (startAt (q .state)) (callsOf (take k bytes)) .state → length bytes ≤ k
-    → s ≡ runOf x (callsOf bytes) .state
-state-all x q bytes k s e a h = after-all x q bytes k s (missedFrom (startAt (q .state)) (callsOf (take k bytes))) e (record { state = a; missed-is = refl }) h .state
+pub state-all : (s₀ : State) (bytes : List ℕ) (k : ℕ) (s : State) → s ≡ runFrom (startAt s₀) (callsOf (take k bytes)) .state → length bytes ≤ k → s ≡ runFrom (startAt s₀) (callsOf bytes) .state
+state-all s₀ bytes k s a h = a ∙ ap (λ (l : List ℕ). runFrom (startAt s₀) (callsOf l) .state) (take-all k bytes h)
+
+pub from-start : (x : Set) (q : StartResult) (bytes : List ℕ) (s : State) → q ≡ startOf x → s ≡ runFrom (startAt (q .state)) (callsOf bytes) .state → s ≡ runOf x (callsOf bytes) .state
+unfolding runOf begin
+from-start x q bytes s e a = a ∙ ap (λ (q : StartResult). runFrom (startAt (q .state)) (callsOf bytes) .state) e
 
 -- ---- is a message pending at its deadline? As a pass over the places finds it
 

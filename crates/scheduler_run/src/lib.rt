@@ -1,7 +1,7 @@
 // A run of the scheduler from a fresh start: calls from a lent slice, one byte each.
 ghost use mathlib.Core.Path.{_≡_};
 ghost use Rattle.rules.specs.Steps.{callOf};
-ghost use Rattle.rules.specs.Runs.{runOf, missedNow};
+ghost use Rattle.rules.specs.Runs.{startAt, runFrom, runOf, missedNow};
 ghost use Rattle.scheduler_run.specs.Calls.{callByte, callsOf, EndOf};
 use rules::Set;
 use rules::State;
@@ -30,18 +30,26 @@ fn called(s: State, b: u8) -> State
     u.state
 }
 
-// The state after the calls, one after the other, from the start of the set.
+// The state after the calls, one after the other, from a state. A function of its own: with the start beside the loop, the compiler copies the state more often at each call.
+fn after(s: State, calls: &[u8]) -> State
+    ensures { λ r. ⌜ r ≡ runFrom (startAt s) (callsOf (now (calls .entry))) .state ⌝ }
+{
+    let mut next = s;
+    let mut k: usize = 0;
+    while k < calls.len() {
+        next = called(next, calls[k]);
+        k = k + 1;
+    }
+    next
+}
+
+// The same from the start of the set.
 pub fn last_state(x: Set, calls: &[u8]) -> State
     ensures { λ r. ⌜ r ≡ runOf x (callsOf (now (calls .entry))) .state ⌝ }
 {
     let begun = scheduler::start(x);
-    let mut s = begun.state;
-    let mut k: usize = 0;
-    while k < calls.len() {
-        s = called(s, calls[k]);
-        k = k + 1;
-    }
-    s
+    let s = begun.state;
+    after(s, calls)
 }
 
 // Has the clock reached the deadline of a pending message?

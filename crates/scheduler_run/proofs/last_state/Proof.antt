@@ -1,47 +1,17 @@
--- `scheduler_run::last_state` meets its contract: after k bytes the state is that of their calls. Assumes nothing.
-use Prim.Native.Nat.{_-_}
-use native.Mathlib.Omega.{arith}
-use mathlib.Core.Path.{_≡_}
+-- `scheduler_run::last_state` meets its contract. Assumes nothing.
 use borrow.Author.Needs.{needs}
-use lib.ListN.{length, take}
-use Rattle.rules.specs.Runs.{startAt, runFrom}
-use Rattle.scheduler_run.specs.Calls.{callsOf}
-use Rattle.scheduler_run.proofs.Moments.{state-none, state-more, state-all}
+use Rattle.scheduler_run.proofs.Moments.{from-start}
 use Rattle.scheduler_run.proofs.last_state.Statement.{statement}
 use Rattle.scheduler_run.proofs.last_state.Tie as tie
 
-abbrev Inv-loop : tie.InvT-loop
-Inv-loop calls s₀ k₀ s k = s ≡ runFrom (startAt s₀) (callsOf (take k calls)) .state
-
-abbrev μ-loop : tie.MeasureT-loop
-μ-loop calls s₀ k₀ s k = length calls - k
-
-start-requires : tie.Need-start-requires Inv-loop μ-loop
+start-requires : tie.Need-start-requires
 start-requires c κs = search needs
 
-loop-holds : tie.Need-loop-holds Inv-loop μ-loop
-loop-holds c = state-none _ (c .before .before .before .args .calls .now)
+after-requires : tie.Need-after-requires
+after-requires c κs = search needs
 
-shared-slice-read-called : tie.Need-shared-slice-read-called Inv-loop μ-loop
-shared-slice-read-called c = search needs
-
-called-requires : tie.Need-called-requires Inv-loop μ-loop
-called-requires c κs = search needs
-
-add-k : tie.Need-add-k Inv-loop μ-loop
-add-k c = search needs
-
-loop-less : tie.Need-loop-less Inv-loop μ-loop
-loop-less c = search needs
-
-loop-again : tie.Need-loop-again Inv-loop μ-loop
-loop-again c =
-    let loop = c .before .before .before .loop in
-    state-more _ _ (loop .k) (c .before .before .loop-test .taken) (loop .s) _ (loop .inv) (c .called .ensures)
-
-returns : tie.Need-returns Inv-loop μ-loop
-returns c = state-all _ _ _ _ _ (c .before .before .before .start .ensures) (c .before .loop .inv) (c .loop-test .left)
+returns : tie.Need-returns
+returns c = from-start _ _ (c .before .before .before .before .args .calls .now) _ (c .before .before .start .ensures) (c .after .ensures)
 
 pub last-state-spec : {M : Type 1} → statement M
-last-state-spec =
-    tie.close (tie.spec Inv-loop μ-loop start-requires loop-holds shared-slice-read-called called-requires add-k loop-less loop-again returns)
+last-state-spec = tie.close (tie.spec start-requires after-requires returns)
