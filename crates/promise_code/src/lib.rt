@@ -12,7 +12,7 @@ pub struct JudgedRun {
     pub state: State,
 }
 
-// The set is judged, and then run from its start; a byte is a call as `scheduler_run::call_of` reads it.
+// The set is judged, and then run from its start; a byte is a call as `scheduler_run` reads it (`callByte`).
 pub fn judged_run(x: Set, calls: &[u8]) -> JudgedRun
     ensures { λ r. ⌜ Promised x (callsOf (now (calls .entry))) r ⌝ }
 {
