@@ -1,1 +1,2 @@
 pub mod StateCommands
+pub mod ConsoleRuns
