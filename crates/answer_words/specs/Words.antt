@@ -7,6 +7,7 @@ use Rattle.rules.specs.declared.Tuple.the-variants.{Once, Every}
 use Rattle.rules.specs.declared.ReadAnswer.{ReadAnswer}
 use Rattle.rules.specs.declared.ReadAnswer.the-variants.{Read, Refused}
 use Rattle.rules.specs.Numbers.{Says, number, refused, refused-with-0, started, posted, none, runs, ran, done, cut, idle, gives, tuples, accept, late, overload, read, wrote, ended}
+use Rattle.rules.specs.Runs.{Step}
 use Rattle.ascii.specs.Decimal.{letters, decimalOf, signedOf, spaced, newline}
 
 -- a number behind a space
@@ -51,3 +52,6 @@ lineOf w = w ++ newline
 -- "Each step prints the clock before it and its answer"
 unfoldable pub stepLine : ℕ → Says → List ℕ
 stepLine clock s = decimalOf clock ++ spaced (says s) ++ newline
+
+abbrev pub lineOfStep : Step → List ℕ
+lineOfStep s = stepLine (s .before) (s .says)

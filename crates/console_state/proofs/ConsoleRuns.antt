@@ -12,8 +12,9 @@ use Rattle.rules.specs.declared.State.{State}
 use Rattle.rules.specs.Steps.{startOf, callOf}
 use Rattle.rules.specs.Runs.{Run, Step, stepTo, stepOf, begin, startAt, runFrom, runOf, stepsFrom, stepsOf}
 use Rattle.rules.proofs.Events.{step-state}
+use Rattle.answer_words.specs.Words.{lineOfStep}
 use Rattle.console_state.specs.StateCommands.{stateAfter, stateLine}
-use Rattle.console_state.specs.ConsoleRuns.{commandOf, numbersOf, callsLeave, callsPrint, lineOfStep, ConsoleIsRun}
+use Rattle.console_state.specs.ConsoleRuns.{commandOf, numbersOf, callsLeave, callsPrint, ConsoleIsRun}
 
 -- a command of a call leaves what the call leaves, and prints its step
 leaves : (x : Set) (s : State) (c : Call) → stateAfter (commandOf c) (numbersOf c) x s ≡ callOf s c .state

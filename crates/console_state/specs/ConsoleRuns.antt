@@ -9,8 +9,8 @@ use Rattle.rules.specs.declared.Call.{Call}
 use Rattle.rules.specs.declared.Call.the-variants.{Posts, Units}
 use Rattle.rules.specs.declared.Set.{Set}
 use Rattle.rules.specs.declared.State.{State}
-use Rattle.rules.specs.Runs.{Step, runOf, stepsOf}
-use Rattle.answer_words.specs.Words.{stepLine}
+use Rattle.rules.specs.Runs.{runOf, stepsOf}
+use Rattle.answer_words.specs.Words.{lineOfStep}
 use Rattle.console_names.specs.declared.StateCommand.{StateCommand}
 use Rattle.console_names.specs.declared.StateCommand.the-variants.{Start, Post, Unit, Done}
 use Rattle.console_state.specs.StateCommands.{stateAfter, stateLine}
@@ -33,9 +33,6 @@ callsLeave x s (c ∷ cs) = callsLeave x (stateAfter (commandOf c) (numbersOf c)
 unfoldable pub callsPrint : Set → State → List Call → List ℕ
 callsPrint x s [] = []
 callsPrint x s (c ∷ cs) = stateLine (commandOf c) (numbersOf c) x s ++ callsPrint x (stateAfter (commandOf c) (numbersOf c) x s) cs
-
-abbrev pub lineOfStep : Step → List ℕ
-lineOfStep s = stepLine (s .before) (s .says)
 
 -- from a start, whatever the state was before it: the run's state, and the lines of its steps
 pub record ConsoleIsRun (x : Set) (s : State) (calls : List Call) : Type 0 where

@@ -6,6 +6,7 @@ use mathlib.Core.List.{List}
 use lib.ListN.{set}
 use Rattle.rules.specs.declared.Set.{Set}
 use Rattle.rules.specs.declared.State.{State}
+use Rattle.rules.specs.States.{withClock, withMessages}
 use Rattle.rules.specs.Steps.{startOf, postOf, unitOf}
 use Rattle.rules.specs.Numbers.{startSays, postSays, unitSays}
 use Rattle.ascii.specs.Decimal.{letters}
@@ -18,19 +19,13 @@ use Rattle.console_state.specs.declared.StateAfter.{StateAfter}
 
 -- "put these numbers into the state's clock, count and message place I"
 abbrev pub clockPut : State → ℕ → State
-clockPut s n = record { set = s .set; clock = n; count = s .count; messages = s .messages }
+clockPut s n = withClock s n
 
 abbrev pub pendingPut : State → ℕ → State
-pendingPut s n = record { set = s .set; clock = s .clock; count = n; messages = s .messages }
+pendingPut s n = withMessages s n (s .messages)
 
 abbrev pub messagePut : State → ℕ → ℕ → ℕ → ℕ → State
-messagePut s i stream deadline used =
-    record {
-      set = s .set;
-      clock = s .clock;
-      count = s .count;
-      messages = set (s .messages) i (record { stream = stream; deadline = deadline; used = used });
-    }
+messagePut s i stream deadline used = withMessages s (s .count) (set (s .messages) i (record { stream = stream; deadline = deadline; used = used }))
 
 -- The state after a command with these numbers, where the console holds the set x.
 abbrev pub stateAfter : StateCommand → List ℕ → Set → State → State

@@ -25,7 +25,7 @@ use Rattle.rules.specs.Steps.{startOf, callOf}
 use Rattle.rules.specs.Sheet.{sheetOf, readOf}
 use Rattle.rules.specs.Numbers.{Says, ended, replaySays}
 use Rattle.rules.specs.Runs.{Run, Step, saidAt, stepTo, stepOf, begin, runFrom, runOf, stepsFrom, stepsOf, answersOf}
-use Rattle.rules.specs.Recordings.{Place, callBits, recordable, recordingOf, placeIn, bitAt, placeAfter, markOf, stepBy, replayStep, replayStart, firstPlace, placeOfResult, replayAnswers, replayState}
+use Rattle.rules.specs.Recordings.{Place, callBits, recordable, recordingOf, placeIn, bitAt, placeAfter, markOf, replayBy, replayStep, replayStart, firstPlace, placeOfResult, replayAnswers, replayState}
 use Rattle.rules.proofs.Events.{step-state}
 use Rattle.sheet_write.proofs.Back.{read-back}
 use Rattle.promise_steps.specs.Formed.{Formed, StartGives}
@@ -55,9 +55,9 @@ module _ (recording : List ℕ) (s : State) (p : Place) (formed : wellFormed s �
   inside : placeIn recording p ≡ true
   inside = place-ok recording p small (omega (arith, at, ap length split, length-append front rest, bits-length recording))
 
-  pub step-is : replayStep s recording p ≡ stepBy s p (markOf rest)
+  pub step-is : replayStep s recording p ≡ replayBy s p (markOf rest)
   unfolding replayStep
-  step-is = rw (formed, inside) (ap (λ (l : List ℕ). stepBy s p (markOf l)) (ap₂ drop at split ∙ drop-at front rest (length front) refl))
+  step-is = rw (formed, inside) (ap (λ (l : List ℕ). replayBy s p (markOf l)) (ap₂ drop at split ∙ drop-at front rest (length front) refl))
 
 -- one step more, whatever it comes to
 answers-by : (n : ℕ) (recording : List ℕ) (s : State) (p : Place) (r : ReplayResult) → replayStep s recording p ≡ r
@@ -85,15 +85,15 @@ module _ (recording : List ℕ) (pad : ℕ) (few : pad < 8) where
     pub answers : replayAnswers (suc (length cs)) recording (r .state) p ≡ map saidAt (stepsFrom r cs) ++ (ended ∷ [])
     pub state : replayState (suc (length cs)) recording (r .state) p ≡ runFrom r cs .state
 
-  end-step : (r : Run) (p : Place) (front : List ℕ) → From r p front [] → replayStep (r .state) recording p ≡ stepBy (r .state) p Ends
+  end-step : (r : Run) (p : Place) (front : List ℕ) → From r p front [] → replayStep (r .state) recording p ≡ replayBy (r .state) p Ends
   unfolding flat
-  end-step r p front f = step-is recording (r .state) p (f .formed .formed) (f .small) front (toBits 2 3 ++ zeros pad) (f .at) (f .split) ∙ ap (stepBy (r .state) p) (mark-end pad few)
+  end-step r p front f = step-is recording (r .state) p (f .formed .formed) (f .small) front (toBits 2 3 ++ zeros pad) (f .at) (f .split) ∙ ap (replayBy (r .state) p) (mark-end pad few)
 
-  call-step : (r : Run) (p : Place) (front : List ℕ) (c : Call) (cs : List Call) → From r p front (c ∷ cs) → replayStep (r .state) recording p ≡ stepBy (r .state) p (Makes c)
+  call-step : (r : Run) (p : Place) (front : List ℕ) (c : Call) (cs : List Call) → From r p front (c ∷ cs) → replayStep (r .state) recording p ≡ replayBy (r .state) p (Makes c)
   unfolding flat all
   call-step r p front c cs f =
       step-is recording (r .state) p (f .formed .formed) (f .small) front (callBits c ++ (flat callBits cs ++ (toBits 2 3 ++ zeros pad))) (f .at) (f .split ∙ ap (λ (l : List ℕ). front ++ l) (append-assoc (callBits c) (flat callBits cs) (toBits 2 3 ++ zeros pad)))
-      ∙ ap (stepBy (r .state) p) (mark-call c (flat callBits cs ++ (toBits 2 3 ++ zeros pad)) (and-parts (recordable c) (all recordable cs) (f .can) .0))
+      ∙ ap (replayBy (r .state) p) (mark-call c (flat callBits cs ++ (toBits 2 3 ++ zeros pad)) (and-parts (recordable c) (all recordable cs) (f .can) .0))
 
   -- the place behind a call
   from-next : (r : Run) (p : Place) (front : List ℕ) (c : Call) (cs : List Call) → From r p front (c ∷ cs) → From (stepOf r c) (placeAfter p (length (callBits c))) (front ++ callBits c) cs
@@ -109,16 +109,16 @@ module _ (recording : List ℕ) (pad : ℕ) (few : pad < 8) where
   pub gives : (r : Run) (p : Place) (front : List ℕ) (cs : List Call) → From r p front cs → Gives r p cs
   unfolding stepsFrom runFrom replayAnswers replayState
   gives r p front [] f = record {
-    answers = answers-by 0 recording (r .state) p (stepBy (r .state) p Ends) (end-step r p front f);
-    state = state-by 0 recording (r .state) p (stepBy (r .state) p Ends) (end-step r p front f);
+    answers = answers-by 0 recording (r .state) p (replayBy (r .state) p Ends) (end-step r p front f);
+    state = state-by 0 recording (r .state) p (replayBy (r .state) p Ends) (end-step r p front f);
   }
   gives r p front (c ∷ cs) f = more (gives (stepOf r c) (placeAfter p (length (callBits c))) (front ++ callBits c) cs (from-next r p front c cs f))
     where
       more : Gives (stepOf r c) (placeAfter p (length (callBits c))) cs → Gives r p (c ∷ cs)
       more g = record {
-        answers = answers-by (suc (length cs)) recording (r .state) p (stepBy (r .state) p (Makes c)) (call-step r p front c cs f)
+        answers = answers-by (suc (length cs)) recording (r .state) p (replayBy (r .state) p (Makes c)) (call-step r p front c cs f)
             ∙ ap (λ (l : List Says). saidAt (stepTo (r .state) c) ∷ l) (subst (λ (s : State). replayAnswers (suc (length cs)) recording s (placeAfter p (length (callBits c))) ≡ map saidAt (stepsFrom (stepOf r c) cs) ++ (ended ∷ [])) (step-state r c) (g .answers));
-        state = state-by (suc (length cs)) recording (r .state) p (stepBy (r .state) p (Makes c)) (call-step r p front c cs f)
+        state = state-by (suc (length cs)) recording (r .state) p (replayBy (r .state) p (Makes c)) (call-step r p front c cs f)
             ∙ subst (λ (s : State). replayState (suc (length cs)) recording s (placeAfter p (length (callBits c))) ≡ runFrom (stepOf r c) cs .state) (step-state r c) (g .state);
       }
 

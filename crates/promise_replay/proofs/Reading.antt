@@ -17,19 +17,19 @@ use Rattle.rules.specs.declared.Call.the-variants.{Posts, Units}
 use Rattle.rules.specs.declared.Mark.{Mark}
 use Rattle.rules.specs.declared.Mark.the-variants.{Makes, Ends}
 use Rattle.rules.specs.Sheet.{isZero}
-use Rattle.rules.specs.Recordings.{kindOf, streamBits, callBits, recordable, recordingOf, endSays, postSays, kindSays, markOf}
+use Rattle.rules.specs.Recordings.{callKind, streamField, callBits, recordable, recordingOf, endMark, postMark, kindMark, markOf}
 
 -- ---- a call's bits say the call
 
-post-says : (k : ℕ) (rest : List ℕ) → k < 16 → postSays (toBits 4 k ++ rest) ≡ Makes (Posts k)
+post-says : (k : ℕ) (rest : List ℕ) → k < 16 → postMark (toBits 4 k ++ rest) ≡ Makes (Posts k)
 post-says k rest h = rw (le-leb 4 (length (toBits 4 k ++ rest)) (field-fits 4 k rest), field-first 4 k rest h)
 
-kind-says : (c : Call) (rest : List ℕ) → recordable c ≡ true → kindSays (kindOf c) (streamBits c ++ rest) ≡ Makes c
+kind-says : (c : Call) (rest : List ℕ) → recordable c ≡ true → kindMark (callKind c) (streamField c ++ rest) ≡ Makes c
 kind-says (Posts k) rest e = post-says k rest (ltb-true k 16 e)
 kind-says (Units true) rest e = refl
 kind-says (Units false) rest e = refl
 
-kind-small : (c : Call) → kindOf c < 2 ^ 2
+kind-small : (c : Call) → callKind c < 2 ^ 2
 kind-small (Posts k) = omega arith
 kind-small (Units true) = omega arith
 kind-small (Units false) = omega arith
@@ -37,8 +37,8 @@ kind-small (Units false) = omega arith
 pub mark-call : (c : Call) (rest : List ℕ) → recordable c ≡ true → markOf (callBits c ++ rest) ≡ Makes c
 unfolding markOf callBits
 mark-call c rest e =
-    ap markOf (append-assoc (toBits 2 (kindOf c)) (streamBits c) rest)
-    ∙ rw (le-leb 2 (length (toBits 2 (kindOf c) ++ (streamBits c ++ rest))) (field-fits 2 (kindOf c) (streamBits c ++ rest)), field-first 2 (kindOf c) (streamBits c ++ rest) (kind-small c), field-rest 2 (kindOf c) (streamBits c ++ rest))
+    ap markOf (append-assoc (toBits 2 (callKind c)) (streamField c) rest)
+    ∙ rw (le-leb 2 (length (toBits 2 (callKind c) ++ (streamField c ++ rest))) (field-fits 2 (callKind c) (streamField c ++ rest)), field-first 2 (callKind c) (streamField c ++ rest) (kind-small c), field-rest 2 (callKind c) (streamField c ++ rest))
     (kind-says c rest e)
 
 -- ---- the end

@@ -21,14 +21,14 @@ use Rattle.rules.specs.declared.Call.the-variants.{Posts, Units}
 use Rattle.rules.specs.declared.Refusal.{Refusal}
 use Rattle.rules.specs.declared.Refusal.the-variants.{StopsEarly, Trailing}
 use Rattle.rules.specs.Sheet.{isZero}
-use Rattle.rules.specs.Recordings.{endSays, postSays, kindSays, callBits, kindOf, streamBits, recordable, recordingOf, markOf, Tape, Stop, ends, behind, tapeBy, tapeFrom, tapeOf}
+use Rattle.rules.specs.Recordings.{endMark, postMark, kindMark, callBits, callKind, streamField, recordable, recordingOf, markOf, Tape, Stop, ends, behind, tapeBy, tapeFrom, tapeOf}
 use Rattle.promise_replay.specs.Replays.{markBy, TapeBack, RecordingBack, AllStepsStand}
 use Rattle.promise_replay.proofs.Reading.{mark-call, mark-end, calls-bits, padding, padding-few, recording-bits}
 
 -- a call has at least two bits, so that there are fewer calls than bits
 call-some : (c : Call) → 2 ≤ length (callBits c)
 unfolding callBits
-call-some c = omega (arith, length-append (toBits 2 (kindOf c)) (streamBits c), toBits-length 2 (kindOf c))
+call-some c = omega (arith, length-append (toBits 2 (callKind c)) (streamField c), toBits-length 2 (callKind c))
 
 calls-few : (cs : List Call) → length cs ≤ length (flat callBits cs)
 unfolding flat
@@ -71,7 +71,7 @@ all-zeros (b ∷ bs) e =
     ap₂ (λ (x : ℕ) (l : List ℕ). x ∷ l) (eqb-true b 0 (u .0)) (all-zeros bs (u .1))
 
 module _ (bs rest : List ℕ) (bits-of : AreBits rest) where
-  reads-post : bs ≡ toBits 2 0 ++ rest → Reads bs (postSays rest)
+  reads-post : bs ≡ toBits 2 0 ++ rest → Reads bs (postMark rest)
   unfolding callBits
   reads-post e = by-test (leb 4 (length rest))
       (λ y. rw y (a-call (Posts (value (take 4 rest))) (drop 4 rest)
@@ -82,13 +82,13 @@ module _ (bs rest : List ℕ) (bits-of : AreBits rest) where
   unfolding callBits
   reads-unit done e = a-call (Units done) rest (e ∙ ap (λ (l : List ℕ). l ++ rest) (sym (append-nil (toBits 2 (cond done 2 1)))))
 
-  reads-end : bs ≡ toBits 2 3 ++ rest → Reads bs (endSays rest)
+  reads-end : bs ≡ toBits 2 3 ++ rest → Reads bs (endMark rest)
   reads-end e = by-test (ltb (length rest) 8 && all isZero rest)
       (λ y. let u = and-parts (ltb (length rest) 8) (all isZero rest) y in
       rw y (the-end (length rest) (ltb-true (length rest) 8 (u .0)) (e ∙ ap (λ (l : List ℕ). toBits 2 3 ++ l) (all-zeros rest (u .1)))))
       (λ y. rw y (a-refusal Trailing))
 
-  reads-kind : (k : ℕ) → k < 4 → bs ≡ toBits 2 k ++ rest → Reads bs (kindSays k rest)
+  reads-kind : (k : ℕ) → k < 4 → bs ≡ toBits 2 k ++ rest → Reads bs (kindMark k rest)
   reads-kind zero h e = reads-post e
   reads-kind (suc zero) h e = reads-unit false e
   reads-kind (suc (suc zero)) h e = reads-unit true e

@@ -29,7 +29,7 @@ use Rattle.rules.specs.declared.StartResult.{StartResult}
 use Rattle.rules.specs.Sheet.{isZero, readOf}
 use Rattle.rules.specs.States.{wellFormed}
 use Rattle.rules.specs.Steps.{startOf, callOf}
-use Rattle.rules.specs.Recordings.{Place, callBits, placeIn, bitAt, placeAfter, endSays, postSays, kindSays, markOf, stepBy, replayStep, replayStart}
+use Rattle.rules.specs.Recordings.{Place, callBits, placeIn, bitAt, placeAfter, endMark, postMark, kindMark, markOf, replayBy, replayStep, replayStart}
 use Rattle.bits.specs.declared.Gathered.{Gathered}
 use Rattle.bits.specs.declared.Taken.{Taken}
 use Rattle.bits.specs.declared.Taken.the-variants.{Field, Missing, TooWide}
@@ -101,28 +101,28 @@ module _ (s : List ℕ) (at : ℕ) where
         (ap (λ (n : ℕ). eqb n 0) (value-is ∙ ap value (take-all (g .got) rest (omega (arith, got-is)))) ∙ value-zero rest))
         (λ y. rw (y, le-ltb (g .got) 8 (omega (arith, got-is, ltb-false (length rest) 8 y))))
 
-    pub end-yes : (ltb (g .got) 8 && eqb (g .value) 0) ≡ true → Ends ≡ endSays rest
+    pub end-yes : (ltb (g .got) 8 && eqb (g .value) 0) ≡ true → Ends ≡ endMark rest
     end-yes f = rw (sym end-same ∙ f)
 
-    pub end-no : (ltb (g .got) 8 && eqb (g .value) 0) ≡ false → Refused Trailing ≡ endSays rest
+    pub end-no : (ltb (g .got) 8 && eqb (g .value) 0) ≡ false → Refused Trailing ≡ endMark rest
     end-no f = rw (sym end-same ∙ f)
 
   -- ---- a post
 
   module _ (t : Taken) (e : t ≡ takeOf s at 4) where
-    pub post-made : (k n : ℕ) → t ≡ Field k → n ≡ k → Makes (Posts n) ≡ postSays rest
+    pub post-made : (k n : ℕ) → t ≡ Field k → n ≡ k → Makes (Posts n) ≡ postMark rest
     post-made k n f q = let r = taken-field 4 (omega arith) t e k f in rw (le-leb 4 (length rest) (r .0), q, r .1)
 
-    pub post-cut : t ≡ Missing → Refused StopsEarly ≡ postSays rest
+    pub post-cut : t ≡ Missing → Refused StopsEarly ≡ postMark rest
     post-cut f = rw (lt-leb 4 (length rest) (taken-missing 4 (omega arith) t e f))
 
-    pub post-never : t ≡ TooWide → Refused StopsEarly ≡ postSays rest
+    pub post-never : t ≡ TooWide → Refused StopsEarly ≡ postMark rest
     post-never f = absurd (taken-never 4 (omega arith) t e f)
 
   -- ---- a kind
 
   module _ (t : Taken) (e : t ≡ takeOf s at 2) where
-    pub kind-made : (kind : ℕ) (m : Mark) → t ≡ Field kind → m ≡ kindSays kind (drop (at + 2) (bits s)) → m ≡ markOf rest
+    pub kind-made : (kind : ℕ) (m : Mark) → t ≡ Field kind → m ≡ kindMark kind (drop (at + 2) (bits s)) → m ≡ markOf rest
     unfolding markOf
     kind-made kind m f q = let r = taken-field 2 (omega arith) t e kind f in rw (le-leb 2 (length rest) (r .0), sym (r .1), drop-drop 2 at (bits s)) q
 
@@ -135,16 +135,16 @@ module _ (s : List ℕ) (at : ℕ) where
 
 -- the four kinds
 module _ (bs : List ℕ) (kind : ℕ) where
-  pub is-post : (m : Mark) → kind ≡ 0 → m ≡ postSays bs → m ≡ kindSays kind bs
+  pub is-post : (m : Mark) → kind ≡ 0 → m ≡ postMark bs → m ≡ kindMark kind bs
   is-post m e f = rw (eq-eqb kind 0 e) f
 
-  pub is-unit : (kind ≡ 0 → ⊥) → kind ≡ 1 → Makes (Units false) ≡ kindSays kind bs
+  pub is-unit : (kind ≡ 0 → ⊥) → kind ≡ 1 → Makes (Units false) ≡ kindMark kind bs
   is-unit a e = rw (ne-eqb kind 0 a, eq-eqb kind 1 e)
 
-  pub is-done : (kind ≡ 0 → ⊥) → (kind ≡ 1 → ⊥) → kind ≡ 2 → Makes (Units true) ≡ kindSays kind bs
+  pub is-done : (kind ≡ 0 → ⊥) → (kind ≡ 1 → ⊥) → kind ≡ 2 → Makes (Units true) ≡ kindMark kind bs
   is-done a b e = rw (ne-eqb kind 0 a, ne-eqb kind 1 b, eq-eqb kind 2 e)
 
-  pub is-end : (m : Mark) → (kind ≡ 0 → ⊥) → (kind ≡ 1 → ⊥) → (kind ≡ 2 → ⊥) → m ≡ endSays bs → m ≡ kindSays kind bs
+  pub is-end : (m : Mark) → (kind ≡ 0 → ⊥) → (kind ≡ 1 → ⊥) → (kind ≡ 2 → ⊥) → m ≡ endMark bs → m ≡ kindMark kind bs
   is-end m a b c f = rw (ne-eqb kind 0 a, ne-eqb kind 1 b, ne-eqb kind 2 c) f
 
 -- bits that make a call are at least two
@@ -204,7 +204,7 @@ module _ (s : State) (recording : List ℕ) (byte bit : ℕ) where
   no-step a b e f g = rw (← e, ← f, g)
 
   module _ (a b : Bool) (e : a ≡ wellFormed s) (f : b ≡ placeIn recording (place byte bit)) (g : (a && b) ≡ true) (m : Mark) (h : m ≡ markOf here) where
-    pub a-step : (r : ReplayResult) → r ≡ stepBy s (place byte bit) m → r ≡ replayStep s recording (place byte bit)
+    pub a-step : (r : ReplayResult) → r ≡ replayBy s (place byte bit) m → r ≡ replayStep s recording (place byte bit)
     unfolding replayStep
     a-step r q = rw (← e, ← f, g, ← h) q
 

@@ -4,7 +4,7 @@ ghost use mathlib.Core.List.{_++_};
 ghost use Prim.Native.Nat.{_+_, _≤_, _<_, _^_};
 ghost use lib.ListN.{length, drop};
 ghost use Rattle.laws.specs.Bits.{bits};
-ghost use Rattle.rules.specs.Recordings.{Place, callBits, placeIn, bitAt, placeAfter, endSays, postSays, kindSays, markOf, replayStep, replayStart};
+ghost use Rattle.rules.specs.Recordings.{Place, callBits, placeIn, bitAt, placeAfter, endMark, postMark, kindMark, markOf, replayStep, replayStart};
 ghost use Rattle.replay_step.specs.Places.{place, Behind};
 use bits::Taken;
 use rules::Call;
@@ -38,7 +38,7 @@ fn width(c: Call) -> u32
 
 // The end at a place: behind it come fewer than 8 bits, all zero.
 fn end_at(recording: &[u8], byte: usize, bit: u32) -> Mark
-    ensures { λ r. ⌜ r ≡ endSays (drop (bitAt (place byte bit)) (bits (now (recording .entry)))) ⌝ }
+    ensures { λ r. ⌜ r ≡ endMark (drop (bitAt (place byte bit)) (bits (now (recording .entry)))) ⌝ }
 {
     let rest = bits::gather(recording, byte, bit, 8);
     if (rest.got < 8) & (rest.value == 0) {
@@ -50,7 +50,7 @@ fn end_at(recording: &[u8], byte: usize, bit: u32) -> Mark
 
 // A post: 4 bits of stream.
 fn post_at(recording: &[u8], byte: usize, bit: u32) -> Mark
-    ensures { λ r. ⌜ r ≡ postSays (drop (bitAt (place byte bit)) (bits (now (recording .entry)))) ⌝ }
+    ensures { λ r. ⌜ r ≡ postMark (drop (bitAt (place byte bit)) (bits (now (recording .entry)))) ⌝ }
 {
     let stream = bits::take(recording, byte, bit, 4);
     match stream {
@@ -62,7 +62,7 @@ fn post_at(recording: &[u8], byte: usize, bit: u32) -> Mark
 
 // A kind, and what comes behind it at a place.
 fn kind_at(kind: u64, recording: &[u8], byte: usize, bit: u32) -> Mark
-    ensures { λ r. ⌜ r ≡ kindSays kind (drop (bitAt (place byte bit)) (bits (now (recording .entry)))) ⌝ }
+    ensures { λ r. ⌜ r ≡ kindMark kind (drop (bitAt (place byte bit)) (bits (now (recording .entry)))) ⌝ }
 {
     if kind == 0 {
         return post_at(recording, byte, bit);

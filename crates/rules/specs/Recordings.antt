@@ -26,16 +26,16 @@ use Rattle.rules.specs.Numbers.{Says, replaySays}
 -- ---- what a recording of calls is
 
 -- "packed fields, most significant first: 2 bits of kind (0 post, 1 unit, 2 unit with done, 3 end), and after a post 4 bits of stream"
-abbrev pub kindOf : Call → ℕ
-kindOf (Posts k) = 0
-kindOf (Units done) = cond done 2 1
+abbrev pub callKind : Call → ℕ
+callKind (Posts k) = 0
+callKind (Units done) = cond done 2 1
 
-abbrev pub streamBits : Call → List ℕ
-streamBits (Posts k) = toBits 4 k
-streamBits (Units done) = []
+abbrev pub streamField : Call → List ℕ
+streamField (Posts k) = toBits 4 k
+streamField (Units done) = []
 
 unfoldable pub callBits : Call → List ℕ
-callBits c = toBits 2 (kindOf c) ++ streamBits c
+callBits c = toBits 2 (callKind c) ++ streamField c
 
 -- "After end come zero bits to the byte's end."
 unfoldable pub recordingOf : List Call → List ℕ
@@ -65,23 +65,23 @@ unfoldable pub placeAfter : Place → ℕ → Place
 placeAfter p n = record { byte = p .byte + (p .bit + n) / 8; bit = (p .bit + n) % 8 }
 
 -- "14 for set padding or further bytes": behind end come fewer than 8 bits, all zero
-abbrev pub endSays : List ℕ → Mark
-endSays bs = cond (ltb (length bs) 8 && all isZero bs) Ends (Refused Trailing)
+abbrev pub endMark : List ℕ → Mark
+endMark bs = cond (ltb (length bs) 8 && all isZero bs) Ends (Refused Trailing)
 
 -- "13 for a recording that stops before end": a post without its 4 bits of stream, too
-abbrev pub postSays : List ℕ → Mark
-postSays bs = cond (leb 4 (length bs)) (Makes (Posts (value (take 4 bs)))) (Refused StopsEarly)
+abbrev pub postMark : List ℕ → Mark
+postMark bs = cond (leb 4 (length bs)) (Makes (Posts (value (take 4 bs)))) (Refused StopsEarly)
 
 -- a kind, and the bits behind it
-abbrev pub kindSays : ℕ → List ℕ → Mark
-kindSays kind bs =
-    cond (eqb kind 0) (postSays bs)
+abbrev pub kindMark : ℕ → List ℕ → Mark
+kindMark kind bs =
+    cond (eqb kind 0) (postMark bs)
     (cond (eqb kind 1) (Makes (Units false))
     (cond (eqb kind 2) (Makes (Units true))
-    (endSays bs)))
+    (endMark bs)))
 
 unfoldable pub markOf : List ℕ → Mark
-markOf bs = cond (leb 2 (length bs)) (kindSays (value (take 2 bs)) (drop 2 bs)) (Refused StopsEarly)
+markOf bs = cond (leb 2 (length bs)) (kindMark (value (take 2 bs)) (drop 2 bs)) (Refused StopsEarly)
 
 -- ---- a step of a replay
 
@@ -90,16 +90,16 @@ abbrev pub at : ReplayAnswer → State → Place → ReplayResult
 at a s p = record { answer = a; state = s; byte = p .byte; bit = p .bit }
 
 -- "makes the same calls and gives, for each, the answer the cab gave"; "End, 12, 13 and 14 don't move the reader."
-abbrev pub stepBy : State → Place → Mark → ReplayResult
-stepBy s p (Makes c) = at (Called (callOf s c .answer)) (callOf s c .state) (placeAfter p (length (callBits c)))
-stepBy s p Ends = at Ended s p
-stepBy s p (Refused why) = at (NoStep why) s p
+abbrev pub replayBy : State → Place → Mark → ReplayResult
+replayBy s p (Makes c) = at (Called (callOf s c .answer)) (callOf s c .state) (placeAfter p (length (callBits c)))
+replayBy s p Ends = at Ended s p
+replayBy s p (Refused why) = at (NoStep why) s p
 
 -- 12 for a state that is not well formed or a place that is not in the recording; then what the bits say
 unfoldable pub replayStep : State → List ℕ → Place → ReplayResult
 replayStep s recording p =
     cond (wellFormed s && placeIn recording p)
-    (stepBy s p (markOf (drop (bitAt p) (bits recording))))
+    (replayBy s p (markOf (drop (bitAt p) (bits recording))))
     (at (NoStep IllFormed) s p)
 
 -- "The replay starts from a sheet": reading's refusals as they are, with the start of the empty set

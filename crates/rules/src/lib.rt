@@ -192,9 +192,3 @@ pub struct ReplayStart {
     pub answer: ReadAnswer,
     pub state: State,
 }
-
-pub enum RecordAnswer {
-    // the place behind what was recorded: byte, bit
-    Recorded(usize, u32),
-    Refused(Refusal),
-}

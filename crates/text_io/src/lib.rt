@@ -176,7 +176,8 @@ fn print_both(x: Set) -> bool {
     }
 }
 
-fn told(r: TextRead) -> bool {
+// What a text reads as: its set, or its first fault.
+fn print_found(r: TextRead) -> bool {
     let found = r.found;
     let set = r.set;
     match found {
@@ -197,7 +198,7 @@ fn take_byte(p: Pile, b: u8) -> Pile {
     let number = p.number;
     if b == 0 {
         file_io::say(line::put(line::one(line::blank(), b"text", number), b'\n'));
-        told(text_read::close(draft));
+        print_found(text_read::close(draft));
         return Pile {
             draft: text_read::start(),
             number: number % 1000000 + 1,

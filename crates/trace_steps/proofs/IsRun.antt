@@ -11,6 +11,7 @@ use Rattle.rules.specs.declared.Call.{Call}
 use Rattle.rules.specs.Steps.{callOf}
 use Rattle.rules.specs.Runs.{Run, stepOf, begin, runFrom, runOf, stepTo, stepsFrom, stepsOf}
 use Rattle.rules.proofs.Events.{step-state}
+use Rattle.answer_words.specs.Words.{lineOfStep}
 use Rattle.trace_bytes.specs.declared.Heard.{Heard}
 use Rattle.trace_bytes.specs.declared.Heard.the-variants.{Skip, More, Makes, Bad}
 use Rattle.trace_bytes.specs.Steps.{heardOf, endOf}
@@ -18,7 +19,7 @@ use Rattle.trace_bytes.specs.Scripts.{Script, scriptOf, heardThen, hearing}
 use Rattle.trace_bytes.proofs.Scripts.{script-heard}
 use Rattle.trace_steps.specs.declared.Tracing.{Tracing}
 use Rattle.trace_steps.specs.Turns.{tracingFrom, going, nextTracing, nine, nextText, tracingAfter, textAfter, tracingOn, textOn, textEnd, textToEnd}
-use Rattle.trace_steps.specs.Trace.{lineOfStep, nineIf, stepsPrinted, TraceIsRun}
+use Rattle.trace_steps.specs.Trace.{nineIf, stepsPrinted, TraceIsRun}
 
 -- a trace that has stopped prints nothing, and stays
 module _ (t : Tracing) (e : t .live ≡ false) where

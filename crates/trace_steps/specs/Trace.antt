@@ -10,15 +10,11 @@ use Rattle.rules.specs.declared.ReadAnswer.{ReadAnswer}
 use Rattle.rules.specs.declared.ReadAnswer.the-variants.{Read, Refused}
 use Rattle.rules.specs.declared.Verdict.{Verdict}
 use Rattle.rules.specs.Sheet.{readOf}
-use Rattle.rules.specs.Runs.{runOf, Step, stepsOf}
+use Rattle.rules.specs.Runs.{runOf, stepsOf}
 use Rattle.load_check.specs.Sheets.{SheetVerdict}
-use Rattle.answer_words.specs.Words.{stepLine}
+use Rattle.answer_words.specs.Words.{lineOfStep}
 use Rattle.trace_bytes.specs.Scripts.{Script, scriptOf}
 use Rattle.trace_steps.specs.Turns.{verdictLine, tracingFrom, nine, tracingOn, textToEnd}
-
--- "Each step prints the clock before it and its answer"
-abbrev pub lineOfStep : Step → List ℕ
-lineOfStep s = stepLine (s .before) (s .says)
 
 -- "Any other byte, or p without its digit, prints the line `refused 9`, with no clock, and stops."
 abbrev pub nineIf : Bool → List ℕ

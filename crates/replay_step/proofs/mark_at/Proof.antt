@@ -5,7 +5,7 @@ use mathlib.Core.Path.{_≡_, ap, _∙_}
 use Prim.Native.Nat.{ℕ, _+_, _*_}
 use lib.ListN.{drop}
 use Rattle.laws.specs.Bits.{bits}
-use Rattle.rules.specs.Recordings.{kindSays}
+use Rattle.rules.specs.Recordings.{kindMark}
 use Rattle.replay_step.proofs.Marks.{kind-made, kind-cut, kind-never}
 use Rattle.replay_step.proofs.mark_at.Statement.{statement}
 use Rattle.replay_step.proofs.mark_at.Tie as tie
@@ -33,7 +33,7 @@ returns c =
     let start = c .before .before .before .before .before .before in
     let at : 8 * start .args .byte + (start .args .bit + 2) ≡ 8 * start .args .byte + start .args .bit + 2 = omega arith in
     kind-made _ _ _ (c .before .before .before .before .take .ensures) _ _ (c .before .before .kind .given .1)
-    (c .kind-at .ensures ∙ ap (λ (n : ℕ). kindSays (c .before .before .kind .given .0 .0) (drop n (bits (start .args .recording .now)))) at)
+    (c .kind-at .ensures ∙ ap (λ (n : ℕ). kindMark (c .before .before .kind .given .0 .0) (drop n (bits (start .args .recording .now)))) at)
 
 returns-2 : tie.Need-returns-2
 returns-2 c = kind-cut _ _ _ (c .before .before .take .ensures) (c .enum-told .given .1)

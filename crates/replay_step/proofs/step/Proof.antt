@@ -4,7 +4,7 @@ use native.Mathlib.Omega.{arith}
 use borrow.Author.Tests.{not-true, not-false}
 use mathlib.Core.Path.{_≡_, ap, sym, _∙_}
 use Rattle.rules.specs.declared.Mark.{Mark}
-use Rattle.rules.specs.Recordings.{stepBy}
+use Rattle.rules.specs.Recordings.{replayBy}
 use Rattle.replay_step.specs.Places.{place}
 use Rattle.replay_step.proofs.Marks.{inside-by, byte-there, no-step, a-step}
 use Rattle.replay_step.proofs.step.Statement.{statement}
@@ -50,17 +50,17 @@ standing-requires-3 c κs = search needs
 returns-2 : tie.Need-returns-2
 returns-2 c =
     a-step _ _ _ _ _ _ (c .before .before .before .before .before .before .before .well-formed .ensures) (c .before .before .before .before .before .before .place-in .ensures) (not-false _ (c .before .before .before .before .before .if1 .left)) _ (c .before .before .before .before .mark-at .ensures) _
-    (c .made .ensures ∙ ap (stepBy _ (place _ _)) (sym (c .before .before .mark .given .1)))
+    (c .made .ensures ∙ ap (replayBy _ (place _ _)) (sym (c .before .before .mark .given .1)))
 
 returns-3 : tie.Need-returns-3
 returns-3 c =
     a-step _ _ _ _ _ _ (c .before .before .before .before .before .before .well-formed .ensures) (c .before .before .before .before .before .place-in .ensures) (not-false _ (c .before .before .before .before .if1 .left)) _ (c .before .before .before .mark-at .ensures) _
-    (c .standing2 .ensures ∙ ap (stepBy _ (place _ _)) (sym (c .before .enum-told .given .1)))
+    (c .standing2 .ensures ∙ ap (replayBy _ (place _ _)) (sym (c .before .enum-told .given .1)))
 
 returns-4 : tie.Need-returns-4
 returns-4 c =
     a-step _ _ _ _ _ _ (c .before .before .before .before .before .before .before .well-formed .ensures) (c .before .before .before .before .before .before .place-in .ensures) (not-false _ (c .before .before .before .before .before .if1 .left)) _ (c .before .before .before .before .mark-at .ensures) _
-    (c .standing3 .ensures ∙ ap (stepBy _ (place _ _)) (sym (c .before .before .mark2 .given .1)))
+    (c .standing3 .ensures ∙ ap (replayBy _ (place _ _)) (sym (c .before .before .mark2 .given .1)))
 
 pub step-spec : {M : Type 1} → statement M
 step-spec = tie.close (tie.spec well-formed-requires place-in-requires standing-requires returns mark-at-requires enum-known-mark made-requires enum-told standing-requires-2 enum-known-mark-2 standing-requires-3 returns-2 returns-3 returns-4)
