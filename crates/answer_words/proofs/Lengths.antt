@@ -9,17 +9,17 @@ use Rattle.rules.specs.declared.Tuple.{Tuple}
 use Rattle.rules.specs.declared.Tuple.the-variants.{Once, Every}
 use Rattle.rules.specs.declared.ReadAnswer.{ReadAnswer}
 use Rattle.rules.specs.declared.ReadAnswer.the-variants.{Read, Refused}
-use Rattle.rules.specs.Numbers.{Says, number, refused, refused-with-0, started, posted, none, runs, ran, done, cut, idle, gives, tuples, accept, late, overload, read, wrote, ended}
+use Rattle.rules.specs.Numbers.{Says, number, refused, refused-with-0, started, posted, none, runs, ran, done, cut, idle, gives, tuples, accept, late, overload, read, wrote, ended, recorded}
 use Rattle.ascii.specs.Decimal.{letters, decimalOf, signedOf, spaced}
 use Rattle.ascii.proofs.Digits.{digits-short}
 use Rattle.line.specs.Line.{lineRoom}
 use Rattle.answer_words.specs.Words.{tupleWords, says, readWords, lineOf, stepLine}
 
 -- a number with its space, behind a word
-one : (w : List ℕ) (n : ℕ) → length (w ++ spaced (decimalOf n)) ≤ length w + 21
+pub one : (w : List ℕ) (n : ℕ) → length (w ++ spaced (decimalOf n)) ≤ length w + 21
 one w n = omega (arith, length-append w (spaced (decimalOf n)), digits-short 20 n)
 
-two : (w : List ℕ) (a b : ℕ) → length (w ++ spaced (decimalOf a) ++ spaced (decimalOf b)) ≤ length w + 42
+pub two : (w : List ℕ) (a b : ℕ) → length (w ++ spaced (decimalOf a) ++ spaced (decimalOf b)) ≤ length w + 42
 two w a b = omega (arith, one (w ++ spaced (decimalOf a)) b, one w a)
 
 sign : (z : ℤ) → length (signedOf z) ≤ 21
@@ -61,6 +61,7 @@ says-short overload = omega arith
 says-short read = omega arith
 says-short (wrote n) = omega (arith, one (letters "wrote") n)
 says-short ended = omega arith
+says-short (recorded n) = omega (arith, one (letters "recorded") n)
 
 pub read-short : (a : ReadAnswer) (n : ℕ) → length (readWords a n) ≤ 95
 read-short Read n = omega (arith, one (letters "set") n)

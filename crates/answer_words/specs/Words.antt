@@ -6,7 +6,9 @@ use Rattle.rules.specs.declared.Tuple.{Tuple}
 use Rattle.rules.specs.declared.Tuple.the-variants.{Once, Every}
 use Rattle.rules.specs.declared.ReadAnswer.{ReadAnswer}
 use Rattle.rules.specs.declared.ReadAnswer.the-variants.{Read, Refused}
-use Rattle.rules.specs.Numbers.{Says, number, refused, refused-with-0, started, posted, none, runs, ran, done, cut, idle, gives, tuples, accept, late, overload, read, wrote, ended}
+use Rattle.rules.specs.declared.ReplayAnswer.{ReplayAnswer}
+use Rattle.rules.specs.declared.ReplayAnswer.the-variants.{Called, Ended, Refused as NoStep}
+use Rattle.rules.specs.Numbers.{Says, callSays, number, refused, refused-with-0, started, posted, none, runs, ran, done, cut, idle, gives, tuples, accept, late, overload, read, wrote, ended, recorded}
 use Rattle.rules.specs.Runs.{Step}
 use Rattle.ascii.specs.Decimal.{letters, decimalOf, signedOf, spaced, newline}
 
@@ -40,6 +42,7 @@ says overload = letters "overload"
 says read = letters "read"
 says (wrote n) = letters "wrote" ++ nr n
 says ended = letters "end"
+says (recorded n) = letters "recorded" ++ nr n
 
 -- "Prints `set N` with the number of streams .. or `refused N`"
 abbrev pub readWords : ReadAnswer → ℕ → List ℕ
@@ -55,3 +58,9 @@ stepLine clock s = decimalOf clock ++ spaced (says s) ++ newline
 
 abbrev pub lineOfStep : Step → List ℕ
 lineOfStep s = stepLine (s .before) (s .says)
+
+-- document 02, request 1: "the lines of the trace program .. then `end` or `refused 13` or `refused 14`", with no clock
+abbrev pub replayLine : ℕ → ReplayAnswer → List ℕ
+replayLine clock (Called a) = stepLine clock (callSays a)
+replayLine clock Ended = lineOf (says ended)
+replayLine clock (NoStep why) = lineOf (says (refused (number why)))

@@ -1,11 +1,13 @@
 // What the programs print: a refusal, and the lines of a trace; the words of specs/Words.antt.
 ghost use mathlib.Core.Path.{_≡_};
-ghost use Rattle.rules.specs.Numbers.{number, refused as Refused-with, postSays, unitSays, verdictSays};
+ghost use Rattle.rules.specs.Numbers.{number, refused as Refused-with, postSays, unitSays, callSays, verdictSays};
 ghost use Rattle.line.specs.Line.{holding, puts};
-ghost use Rattle.answer_words.specs.Words.{says, lineOf, stepLine};
+ghost use Rattle.answer_words.specs.Words.{says, lineOf, stepLine, replayLine};
 use line::Line;
+use rules::CallAnswer;
 use rules::PostAnswer;
 use rules::Refusal;
+use rules::ReplayAnswer;
 use rules::UnitAnswer;
 use rules::Verdict;
 
@@ -66,4 +68,24 @@ pub fn verdict_line(a: Verdict) -> Line
     ensures { λ r. ⌜ r ≡ holding (lineOf (says (verdictSays a))) ⌝ }
 {
     line::put(verdict_words(line::blank(), a), b'\n')
+}
+
+pub fn call_line(clock: u32, a: CallAnswer) -> Line
+    ensures { λ r. ⌜ r ≡ holding (stepLine clock (callSays a)) ⌝ }
+{
+    match a {
+        CallAnswer::ToPost(p) => post_line(clock, p),
+        CallAnswer::ToUnit(u) => unit_line(clock, u),
+    }
+}
+
+// A call's line has the clock before it in front; end and a refusal of the replay itself have none.
+pub fn replay_line(clock: u32, a: ReplayAnswer) -> Line
+    ensures { λ r. ⌜ r ≡ holding (replayLine clock a) ⌝ }
+{
+    match a {
+        ReplayAnswer::Called(c) => call_line(clock, c),
+        ReplayAnswer::Ended => line::put(line::word(line::blank(), b"end"), b'\n'),
+        ReplayAnswer::Refused(why) => verdict_line(Verdict::Refused(why)),
+    }
 }

@@ -1,8 +1,8 @@
 -- The set's sheet on a page: what was written, and the whole buffer in hex.
 -- Assumes nothing.
-use Prim.Native.Nat.{ℕ, zero, suc, _+_, _-_, _*_, _≤_, _<_}
+use Prim.Native.Nat.{ℕ, _≤_, _<_}
 use native.Mathlib.Omega.{arith}
-use mathlib.Core.Path.{_≡_, refl, ap, _∙_}
+use mathlib.Core.Path.{_≡_, ap, _∙_}
 use mathlib.Core.Bool.{true}
 use mathlib.Core.List.{List, [], _∷_}
 use lib.ListN.{length, take, drop, replicate, length-append, length-drop, length-replicate}
@@ -22,14 +22,10 @@ use Rattle.answer_words.specs.Words.{says, lineOf}
 use Rattle.answer_words.proofs.Lengths.{says-short, line-short}
 use Rattle.page.specs.Pages.{roomFor, Onto, appended, endOf}
 use Rattle.console_names.specs.Rows.{mostBytes}
-use Rattle.console_ask.specs.Questions.{sheetLines, writeLines, messagesRoom, answerRoom}
-use Rattle.page.proofs.Pieces.{onto-line, onto-room, onto-then}
-
--- two digits a byte
-hexed-size : (w : List ℕ) → length (hexed w) ≡ 2 * length w
-unfolding hexed
-hexed-size [] = refl
-hexed-size (b ∷ w) = omega (arith, hexed-size w)
+use Rattle.console_ask.specs.Questions.{sheetLines, writeLines, answerRoom}
+use Rattle.page.proofs.Pieces.{onto-line}
+use Rattle.page_hex.proofs.Prints.{twice}
+use Rattle.page_hex.proofs.Buffers.{hex-lines-onto, take-fill}
 
 module _ (x : Set) (buf out : List ℕ) (at : ℕ) (small : length buf ≤ mostBytes) (room : roomFor out at answerRoom ≡ true) where
   abbrev wroteLine : List ℕ
@@ -45,15 +41,9 @@ module _ (x : Set) (buf out : List ℕ) (at : ℕ) (small : length buf ≤ mostB
       → Onto out at (sheetLines x buf) end page
   unfolding sheetLines
   sheet-onto w buf′ k l a b end o p page e size f g q h i =
-      let first : Onto out at wroteLine a o =
-      onto-line out wroteLine at k a o wrote-short (f ∙ ap (λ (v : WriteAnswer). holding (lineOf (says (writeSays v)))) (e .0)) g in
-      let left : roomFor o a (lineRoom + messagesRoom) ≡ true = onto-room out wroteLine at answerRoom a o room first (lineRoom + messagesRoom) (omega (arith, wrote-short)) in
-      let digits : length (hexed (bufferOf x buf)) ≤ 2048 = omega (arith, ap (λ (v : List ℕ). length (hexed v)) (e .1), hexed-size buf′, size) in
-      let hex : Onto o a (hexed (bufferOf x buf)) b p = rw (e .1) at q in
-      let last : Onto p b (lineOf []) end page = onto-line p (lineOf []) b l end page (omega arith) h i in
-      onto-then out wroteLine at answerRoom a o room first (lineOf (hexed (bufferOf x buf))) end page
-      (omega (arith, wrote-short, digits, length-append (hexed (bufferOf x buf)) (10 ∷ [])))
-      (onto-then o (hexed (bufferOf x buf)) a (lineRoom + messagesRoom) b p left hex (lineOf []) end page (omega (arith, digits)) last)
+      hex-lines-onto wroteLine (bufferOf x buf) out at answerRoom room wrote-short
+      (omega (arith, wrote-short, ap length (e .1), size)) k l a b end o p page
+      (f ∙ ap (λ (v : WriteAnswer). holding (lineOf (says (writeSays v)))) (e .0)) g (rw (e .1) at q) h i
 
 -- the buffer keeps its length
 buffer-kept : (x : Set) (buf : List ℕ) → length (bufferOf x buf) ≡ length buf
@@ -77,7 +67,7 @@ sheet-short x buf h =
       length-append (lineOf (says (writeSays (writeOf x (length buf))))) (lineOf (hexed (bufferOf x buf))),
       length-append (hexed (bufferOf x buf)) (10 ∷ []),
       line-short (says (writeSays (writeOf x (length buf)))) (says-short (writeSays (writeOf x (length buf)))),
-      hexed-size (bufferOf x buf),
+      twice (bufferOf x buf),
       buffer-kept x buf,
     )
 
@@ -92,11 +82,6 @@ write-short x n =
     (λ e. rw e (omega arith))
 
 -- ---- the first n bytes of the longest buffer
-
-take-fill : (k m b : ℕ) → k ≤ m → take k (replicate m b) ≡ replicate k b
-take-fill zero m b h = refl
-take-fill (suc k) zero b h = absurd (omega (arith, h))
-take-fill (suc k) (suc m) b h = ap (λ (w : List ℕ). b ∷ w) (take-fill k m b (omega (arith, h)))
 
 module _ (x : Set) (n : ℕ) (out : List ℕ) (at end : ℕ) (page : List ℕ) where
   pub too-long : (l : Line) → mostBytes < n → l ≡ holding (lineOf (letters "?")) → (end ≡ endOf out at l) × (page ≡ appended out at l)

@@ -11,9 +11,11 @@ use Rattle.ascii.specs.Same.{same}
 use Rattle.console_names.specs.declared.SetCommand.the-variants.{Read, Streams, Stream, Once, Every}
 use Rattle.console_names.specs.declared.StateCommand.the-variants.{Start, Clock, Pending, Message, Post, Unit, Done}
 use Rattle.console_names.specs.declared.Question.the-variants as ask
+use Rattle.console_names.specs.declared.ReplayCommand.the-variants.{Recording, Next, Reader, Where}
 use Rattle.console_names.specs.declared.Command.{Command}
-use Rattle.console_names.specs.declared.Command.the-variants.{Unknown, Set, State, Ask}
-use Rattle.console_names.specs.declared.Text.the-variants.{Nothing, Hex}
+use Rattle.console_names.specs.declared.Command.the-variants.{Unknown, Set, State, Ask, Replay, Record}
+use Rattle.console_names.specs.declared.Text.{Text}
+use Rattle.console_names.specs.declared.Text.the-variants.{Nothing, Hex, Steps}
 use Rattle.console_names.specs.declared.Row.{Row}
 
 -- no command has more numbers
@@ -32,11 +34,14 @@ mostBytes = 1024
 abbrev top : ℕ
 top = 4294967295
 
--- a command, and what each of its numbers may at most be
-abbrev asks : Command → List ℕ → Row
-asks k ms = record { command = k; count = length ms; most = ms ++ zeros (mostNumbers - length ms); text = Nothing }
+-- a command, what each of its numbers may at most be, and what stands behind them
+abbrev asksWith : Text → Command → List ℕ → Row
+asksWith t k ms = record { command = k; count = length ms; most = ms ++ zeros (mostNumbers - length ms); text = t }
 
--- a row of the page: a name, and what it stands for; one with HEX behind its name
+abbrev asks : Command → List ℕ → Row
+asks k ms = asksWith Nothing k ms
+
+-- a row of the page: a name, and what it stands for; one with HEX behind its name, one with steps behind its number
 record Named : Type 0 where
   name : String
   stands : Row
@@ -45,7 +50,10 @@ abbrev row : String → Command → List ℕ → Named
 row name k ms = record { name = name; stands = asks k ms }
 
 abbrev hexRow : String → Command → Named
-hexRow name k = record { name = name; stands = record { command = k; count = 0; most = zeros mostNumbers; text = Hex } }
+hexRow name k = record { name = name; stands = asksWith Hex k [] }
+
+abbrev stepsRow : String → Command → ℕ → Named
+stepsRow name k m = record { name = name; stands = asksWith Steps k (m ∷ []) }
 
 -- the row r where w is this name, else the other
 unfoldable pub ifNamed : List ℕ → List ℕ → Row → Row → Row
@@ -98,6 +106,18 @@ questionRow w =
     ∷ []
     )
 
+-- **CR 1**
+unfoldable pub replayRow : List ℕ → Row → Row
+replayRow w =
+    among w (
+    hexRow "recording" (Replay Recording)
+    ∷ row "next" (Replay Next) []
+    ∷ row "reader" (Replay Reader) (top ∷ top ∷ [])
+    ∷ row "where" (Replay Where) []
+    ∷ stepsRow "record" Record mostBytes
+    ∷ []
+    )
+
 -- "A line that is not one of those below .. prints `?`"
 unfoldable pub rowOf : List ℕ → Row
-rowOf w = questionRow w (stateRow w (setRow w (asks Unknown [])))
+rowOf w = replayRow w (questionRow w (stateRow w (setRow w (asks Unknown []))))

@@ -1,7 +1,7 @@
 // The console's commands by name, in groups, and what each asks for.
 ghost use mathlib.Core.Path.{_≡_};
 ghost use mathlib.Core.List.{_∷_, []};
-ghost use Rattle.console_names.specs.Rows.{ifNamed, setRow, stateRow, questionRow, rowOf};
+ghost use Rattle.console_names.specs.Rows.{mostBytes, ifNamed, setRow, stateRow, questionRow, replayRow, rowOf};
 
 // The commands that change the set.
 pub enum SetCommand {
@@ -36,6 +36,14 @@ pub enum Question {
     Formed,
 }
 
+// The commands of the replay.
+pub enum ReplayCommand {
+    Recording,
+    Next,
+    Reader,
+    Where,
+}
+
 // What a line asks for.
 pub enum Command {
     // An empty line.
@@ -45,12 +53,17 @@ pub enum Command {
     Set(SetCommand),
     State(StateCommand),
     Ask(Question),
+    Replay(ReplayCommand),
+    // The recording of a trace.
+    Record,
 }
 
 // What stands behind a command's numbers.
 pub enum Text {
     Nothing,
     Hex,
+    // The steps of a trace.
+    Steps,
 }
 
 // No command has more numbers.
@@ -180,10 +193,44 @@ fn question_row(w: &[u8], other: Row) -> Row
     r
 }
 
+fn of_replay(k: ReplayCommand, count: usize, most: [u32; NUMBERS]) -> Row
+    ensures { λ r. ⌜ r ≡ record { command = Command.Replay k; count = count; most = most; text = Text.Nothing } ⌝ }
+{
+    asks(Command::Replay(k), count, most)
+}
+
+fn of_record() -> Row
+    ensures { λ r. ⌜ r ≡ record { command = Command.Record; count = 1; most = mostBytes ∷ 0 ∷ 0 ∷ 0 ∷ 0 ∷ []; text = Text.Steps } ⌝ }
+{
+    Row {
+        command: Command::Record,
+        count: 1,
+        most: [MOST_BYTES, 0, 0, 0, 0],
+        text: Text::Steps,
+    }
+}
+
+fn replay_row(w: &[u8], other: Row) -> Row
+    ensures { λ r. ⌜ r ≡ replayRow (now (w .entry)) other ⌝ }
+{
+    let mut r = other;
+    let recording = asks_hex(Command::Replay(ReplayCommand::Recording));
+    r = named(w, b"recording", recording, r);
+    let next = of_replay(ReplayCommand::Next, 0, [0; NUMBERS]);
+    r = named(w, b"next", next, r);
+    let reader = of_replay(ReplayCommand::Reader, 2, [TOP, TOP, 0, 0, 0]);
+    r = named(w, b"reader", reader, r);
+    let place = of_replay(ReplayCommand::Where, 0, [0; NUMBERS]);
+    r = named(w, b"where", place, r);
+    let record = of_record();
+    r = named(w, b"record", record, r);
+    r
+}
+
 // The row of the command that has this name.
 pub fn row_of(w: &[u8]) -> Row
     ensures { λ r. ⌜ r ≡ rowOf (now (w .entry)) ⌝ }
 {
     let none = asks(Command::Unknown, 0, [0; NUMBERS]);
-    question_row(w, state_row(w, set_row(w, none)))
+    replay_row(w, question_row(w, state_row(w, set_row(w, none))))
 }

@@ -7,13 +7,16 @@ use mathlib.Core.Bool.{true}
 use mathlib.Core.List.{List}
 use lib.ListN.{length}
 use lib.Seq.{paste}
-use Rattle.line.specs.Line.{lineRoom}
+use Rattle.ascii.specs.Hex.{unhexed}
 use Rattle.page.specs.Pages.{roomFor}
 use Rattle.page.proofs.Prints.{printed-there, end-there}
 use Rattle.console_names.specs.declared.Command.{Command}
-use Rattle.console_names.specs.declared.Command.the-variants.{Nothing, Unknown, Set, State, Ask}
+use Rattle.console_names.specs.declared.Command.the-variants.{Nothing, Unknown, Set, State, Ask, Replay, Record}
+use Rattle.console_names.specs.Rows.{nth}
 use Rattle.console_set.proofs.Puts.{set-short}
 use Rattle.console_state.proofs.Steps.{state-short}
+use Rattle.console_replay.proofs.Replays.{replay-short}
+use Rattle.console_replay.proofs.Records.{record-short}
 use Rattle.console_ask.specs.Questions.{answerRoom}
 use Rattle.console_ask.proofs.Fits.{answer-fits}
 use Rattle.console_parse.specs.Lines.{orderOf}
@@ -26,9 +29,11 @@ pub command-fits : (k : Command) (ns text : List ℕ) (d : Desk) (w : List ℕ) 
     → length w ≤ answerRoom
 command-fits Nothing ns text d w all p = omega (arith, ap length p)
 command-fits Unknown ns text d w all p = omega (arith, ap length p)
-command-fits (Set k) ns text d w all p = omega (arith, ap length p, set-short k text)
+command-fits (Set k) ns text d w all p = omega (arith, ap length p, set-short k (unhexed text))
 command-fits (State k) ns text d w all p = omega (arith, ap length p, state-short k ns (d .set) (d .state))
 command-fits (Ask q) ns text d w all p = answer-fits q ns (d .set) (d .state) w all p
+command-fits (Replay k) ns text d w all p = omega (arith, ap length p, replay-short k (unhexed text) (d .state) (d .replay))
+command-fits Record ns text d w all p = omega (arith, ap length p, record-short text (nth ns 0))
 
 pub obeyed-whole : (d : Desk) (line out : List ℕ) (at : ℕ) (r : Step) (page : List ℕ) (t : Obeyed d line out at r page)
     → length (d .state .messages) ≡ 64 → roomFor out at answerRoom ≡ true

@@ -1,3 +1,4 @@
 pub mod Texts
 pub mod Obeys
 pub mod Fits
+pub mod Steps

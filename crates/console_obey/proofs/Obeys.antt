@@ -1,13 +1,13 @@
 -- A command of each group, obeyed; and that a line is obeyed in one way.
 -- Assumes nothing.
-use Prim.Native.Nat.{ℕ, _+_, _*_, _/_, _≤_}
+use Prim.Native.Nat.{ℕ, _-_, _≤_}
 use native.Mathlib.Omega.{arith}
 use mathlib.Core.Path.{_≡_, refl, sym, ap, ap₂, _∙_}
 use mathlib.Core.Bool.{Bool, true, false}
 use mathlib.Core.List.{List, []}
-use lib.ListN.{length, drop}
+use lib.ListN.{length, take, drop, length-drop}
+use lib.Seq.{take-all}
 use Rattle.rules.specs.declared.Set.{Set as Streams}
-use Rattle.rules.specs.declared.State.{State as Sched}
 use Rattle.rules.specs.declared.StartResult.{StartResult}
 use Rattle.rules.specs.Streams.{emptySet}
 use Rattle.rules.specs.Steps.{startOf}
@@ -16,30 +16,39 @@ use Rattle.ascii.specs.Hex.{unhexed}
 use Rattle.line.specs.declared.Line.{Line}
 use Rattle.line.specs.Line.{lineRoom, holding}
 use Rattle.answer_words.specs.Words.{lineOf}
-use Rattle.page.specs.Pages.{roomFor, Onto, appended, endOf}
+use Rattle.page.specs.Pages.{roomFor, appended, endOf}
+use Rattle.page.proofs.Prints.{room-less}
 use Rattle.page.proofs.Pieces.{onto-line, onto-none, onto-once}
 use Rattle.console_names.specs.declared.Command.{Command}
-use Rattle.console_names.specs.declared.Command.the-variants.{Nothing, Unknown, Set, State, Ask}
+use Rattle.console_names.specs.declared.Command.the-variants.{Nothing, Unknown, Set, State, Ask, Replay, Record}
 use Rattle.console_names.specs.declared.SetCommand.{SetCommand}
 use Rattle.console_names.specs.declared.StateCommand.{StateCommand}
 use Rattle.console_names.specs.declared.Question.{Question}
+use Rattle.console_names.specs.declared.ReplayCommand.{ReplayCommand}
+use Rattle.console_names.specs.Rows.{nth}
 use Rattle.console_parse.specs.declared.Order.{Order}
-use Rattle.console_parse.specs.Lines.{longest, orderOf}
-use Rattle.console_parse.proofs.Orders.{text-short}
+use Rattle.console_parse.specs.Lines.{orderOf}
 use Rattle.console_set.specs.declared.SetAfter.{SetAfter}
 use Rattle.console_set.specs.SetCommands.{setAfter, setLine}
 use Rattle.console_set.proofs.Puts.{set-short}
 use Rattle.console_state.specs.declared.StateAfter.{StateAfter}
 use Rattle.console_state.specs.StateCommands.{stateAfter, stateLine}
 use Rattle.console_state.proofs.Steps.{state-short}
+use Rattle.console_replay.specs.declared.Replay.{Replay as Replayed}
+use Rattle.console_replay.specs.declared.ReplayAfter.{ReplayAfter}
+use Rattle.console_replay.specs.ReplayCommands.{firstReplay, replayAfter, replayStateAfter, replayLineOf}
+use Rattle.console_replay.specs.Records.{recordLines, recordRoom, Records}
+use Rattle.console_replay.proofs.Replays.{replay-short}
+use Rattle.console_replay.proofs.Records.{with-room as records-onto}
 use Rattle.console_ask.specs.Questions.{Asks, Answered, answerRoom}
 use Rattle.console_ask.proofs.Once.{prints-once}
 use Rattle.console_obey.specs.declared.Desk.{Desk}
 use Rattle.console_obey.specs.declared.Step.{Step}
-use Rattle.console_obey.specs.Obeyed.{firstDesk, leaves, Prints, Stepped, textOf, Obeyed, ObeysIf, Obeys}
+use Rattle.console_obey.specs.Obeyed.{firstDesk, Prints, Stepped, textOf, Obeyed, ObeysIf, Obeys}
 
-pub begun : (x : Streams) (s : StartResult) → x ≡ emptySet → s ≡ startOf x → _≡_ {A = Desk} (record { set = x; state = s .state }) firstDesk
-begun x s e f = rw (f, e)
+pub begun : (x : Streams) (s : StartResult) (t : Replayed) → x ≡ emptySet → s ≡ startOf x → t ≡ firstReplay
+    → _≡_ {A = Desk} (record { set = x; state = s .state; replay = t }) firstDesk
+begun x s t e f g = rw (f, e, g)
 
 -- ---- a command of each group
 
@@ -58,29 +67,67 @@ module _ (d : Desk) (ns text out : List ℕ) (at : ℕ) where
           onto = onto-line out (lineOf (letters "?")) at l end page (let short : length (lineOf (letters "?")) ≤ lineRoom = omega arith in short) e p;
         }
 
-    pub set-step : (k : SetCommand) (a : SetAfter) → a ≡ record { set = setAfter k ns text (d .set); line = holding (setLine k text) }
+    pub set-step : (k : SetCommand) (bytes : List ℕ) (a : SetAfter) → bytes ≡ unhexed text
+        → a ≡ record { set = setAfter k ns bytes (d .set); line = holding (setLine k bytes) }
         → (end ≡ endOf out at (a .line)) × (page ≡ appended out at (a .line))
-        → Stepped d (Set k) ns text out at (record { desk = record { set = a .set; state = d .state }; at = end }) page
-    set-step k a e p =
+        → Stepped d (Set k) ns text out at (record { desk = record { set = a .set; state = d .state; replay = d .replay }; at = end }) page
+    set-step k bytes a f e p =
+        let g : a ≡ record { set = setAfter k ns (unhexed text) (d .set); line = holding (setLine k (unhexed text)) } = rw f at e in
         record {
-          left = ap (λ (b : SetAfter). record { set = b .set; state = d .state }) e;
-          bytes = setLine k text;
+          left = ap (λ (b : SetAfter). record { set = b .set; state = d .state; replay = d .replay }) g;
+          bytes = setLine k (unhexed text);
           prints = refl;
-          onto = onto-line out (setLine k text) at (a .line) end page (set-short k text) (ap (λ (b : SetAfter). b .line) e) p;
+          onto = onto-line out (setLine k (unhexed text)) at (a .line) end page (set-short k (unhexed text)) (ap (λ (b : SetAfter). b .line) g) p;
         }
 
     pub state-step : (k : StateCommand) (a : StateAfter)
         → a ≡ record { state = stateAfter k ns (d .set) (d .state); line = holding (stateLine k ns (d .set) (d .state)) }
         → (end ≡ endOf out at (a .line)) × (page ≡ appended out at (a .line))
-        → Stepped d (State k) ns text out at (record { desk = record { set = d .set; state = a .state }; at = end }) page
+        → Stepped d (State k) ns text out at (record { desk = record { set = d .set; state = a .state; replay = d .replay }; at = end }) page
     state-step k a e p =
         record {
-          left = ap (λ (b : StateAfter). record { set = d .set; state = b .state }) e;
+          left = ap (λ (b : StateAfter). record { set = d .set; state = b .state; replay = d .replay }) e;
           bytes = stateLine k ns (d .set) (d .state);
           prints = refl;
           onto =
               onto-line out (stateLine k ns (d .set) (d .state)) at (a .line) end page (state-short k ns (d .set) (d .state))
               (ap (λ (b : StateAfter). b .line) e) p;
+        }
+
+    pub replayed-step : (k : ReplayCommand) (bytes : List ℕ) (a : ReplayAfter) → bytes ≡ unhexed text
+        → a
+        ≡ record {
+          replay = replayAfter k ns bytes (d .state) (d .replay);
+          state = replayStateAfter k (d .replay) (d .state);
+          line = holding (replayLineOf k bytes (d .state) (d .replay));
+        }
+        → (end ≡ endOf out at (a .line)) × (page ≡ appended out at (a .line))
+        → Stepped d (Replay k) ns text out at (record { desk = record { set = d .set; state = a .state; replay = a .replay }; at = end }) page
+    replayed-step k bytes a f e p =
+        let line : List ℕ = replayLineOf k (unhexed text) (d .state) (d .replay) in
+        let g : a
+        ≡ record {
+          replay = replayAfter k ns (unhexed text) (d .state) (d .replay);
+          state = replayStateAfter k (d .replay) (d .state);
+          line = holding (replayLineOf k (unhexed text) (d .state) (d .replay));
+        } = rw f at e in
+        record {
+          left = ap (λ (b : ReplayAfter). record { set = d .set; state = b .state; replay = b .replay }) g;
+          bytes = line;
+          prints = refl;
+          onto =
+              onto-line out line at (a .line) end page (replay-short k (unhexed text) (d .state) (d .replay))
+              (ap (λ (b : ReplayAfter). b .line) g) p;
+        }
+
+    pub record-step : roomFor out at answerRoom ≡ true → Records text (nth ns 0) out at end page
+        → Stepped d Record ns text out at (record { desk = d; at = end }) page
+    record-step room t =
+        record {
+          left = refl;
+          bytes = recordLines text (nth ns 0);
+          prints = refl;
+          onto = records-onto text (nth ns 0) out at end page (room-less out at recordRoom answerRoom room (omega arith)) t;
         }
 
     pub question-step : (q : Question) → roomFor out at answerRoom ≡ true → Asks q ns (d .set) (d .state) out at end page
@@ -95,13 +142,12 @@ module _ (d : Desk) (ns text out : List ℕ) (at : ℕ) where
 -- ---- a line
 
 module _ (d : Desk) (line out : List ℕ) (at : ℕ) where
-  -- with room, where the buffer takes the bytes of the longest text
-  pub obeys : (o : Order) (bytes : List ℕ) (r : Step) (page : List ℕ) → roomFor out at answerRoom ≡ true → o ≡ orderOf line
-      → (length line ≤ o .text + 2 * (longest / 2) → bytes ≡ unhexed (drop (o .text) line))
-      → Stepped d (o .command) (o .numbers) bytes out at r page → Obeys d line out at r page
-  obeys o bytes r page room e f t =
-      let fits : length line ≤ o .text + 2 * (longest / 2) = omega (arith, text-short line, ap (λ (x : Order). x .text) e) in
-      let all : bytes ≡ textOf line = f fits ∙ ap (λ (x : Order). unhexed (drop (x .text) line)) e in
+  -- with room: the text is the rest of the line
+  pub obeys : (o : Order) (r : Step) (page : List ℕ) → roomFor out at answerRoom ≡ true → o ≡ orderOf line
+      → Stepped d (o .command) (o .numbers) (take (length line - o .text) (drop (o .text) line)) out at r page → Obeys d line out at r page
+  obeys o r page room e t =
+      let all : take (length line - o .text) (drop (o .text) line) ≡ drop (o .text) line =
+      take-all (length line - o .text) (drop (o .text) line) (omega (arith, length-drop (o .text) line)) in
       rw room (rw (all, e) at t)
 
   -- what is allowed with room
@@ -120,6 +166,8 @@ command-once Unknown ns text d v w p q = p ∙ sym q
 command-once (Set k) ns text d v w p q = p ∙ sym q
 command-once (State k) ns text d v w p q = p ∙ sym q
 command-once (Ask a) ns text d v w p q = prints-once a ns (d .set) (d .state) v w p q
+command-once (Replay k) ns text d v w p q = p ∙ sym q
+command-once Record ns text d v w p q = p ∙ sym q
 
 module _ (d : Desk) (line out : List ℕ) (at : ℕ) where
   pub obeys-once : (r s : Step) (p q : List ℕ) → Obeys d line out at r p → Obeys d line out at s q → (r ≡ s) × (p ≡ q)

@@ -12,36 +12,50 @@ use Rattle.ascii.specs.Hex.{unhexed}
 use Rattle.answer_words.specs.Words.{lineOf}
 use Rattle.page.specs.Pages.{roomFor, Onto}
 use Rattle.console_names.specs.declared.Command.{Command}
-use Rattle.console_names.specs.declared.Command.the-variants.{Nothing, Unknown, Set, State, Ask}
+use Rattle.console_names.specs.declared.Command.the-variants.{Nothing, Unknown, Set, State, Ask, Replay, Record}
+use Rattle.console_names.specs.Rows.{nth}
 use Rattle.console_parse.specs.Lines.{orderOf}
 use Rattle.console_set.specs.SetCommands.{setAfter, setLine}
 use Rattle.console_state.specs.StateCommands.{stateAfter, stateLine}
+use Rattle.console_replay.specs.ReplayCommands.{firstReplay, replayAfter, replayStateAfter, replayLineOf}
+use Rattle.console_replay.specs.Records.{recordLines}
 use Rattle.console_ask.specs.Questions.{Prints as AskPrints, answerRoom}
 use Rattle.console_obey.specs.declared.Desk.{Desk}
 use Rattle.console_obey.specs.declared.Step.{Step}
 
--- "The console holds a set (at first the empty set) and a state (at first the start of the empty set)."
+-- "The console holds a set (at first the empty set) and a state (at first the start of the empty set)." And a recording: "At first it is
+-- empty."
 abbrev pub firstDesk : Desk
-firstDesk = record { set = emptySet; state = startOf emptySet .state }
+firstDesk = record { set = emptySet; state = startOf emptySet .state; replay = firstReplay }
 
--- What a command with these numbers leaves; `text` is the bytes that stand in hex behind them.
+-- What a command with these numbers leaves; `text` is what stands behind them: the steps of a trace for `record`, else hex.
 abbrev pub leaves : Command → List ℕ → List ℕ → Desk → Desk
 leaves Nothing ns text d = d
 -- "A line that is not one of those below .. prints `?` and changes nothing."
 leaves Unknown ns text d = d
 -- "the set becomes": the state stays; "the state becomes": the set stays
-leaves (Set k) ns text d = record { set = setAfter k ns text (d .set); state = d .state }
-leaves (State k) ns text d = record { set = d .set; state = stateAfter k ns (d .set) (d .state) }
+leaves (Set k) ns text d = record { set = setAfter k ns (unhexed text) (d .set); state = d .state; replay = d .replay }
+leaves (State k) ns text d = record { set = d .set; state = stateAfter k ns (d .set) (d .state); replay = d .replay }
 leaves (Ask q) ns text d = d
+-- "one step of the replay on the console's state"
+leaves (Replay k) ns text d =
+    record {
+      set = d .set;
+      state = replayStateAfter k (d .replay) (d .state);
+      replay = replayAfter k ns (unhexed text) (d .state) (d .replay);
+    }
+leaves Record ns text d = d
 
 -- The bytes that it prints.
 abbrev pub Prints : Command → List ℕ → List ℕ → Desk → List ℕ → Type 0
 -- "An empty line prints nothing."
 Prints Nothing ns text d w = w ≡ []
 Prints Unknown ns text d w = w ≡ lineOf (letters "?")
-Prints (Set k) ns text d w = w ≡ setLine k text
+Prints (Set k) ns text d w = w ≡ setLine k (unhexed text)
 Prints (State k) ns text d w = w ≡ stateLine k ns (d .set) (d .state)
 Prints (Ask q) ns text d w = AskPrints q ns (d .set) (d .state) w
+Prints (Replay k) ns text d w = w ≡ replayLineOf k (unhexed text) (d .state) (d .replay)
+Prints Record ns text d w = w ≡ recordLines text (nth ns 0)
 
 -- A command obeyed: what it leaves, and the page with what it prints.
 pub record Stepped (d : Desk) (k : Command) (ns text out : List ℕ) (at : ℕ) (r : Step) (page : List ℕ) : Type 0 where
@@ -50,9 +64,9 @@ pub record Stepped (d : Desk) (k : Command) (ns text out : List ℕ) (at : ℕ) 
   pub prints : Prints k ns text d bytes
   pub onto : Onto out at bytes (r .at) page
 
--- the bytes that stand in hex in a line, from where its text starts
+-- the text of a line, from where it starts
 abbrev pub textOf : List ℕ → List ℕ
-textOf line = unhexed (drop (orderOf line .text) line)
+textOf line = drop (orderOf line .text) line
 
 -- A line obeyed: its command, with its numbers and its text.
 abbrev pub Obeyed : Desk → List ℕ → List ℕ → ℕ → Step → List ℕ → Type 0

@@ -2,18 +2,20 @@
 // `console_parse`, what it leaves and prints in the crate of its group.
 ghost use mathlib.Core.Path.{_≡_};
 ghost use mathlib.Core.Bool.{true};
-ghost use Prim.Native.Nat.{_+_, _*_, _≤_};
-ghost use lib.ListN.{length, take, drop};
+ghost use Prim.Native.Nat.{_≤_};
+ghost use lib.ListN.{length};
 ghost use Rattle.ascii.specs.Hex.{unhexed};
 ghost use Rattle.page.specs.Pages.{roomFor};
+ghost use Rattle.console_parse.specs.Lines.{longest};
 ghost use Rattle.console_ask.specs.Questions.{answerRoom};
 ghost use Rattle.console_obey.specs.Obeyed.{firstDesk, Stepped, Obeys};
 use console_names::Command;
 use console_names::NUMBERS;
 use console_names::Question;
+use console_names::ReplayCommand;
 use console_names::SetCommand;
 use console_names::StateCommand;
-use console_parse::Order;
+use console_replay::Replay;
 use rules::Set;
 use rules::State;
 
@@ -21,6 +23,7 @@ use rules::State;
 pub struct Desk {
     pub set: Set,
     pub state: State,
+    pub replay: Replay,
 }
 
 // What the console holds after a command, and where the page ends.
@@ -36,13 +39,14 @@ pub fn first() -> Desk
     let set = stream_valid::empty_set();
     let r = scheduler::start(set);
     let state = r.state;
-    Desk { set, state }
+    let replay = console_replay::first();
+    Desk { set, state, replay }
 }
 
-// ---- a command of each group
+// ---- a command of each group; `bytes` are those that stand in hex in its text
 
-fn unknown_step(d: Desk, n: [u32; NUMBERS], bytes: &[u8], out: &mut [u8], at: usize) -> Step
-    ensures { λ r. ⌜ Stepped d Command.Unknown n (now (bytes .entry)) (now (out .entry)) at r (now (out .exit)) ⌝ }
+fn unknown_step(d: Desk, n: [u32; NUMBERS], text: &[u8], out: &mut [u8], at: usize) -> Step
+    ensures { λ r. ⌜ Stepped d Command.Unknown n (now (text .entry)) (now (out .entry)) at r (now (out .exit)) ⌝ }
 {
     let end = page::append(out, at, console_words::unknown_line());
     Step { desk: d, at: end }
@@ -52,17 +56,20 @@ fn set_step(
     d: Desk,
     k: SetCommand,
     n: [u32; NUMBERS],
+    text: &[u8],
     bytes: &[u8],
     out: &mut [u8],
     at: usize,
 ) -> Step
-    ensures { λ r. ⌜ Stepped d (Command.Set k) n (now (bytes .entry)) (now (out .entry)) at r (now (out .exit)) ⌝ }
+    requires { ⌜ now bytes ≡ unhexed (now text) ⌝ }
+    ensures { λ r. ⌜ Stepped d (Command.Set k) n (now (text .entry)) (now (out .entry)) at r (now (out .exit)) ⌝ }
 {
     let a = console_set::after(d.set, k, n, bytes);
     let set = a.set;
     let state = d.state;
+    let replay = d.replay;
     let end = page::append(out, at, a.line);
-    let desk = Desk { set, state };
+    let desk = Desk { set, state, replay };
     Step { desk, at: end }
 }
 
@@ -70,17 +77,18 @@ fn state_step(
     d: Desk,
     k: StateCommand,
     n: [u32; NUMBERS],
-    bytes: &[u8],
+    text: &[u8],
     out: &mut [u8],
     at: usize,
 ) -> Step
-    ensures { λ r. ⌜ Stepped d (Command.State k) n (now (bytes .entry)) (now (out .entry)) at r (now (out .exit)) ⌝ }
+    ensures { λ r. ⌜ Stepped d (Command.State k) n (now (text .entry)) (now (out .entry)) at r (now (out .exit)) ⌝ }
 {
     let a = console_state::after(d.set, d.state, k, n);
     let set = d.set;
     let state = a.state;
+    let replay = d.replay;
     let end = page::append(out, at, a.line);
-    let desk = Desk { set, state };
+    let desk = Desk { set, state, replay };
     Step { desk, at: end }
 }
 
@@ -88,14 +96,47 @@ fn question_step(
     d: Desk,
     q: Question,
     n: [u32; NUMBERS],
-    bytes: &[u8],
+    text: &[u8],
     out: &mut [u8],
     at: usize,
 ) -> Step
     requires { ⌜ roomFor (now out) at answerRoom ≡ true ⌝ }
-    ensures { λ r. ⌜ Stepped d (Command.Ask q) n (now (bytes .entry)) (now (out .entry)) at r (now (out .exit)) ⌝ }
+    ensures { λ r. ⌜ Stepped d (Command.Ask q) n (now (text .entry)) (now (out .entry)) at r (now (out .exit)) ⌝ }
 {
     let end = console_ask::ask(d.set, d.state, q, n, out, at);
+    Step { desk: d, at: end }
+}
+
+fn replayed_step(
+    d: Desk,
+    k: ReplayCommand,
+    n: [u32; NUMBERS],
+    text: &[u8],
+    bytes: &[u8],
+    out: &mut [u8],
+    at: usize,
+) -> Step
+    requires { ⌜ now bytes ≡ unhexed (now text) ⌝ }
+    ensures { λ r. ⌜ Stepped d (Command.Replay k) n (now (text .entry)) (now (out .entry)) at r (now (out .exit)) ⌝ }
+{
+    let a = console_replay::after(d.replay, d.state, k, n, bytes);
+    let set = d.set;
+    let stepped = a.state;
+    let replay = a.replay;
+    let end = page::append(out, at, a.line);
+    let desk = Desk {
+        set,
+        state: stepped,
+        replay,
+    };
+    Step { desk, at: end }
+}
+
+fn record_step(d: Desk, n: [u32; NUMBERS], text: &[u8], out: &mut [u8], at: usize) -> Step
+    requires { ⌜ roomFor (now out) at answerRoom ≡ true ⌝ }
+    ensures { λ r. ⌜ Stepped d Command.Record n (now (text .entry)) (now (out .entry)) at r (now (out .exit)) ⌝ }
+{
+    let end = console_replay::record_onto(n[0], text, out, at);
     Step { desk: d, at: end }
 }
 
@@ -105,31 +146,33 @@ fn command_step(
     d: Desk,
     k: Command,
     n: [u32; NUMBERS],
+    text: &[u8],
     bytes: &[u8],
     out: &mut [u8],
     at: usize,
 ) -> Step
-    requires { ⌜ roomFor (now out) at answerRoom ≡ true ⌝ }
-    ensures { λ r. ⌜ Stepped d k n (now (bytes .entry)) (now (out .entry)) at r (now (out .exit)) ⌝ }
+    requires { ⌜ (now bytes ≡ unhexed (now text)) × (roomFor (now out) at answerRoom ≡ true) ⌝ }
+    ensures { λ r. ⌜ Stepped d k n (now (text .entry)) (now (out .entry)) at r (now (out .exit)) ⌝ }
 {
     match k {
         Command::Nothing => Step { desk: d, at },
-        Command::Unknown => unknown_step(d, n, bytes, out, at),
-        Command::Set(c) => set_step(d, c, n, bytes, out, at),
-        Command::State(c) => state_step(d, c, n, bytes, out, at),
-        Command::Ask(q) => question_step(d, q, n, bytes, out, at),
+        Command::Unknown => unknown_step(d, n, text, out, at),
+        Command::Set(c) => set_step(d, c, n, text, bytes, out, at),
+        Command::State(c) => state_step(d, c, n, text, out, at),
+        Command::Ask(q) => question_step(d, q, n, text, out, at),
+        Command::Replay(c) => replayed_step(d, c, n, text, bytes, out, at),
+        Command::Record => record_step(d, n, text, out, at),
     }
 }
 
-// The bytes that stand in hex in the line from `from` on, in the first places of a buffer, and how many they are.
-fn text_bytes(line: &[u8], from: usize, bytes: &mut [u8]) -> usize
-    ensures { λ r. ⌜ r ≤ length (now (bytes .exit)) ⌝ }
-    ensures { λ r. ⌜ (length (now (line .entry)) ≤ from + 2 * length (now (bytes .entry)) → take r (now (bytes .exit)) ≡ unhexed (drop from (now (line .entry)))) ⌝ }
+// A command with its text, whose bytes are read from hex.
+fn text_step(d: Desk, k: Command, n: [u32; NUMBERS], text: &[u8], out: &mut [u8], at: usize) -> Step
+    requires { ⌜ (length (now text) ≤ longest) × (roomFor (now out) at answerRoom ≡ true) ⌝ }
+    ensures { λ r. ⌜ Stepped d k n (now (text .entry)) (now (out .entry)) at r (now (out .exit)) ⌝ }
 {
-    if line.len() < from {
-        return 0;
-    }
-    page_hex::unhex(&line[from..], bytes)
+    let mut bytes = [0u8; console_parse::LONGEST / 2];
+    let size = page_hex::unhex(text, &mut bytes);
+    command_step(d, k, n, text, &bytes[..size], out, at)
 }
 
 // A line's command, obeyed: what the console then holds, and what is printed behind the first `at` bytes of a page. On a page that has
@@ -143,7 +186,6 @@ pub fn obey(d: Desk, line: &[u8], out: &mut [u8], at: usize) -> Step
     let o = console_parse::parse(line);
     let command = o.command;
     let numbers = o.numbers;
-    let mut bytes = [0u8; console_parse::LONGEST / 2];
-    let n = text_bytes(line, o.text, &mut bytes);
-    command_step(d, command, numbers, &bytes[..n], out, at)
+    let from = o.text;
+    text_step(d, command, numbers, &line[from..], out, at)
 }

@@ -1,4 +1,5 @@
 pub mod Tests
+pub mod Traces
 pub mod Words
 pub mod Nexts
 pub mod Fills

@@ -1,4 +1,4 @@
--- What stands behind a word: a number behind its space, or hex digits behind theirs.
+-- What stands behind a word: a number behind its space, or a text behind its own.
 -- Assumes nothing.
 use Prim.Native.Nat.{ℕ, zero, suc, _+_, _-_, _≤_, _<_}
 use native.Mathlib.Omega.{arith}
@@ -8,18 +8,16 @@ use mathlib.Core.Bool.{Bool, true, false, cond, _&&_}
 use mathlib.Core.List.{List, [], _∷_}
 use lib.ListN.{length, getD, take, drop, drop-of-length-le, length-drop}
 use lib.Seq.{drop-cons, take-all}
-use lib.Dec.{eqb, leb, ltb}
-use borrow.Author.Tests.{eq-eqb, ne-eqb, lt-ltb, leb-true, leb-false}
-use Rattle.laws.proofs.Sums.{by-test}
+use lib.Dec.{eqb, ltb}
+use borrow.Author.Tests.{eq-eqb, ne-eqb, lt-ltb}
 use Rattle.console_names.specs.declared.Text.{Text}
-use Rattle.console_names.specs.declared.Text.the-variants.{Nothing as NoText, Hex}
 use Rattle.ascii.specs.Decimal.{readOn}
 use Rattle.console_parse.specs.declared.Got.{Got}
 use Rattle.console_parse.specs.declared.Got.the-variants.{Is, Bad}
 use Rattle.console_parse.specs.declared.Next.{Next}
 use Rattle.console_parse.specs.declared.Next.the-variants.{Is as IsTo, Bad as BadNext}
-use Rattle.console_parse.specs.Bytes.{front, isNumber, isHexText}
-use Rattle.console_parse.specs.Lines.{hexBehind, textOk}
+use Rattle.console_parse.specs.Bytes.{front, isNumber}
+use Rattle.console_parse.specs.Lines.{isText, textOk}
 use Rattle.console_parse.specs.Scan.{gotOf, nextOf}
 use Rattle.console_parse.proofs.Words.{front-take, front-short}
 
@@ -73,38 +71,27 @@ module _ (most at : ℕ) (l : List ℕ) where
           go true v y = let z : _≡_ {A = ℕ} 0 1 = cc in absurd (omega arith)
           go false v y = refl
 
-module _ (l : List ℕ) (at : ℕ) where
-  pub hex-none : length l ≤ at → true ≡ hexBehind (drop at l)
-  unfolding hexBehind
-  hex-none h = rw (drop-of-length-le l h)
+-- the text behind the numbers
+module _ (t : Text) (l : List ℕ) (at : ℕ) where
+  pub text-none : length l ≤ at → true ≡ textOk t (drop at l)
+  unfolding textOk
+  text-none h = rw (drop-of-length-le l h)
 
   module _ (h : at < length l) where
-    pub hex-other : (getD l at 0 ≡ 32 → ⊥) → false ≡ hexBehind (drop at l)
-    unfolding hexBehind
-    hex-other g = rw (drop-cons l at 0 h, ne-eqb (getD l at 0) 32 g)
+    pub text-other : (getD l at 0 ≡ 32 → ⊥) → false ≡ textOk t (drop at l)
+    unfolding textOk
+    text-other g = rw (drop-cons l at 0 h, ne-eqb (getD l at 0) 32 g)
 
     module _ (g : getD l at 0 ≡ 32) where
-      pub hex-empty : length l ≤ at + 1 → false ≡ hexBehind (drop at l)
-      unfolding hexBehind
-      hex-empty f = rw (drop-cons l at 0 h, eq-eqb (getD l at 0) 32 g, ← add-one at, drop-of-length-le l f)
+      pub text-empty : length l ≤ at + 1 → false ≡ textOk t (drop at l)
+      unfolding textOk
+      text-empty f = rw (drop-cons l at 0 h, eq-eqb (getD l at 0) 32 g, ← add-one at, drop-of-length-le l f)
 
-      pub hex-text : (t : Bool) → at + 1 < length l → t ≡ isHexText (take (length l - (at + 1)) (drop (at + 1) l)) → t ≡ hexBehind (drop at l)
-      unfolding hexBehind
-      hex-text t f e =
+      pub text-some : (b : Bool) → at + 1 < length l → b ≡ isText t (take (length l - (at + 1)) (drop (at + 1) l)) → b ≡ textOk t (drop at l)
+      unfolding textOk
+      text-some b f e =
           let some : 0 < length (drop (at + 1) l) = omega (arith, length-drop (at + 1) l) in
           let whole : length (drop (at + 1) l) ≤ length l - (at + 1) = omega (arith, length-drop (at + 1) l) in
           rw
           (drop-cons l at 0 h, eq-eqb (getD l at 0) 32 g, ← add-one at, lt-ltb 0 (length (drop (at + 1) l)) some)
           (rw (take-all (length l - (at + 1)) (drop (at + 1) l) whole) at e)
-
--- the text behind the numbers, by what the command asks for
-module _ (t : Text) (l : List ℕ) (at : ℕ) where
-  pub no-text : t ≡ NoText → leb (length l) at ≡ textOk t (drop at l)
-  no-text e =
-      rw e
-      (by-test (leb (length l) at)
-      (λ h. h ∙ sym (eq-eqb (length (drop at l)) 0 (omega (arith, length-drop at l, leb-true (length l) at h))))
-      (λ h. h ∙ sym (ne-eqb (length (drop at l)) 0 (λ z. omega (arith, z, length-drop at l, leb-false (length l) at h)))))
-
-  pub a-hex-text : (b : Bool) → t ≡ Hex → b ≡ hexBehind (drop at l) → b ≡ textOk t (drop at l)
-  a-hex-text b e f = rw e f

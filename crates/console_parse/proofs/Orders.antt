@@ -14,7 +14,7 @@ use Rattle.console_names.specs.declared.Row.{Row}
 use Rattle.console_names.specs.Rows.{rowOf}
 use Rattle.console_parse.specs.declared.Order.{Order}
 use Rattle.console_parse.specs.Bytes.{front, behind}
-use Rattle.console_parse.specs.Lines.{orderAt, asked, longest, orderOf}
+use Rattle.console_parse.specs.Lines.{numbersOk, orderAt, asked, longest, orderOf}
 use Rattle.console_parse.proofs.Words.{front-take, behind-drop, front-short}
 
 module _ (l : List ℕ) where
@@ -53,3 +53,18 @@ text-short l =
     by-test (ltb longest (length l))
     (λ f. rw (e, f) (omega arith))
     (λ f. rw (e, f) (omega (arith, ltb-false longest (length l) f))))
+
+-- a text starts within its line
+asked-in : (size : ℕ) (r : Row) (l : List ℕ) → asked size r l .text ≤ size
+unfolding asked
+asked-in size r l = by-test (numbersOk (r .text) (take (r .count) (r .most)) l) (λ e. rw e (omega arith)) (λ e. rw e (omega arith))
+
+pub text-in : (l : List ℕ) → orderOf l .text ≤ length l
+unfolding orderOf
+text-in l =
+    by-test (eqb (length l) 0)
+    (λ e. rw e (omega arith))
+    (λ e.
+    by-test (ltb longest (length l))
+    (λ f. rw (e, f) (omega arith))
+    (λ f. rw (e, f) (asked-in (length l) (rowOf (front l)) (behind l))))

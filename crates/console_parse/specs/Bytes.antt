@@ -26,3 +26,13 @@ isNumber most w = within 1 (length w) 10 && (all isDigit w && leb (readOn 0 w) m
 -- "HEX is an even number of lower-case hex digits"
 unfoldable pub isHexText : List ℕ → Bool
 isHexText w = eqb (length w % 2) 0 && all isHex w
+
+-- a step of one byte
+abbrev pub isUnit : ℕ → Bool
+isUnit b = eqb b (code "u") || eqb b (code "d")
+
+-- "TRACE is steps of a trace with no spaces (`p1uud`) .. A TRACE that has any other byte, or ends in `p`, is `?`."
+unfoldable pub isSteps : List ℕ → Bool
+isSteps [] = true
+isSteps (b ∷ []) = isUnit b
+isSteps (b ∷ d ∷ l) = cond (eqb b (code "p")) (isHex d && isSteps l) (isUnit b && isSteps (d ∷ l))

@@ -11,21 +11,23 @@ use Rattle.ascii.specs.Decimal.{readOn}
 use Rattle.console_names.specs.declared.Command.{Command}
 use Rattle.console_names.specs.declared.Command.the-variants.{Nothing, Unknown}
 use Rattle.console_names.specs.declared.Text.{Text}
-use Rattle.console_names.specs.declared.Text.the-variants.{Nothing as NoText, Hex}
+use Rattle.console_names.specs.declared.Text.the-variants.{Nothing as NoText, Hex, Steps}
 use Rattle.console_names.specs.declared.Row.{Row}
 use Rattle.console_names.specs.Rows.{mostNumbers, rowOf}
 use Rattle.console_parse.specs.declared.Order.{Order}
-use Rattle.console_parse.specs.Bytes.{front, behind, isNumber, isHexText}
+use Rattle.console_parse.specs.Bytes.{front, behind, isNumber, isHexText, isSteps}
 
--- "`read HEX` .. an empty HEX leaves its space out as well"
-unfoldable pub hexBehind : List ℕ → Bool
-hexBehind [] = true
-hexBehind (b ∷ l) = eqb b (code " ") && (ltb 0 (length l) && isHexText l)
+-- what the text of a command is; some have none
+abbrev pub isText : Text → List ℕ → Bool
+isText NoText l = false
+isText Hex l = isHexText l
+isText Steps l = isSteps l
 
--- what stands behind the numbers is the text that the command asks for
-abbrev pub textOk : Text → List ℕ → Bool
-textOk NoText l = eqb (length l) 0
-textOk Hex l = hexBehind l
+-- behind the numbers stands the text that the command asks for, behind its space. "an empty HEX leaves its space out as well (`read`)";
+-- "TRACE .. or is left out with its space"
+unfoldable pub textOk : Text → List ℕ → Bool
+textOk t [] = true
+textOk t (b ∷ l) = eqb b (code " ") && (ltb 0 (length l) && isText t l)
 
 -- "words with one space between them": each number behind its space, and the text behind the last
 unfoldable pub numbersOk : Text → List ℕ → List ℕ → Bool

@@ -3,9 +3,9 @@ ghost use mathlib.Core.Path.{_≡_};
 ghost use mathlib.Core.List.{_∷_, []};
 ghost use Prim.Native.Nat.{_+_, _-_, _≤_};
 ghost use lib.ListN.{length, drop};
-ghost use Rattle.console_parse.specs.Bytes.{front, isHexText};
-ghost use Rattle.console_parse.specs.Scan.{gotOf, nextOf, filled};
-ghost use Rattle.console_parse.specs.Lines.{asked, hexBehind, textOk, textStart, orderOf, orderAt};
+ghost use Rattle.console_parse.specs.Bytes.{front, isHexText, isSteps};
+ghost use Rattle.console_parse.specs.Scan.{gotOf, nextOf, stepByte, filled};
+ghost use Rattle.console_parse.specs.Lines.{asked, isText, textOk, textStart, orderOf, orderAt};
 use console_names::Command;
 use console_names::NUMBERS;
 use console_names::Row;
@@ -159,13 +159,31 @@ fn text_start(line: &[u8], at: usize) -> usize
     if at < line.len() { at + 1 } else { at }
 }
 
+// The text behind the numbers, behind its space; an empty one leaves its space out as well.
 fn text_behind(line: &[u8], at: usize, text: Text) -> bool
     requires { ⌜ at ≤ length (now line) ⌝ }
     ensures { λ r. ⌜ r ≡ textOk text (drop at (now (line .entry))) ⌝ }
 {
+    if line.len() <= at {
+        return true;
+    }
+    if line[at] != b' ' {
+        return false;
+    }
+    let start = at + 1;
+    if line.len() <= start {
+        return false;
+    }
+    is_text(&line[start..], text)
+}
+
+fn is_text(w: &[u8], text: Text) -> bool
+    ensures { λ r. ⌜ r ≡ isText text (now (w .entry)) ⌝ }
+{
     match text {
-        Text::Nothing => line.len() <= at,
-        Text::Hex => hex_behind(line, at),
+        Text::Nothing => false,
+        Text::Hex => is_hex_text(w),
+        Text::Steps => is_steps(w),
     }
 }
 
@@ -185,21 +203,31 @@ fn is_hex_text(w: &[u8]) -> bool
     true
 }
 
-fn hex_behind(line: &[u8], at: usize) -> bool
-    requires { ⌜ at ≤ length (now line) ⌝ }
-    ensures { λ r. ⌜ r ≡ hexBehind (drop at (now (line .entry))) ⌝ }
+// A byte of a trace; a p may wait for its digit.
+fn is_step_byte(waiting: bool, b: u8) -> bool
+    ensures { λ r. ⌜ r ≡ stepByte waiting b ⌝ }
 {
-    if line.len() <= at {
-        return true;
+    if waiting {
+        ascii::is_hex(b)
+    } else {
+        (b == b'p') | ((b == b'u') | (b == b'd'))
     }
-    if line[at] != b' ' {
-        return false;
+}
+
+fn is_steps(w: &[u8]) -> bool
+    ensures { λ r. ⌜ r ≡ isSteps (now (w .entry)) ⌝ }
+{
+    let mut waiting = false;
+    let mut i = 0;
+    while i < w.len() {
+        let b = w[i];
+        if !is_step_byte(waiting, b) {
+            return false;
+        }
+        waiting = !waiting & (b == b'p');
+        i += 1;
     }
-    let start = at + 1;
-    if line.len() <= start {
-        return false;
-    }
-    is_hex_text(&line[start..])
+    !waiting
 }
 
 // The command of a line.

@@ -2,17 +2,18 @@
 ghost use mathlib.Core.Path.{_≡_};
 ghost use Prim.Native.Nat.{_≤_};
 ghost use lib.ListN.{length};
-ghost use Rattle.rules.specs.Numbers.{startSays, chooseSays, countSays, jitterSays, writeSays};
+ghost use Rattle.rules.specs.Numbers.{startSays, chooseSays, countSays, jitterSays, writeSays, recordSays};
 ghost use Rattle.line.specs.Line.{holding, puts};
 ghost use mathlib.Core.List.{[]};
 ghost use Rattle.ascii.specs.Decimal.{letters};
 ghost use Rattle.answer_words.specs.Words.{tupleWords, says, readWords, lineOf};
-ghost use Rattle.console_words.specs.Words.{validWords, formedWords};
+ghost use Rattle.console_words.specs.Words.{validWords, formedWords, recordingWords, atWords};
 use line::Line;
 use rules::ChooseAnswer;
 use rules::CountAnswer;
 use rules::JitterAnswer;
 use rules::ReadAnswer;
+use rules::RecordAnswer;
 use rules::StartAnswer;
 use rules::Tuple;
 use rules::WriteAnswer;
@@ -76,6 +77,15 @@ fn write_words(l: Line, a: WriteAnswer) -> Line
     }
 }
 
+fn record_words(l: Line, a: RecordAnswer) -> Line
+    ensures { λ r. ⌜ r ≡ puts l (says (recordSays a)) ⌝ }
+{
+    match a {
+        RecordAnswer::Recorded(n) => line::one(l, b"recorded", n as u64),
+        RecordAnswer::Refused(why) => answer_words::refused(l, why),
+    }
+}
+
 fn read_words(l: Line, a: ReadAnswer, n: usize) -> Line
     ensures { λ r. ⌜ r ≡ puts l (readWords a n) ⌝ }
 {
@@ -113,6 +123,29 @@ pub fn write_line(a: WriteAnswer) -> Line
     ensures { λ r. ⌜ r ≡ holding (lineOf (says (writeSays a))) ⌝ }
 {
     line::put(write_words(line::blank(), a), b'\n')
+}
+
+pub fn record_line(a: RecordAnswer) -> Line
+    ensures { λ r. ⌜ r ≡ holding (lineOf (says (recordSays a))) ⌝ }
+{
+    line::put(record_words(line::blank(), a), b'\n')
+}
+
+// The bytes of a recording.
+pub fn recording_line(n: usize) -> Line
+    ensures { λ r. ⌜ r ≡ holding (lineOf (recordingWords n)) ⌝ }
+{
+    line::put(line::one(line::blank(), b"recording", n as u64), b'\n')
+}
+
+// The reader's place.
+pub fn at_line(byte: usize, bit: u32) -> Line
+    ensures { λ r. ⌜ r ≡ holding (lineOf (atWords byte bit)) ⌝ }
+{
+    line::put(
+        line::two(line::blank(), b"at", byte as u64, bit as u64),
+        b'\n',
+    )
 }
 
 // A sheet that was read is told by the number of streams of its set.

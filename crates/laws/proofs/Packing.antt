@@ -11,12 +11,12 @@ use Rattle.laws.proofs.Fields.{AreBits, AreBytes, IsBit, IsByte, all-ap
 
 -- ---- packing
 
-bytes-length : (n : ℕ) (bs : List ℕ) → length (bytes n bs) ≡ n
+pub bytes-length : (n : ℕ) (bs : List ℕ) → length (bytes n bs) ≡ n
 unfolding bytes
 bytes-length zero bs = refl
 bytes-length (suc n) bs = ap suc (bytes-length n (drop 8 bs))
 
-bytes-bits : (n : ℕ) (bs : List ℕ) → AreBits bs → 8 * n ≤ length bs → bits (bytes n bs) ≡ take (8 * n) bs
+pub bytes-bits : (n : ℕ) (bs : List ℕ) → AreBits bs → 8 * n ≤ length bs → bits (bytes n bs) ≡ take (8 * n) bs
 unfolding bytes bits
 bytes-bits zero bs h l = refl
 bytes-bits (suc n) bs h l =
@@ -25,7 +25,7 @@ bytes-bits (suc n) bs h l =
     (bytes-bits n (drop 8 bs) (all-drop IsBit 8 bs h) (omega (arith, length-drop 8 bs)))
     ∙ sym (take-add 8 (8 * n) bs) ∙ ap (λ (k : ℕ). take k bs) (let q : 8 + 8 * n ≡ 8 * suc n = omega arith in q)
 
-bytes-bytes : (n : ℕ) (bs : List ℕ) → AreBits bs → 8 * n ≤ length bs → AreBytes (bytes n bs)
+pub bytes-bytes : (n : ℕ) (bs : List ℕ) → AreBits bs → 8 * n ≤ length bs → AreBytes (bytes n bs)
 unfolding bytes
 bytes-bytes zero bs h l = tt
 bytes-bytes (suc n) bs h l = (

@@ -1,3 +1,4 @@
 pub mod Digits
 pub mod Pairs
 pub mod Prints
+pub mod Buffers

@@ -25,12 +25,15 @@ use Rattle.rules.specs.Steps.{startOf, callOf}
 use Rattle.rules.specs.Sheet.{sheetOf, readOf}
 use Rattle.rules.specs.Numbers.{Says, ended, replaySays}
 use Rattle.rules.specs.Runs.{Run, Step, saidAt, stepTo, stepOf, begin, runFrom, runOf, stepsFrom, stepsOf, answersOf}
-use Rattle.rules.specs.Recordings.{Place, callBits, recordable, recordingOf, placeIn, bitAt, placeAfter, markOf, replayBy, replayStep, replayStart, firstPlace, placeOfResult, replayAnswers, replayState}
+use Rattle.rules.specs.Recordings.{Place, callBits, recordable, recordingOf, placeIn, bitAt, placeAfter, markOf, replayBy, replayStep, replayStart, firstPlace, placeOfResult, replayAnswers, replayState, Stop, ends, refused, tapeOf}
 use Rattle.rules.proofs.Events.{step-state}
+use Rattle.sheet_write.specs.Answers.{ReadPlaced}
 use Rattle.sheet_write.proofs.Back.{read-back}
+use Rattle.sheet_write.proofs.Rounds.{read-placed}
 use Rattle.promise_steps.specs.Formed.{Formed, StartGives}
 use Rattle.promise_steps.proofs.Runs.{start-gives, step-keeps}
-use Rattle.promise_replay.specs.Replays.{IsTheCabs, ReplayIsTheCabs}
+use Rattle.promise_replay.specs.Replays.{IsTheCabs, ReplayIsTheCabs, AllStepsStand, markBy, stopSays, StepsAre, AnyRecording}
+use Rattle.promise_replay.proofs.Tapes.{all-steps-stand}
 use Rattle.promise_replay.proofs.Reading.{mark-call, mark-end, padding, padding-few, recording-bits}
 
 -- ---- places
@@ -72,52 +75,67 @@ state-by n recording s p r e = ap (λ (r : ReplayResult). replayState n recordin
 
 -- ---- all steps
 
-module _ (recording : List ℕ) (pad : ℕ) (few : pad < 8) where
-  -- behind the bits `front`, the calls cs and the end are left
+module _ (recording last : List ℕ) (stop : Stop) (is-stop : markOf last ≡ markBy stop) where
+  -- behind the bits `front`, the calls cs and the last bits are left
   pub record From (r : Run) (p : Place) (front : List ℕ) (cs : List Call) : Type 0 where
     pub formed : Formed (r .state)
     pub small : p .bit < 8
     pub at : bitAt p ≡ length front
-    pub split : bits recording ≡ front ++ (flat callBits cs ++ (toBits 2 3 ++ zeros pad))
+    pub split : bits recording ≡ front ++ (flat callBits cs ++ last)
     pub can : all recordable cs ≡ true
 
   pub record Gives (r : Run) (p : Place) (cs : List Call) : Type 0 where
-    pub answers : replayAnswers (suc (length cs)) recording (r .state) p ≡ map saidAt (stepsFrom r cs) ++ (ended ∷ [])
+    pub answers : replayAnswers (suc (length cs)) recording (r .state) p ≡ map saidAt (stepsFrom r cs) ++ (stopSays stop ∷ [])
     pub state : replayState (suc (length cs)) recording (r .state) p ≡ runFrom r cs .state
 
-  end-step : (r : Run) (p : Place) (front : List ℕ) → From r p front [] → replayStep (r .state) recording p ≡ replayBy (r .state) p Ends
+  pub stop-step : (r : Run) (p : Place) (front : List ℕ) → From r p front [] → replayStep (r .state) recording p ≡ replayBy (r .state) p (markBy stop)
   unfolding flat
-  end-step r p front f = step-is recording (r .state) p (f .formed .formed) (f .small) front (toBits 2 3 ++ zeros pad) (f .at) (f .split) ∙ ap (replayBy (r .state) p) (mark-end pad few)
+  stop-step r p front f = step-is recording (r .state) p (f .formed .formed) (f .small) front last (f .at) (f .split) ∙ ap (replayBy (r .state) p) is-stop
 
-  call-step : (r : Run) (p : Place) (front : List ℕ) (c : Call) (cs : List Call) → From r p front (c ∷ cs) → replayStep (r .state) recording p ≡ replayBy (r .state) p (Makes c)
+  pub call-step : (r : Run) (p : Place) (front : List ℕ) (c : Call) (cs : List Call) → From r p front (c ∷ cs) → replayStep (r .state) recording p ≡ replayBy (r .state) p (Makes c)
   unfolding flat all
   call-step r p front c cs f =
-      step-is recording (r .state) p (f .formed .formed) (f .small) front (callBits c ++ (flat callBits cs ++ (toBits 2 3 ++ zeros pad))) (f .at) (f .split ∙ ap (λ (l : List ℕ). front ++ l) (append-assoc (callBits c) (flat callBits cs) (toBits 2 3 ++ zeros pad)))
-      ∙ ap (replayBy (r .state) p) (mark-call c (flat callBits cs ++ (toBits 2 3 ++ zeros pad)) (and-parts (recordable c) (all recordable cs) (f .can) .0))
+      step-is recording (r .state) p (f .formed .formed) (f .small) front (callBits c ++ (flat callBits cs ++ last)) (f .at) (f .split ∙ ap (λ (l : List ℕ). front ++ l) (append-assoc (callBits c) (flat callBits cs) last))
+      ∙ ap (replayBy (r .state) p) (mark-call c (flat callBits cs ++ last) (and-parts (recordable c) (all recordable cs) (f .can) .0))
 
   -- the place behind a call
-  from-next : (r : Run) (p : Place) (front : List ℕ) (c : Call) (cs : List Call) → From r p front (c ∷ cs) → From (stepOf r c) (placeAfter p (length (callBits c))) (front ++ callBits c) cs
+  pub from-next : (r : Run) (p : Place) (front : List ℕ) (c : Call) (cs : List Call) → From r p front (c ∷ cs) → From (stepOf r c) (placeAfter p (length (callBits c))) (front ++ callBits c) cs
   unfolding flat all
   from-next r p front c cs f = record {
     formed = step-keeps r c (f .formed);
     small = place-bit p (length (callBits c));
     at = place-later p (length (callBits c)) ∙ omega (arith, f .at, length-append front (callBits c));
-    split = f .split ∙ ap (λ (l : List ℕ). front ++ l) (append-assoc (callBits c) (flat callBits cs) (toBits 2 3 ++ zeros pad)) ∙ sym (append-assoc front (callBits c) (flat callBits cs ++ (toBits 2 3 ++ zeros pad)));
+    split = f .split ∙ ap (λ (l : List ℕ). front ++ l) (append-assoc (callBits c) (flat callBits cs) last) ∙ sym (append-assoc front (callBits c) (flat callBits cs ++ last));
     can = and-parts (recordable c) (all recordable cs) (f .can) .1;
   }
+
+  -- the step that stops says so, and leaves the state
+  stop-says : (s : State) (p : Place) → replaySays (replayBy s p (markBy stop) .answer) ≡ stopSays stop
+  stop-says s p = go stop
+    where
+      go : (t : Stop) → replaySays (replayBy s p (markBy t) .answer) ≡ stopSays t
+      go ends = refl
+      go (refused why) = refl
+
+  stop-state : (s : State) (p : Place) → replayBy s p (markBy stop) .state ≡ s
+  stop-state s p = go stop
+    where
+      go : (t : Stop) → replayBy s p (markBy t) .state ≡ s
+      go ends = refl
+      go (refused why) = refl
 
   pub gives : (r : Run) (p : Place) (front : List ℕ) (cs : List Call) → From r p front cs → Gives r p cs
   unfolding stepsFrom runFrom replayAnswers replayState
   gives r p front [] f = record {
-    answers = answers-by 0 recording (r .state) p (replayBy (r .state) p Ends) (end-step r p front f);
-    state = state-by 0 recording (r .state) p (replayBy (r .state) p Ends) (end-step r p front f);
+    answers = answers-by 0 recording (r .state) p (replayBy (r .state) p (markBy stop)) (stop-step r p front f) ∙ ap (λ (x : Says). x ∷ []) (stop-says (r .state) p);
+    state = state-by 0 recording (r .state) p (replayBy (r .state) p (markBy stop)) (stop-step r p front f) ∙ stop-state (r .state) p;
   }
   gives r p front (c ∷ cs) f = more (gives (stepOf r c) (placeAfter p (length (callBits c))) (front ++ callBits c) cs (from-next r p front c cs f))
     where
       more : Gives (stepOf r c) (placeAfter p (length (callBits c))) cs → Gives r p (c ∷ cs)
       more g = record {
         answers = answers-by (suc (length cs)) recording (r .state) p (replayBy (r .state) p (Makes c)) (call-step r p front c cs f)
-            ∙ ap (λ (l : List Says). saidAt (stepTo (r .state) c) ∷ l) (subst (λ (s : State). replayAnswers (suc (length cs)) recording s (placeAfter p (length (callBits c))) ≡ map saidAt (stepsFrom (stepOf r c) cs) ++ (ended ∷ [])) (step-state r c) (g .answers));
+            ∙ ap (λ (l : List Says). saidAt (stepTo (r .state) c) ∷ l) (subst (λ (s : State). replayAnswers (suc (length cs)) recording s (placeAfter p (length (callBits c))) ≡ map saidAt (stepsFrom (stepOf r c) cs) ++ (stopSays stop ∷ [])) (step-state r c) (g .answers));
         state = state-by (suc (length cs)) recording (r .state) p (replayBy (r .state) p (Makes c)) (call-step r p front c cs f)
             ∙ subst (λ (s : State). replayState (suc (length cs)) recording s (placeAfter p (length (callBits c))) ≡ runFrom (stepOf r c) cs .state) (step-state r c) (g .state);
       }
@@ -131,8 +149,19 @@ sheet-start S placed ok = ap (λ (r : ReadResult). startOf (r .set) .state) (rea
 pub replay-is-the-cabs : ReplayIsTheCabs
 unfolding ReplayIsTheCabs answersOf stepsOf runOf begin StartGives
 replay-is-the-cabs S placed ok calls can =
-    let g = gives (recordingOf calls) (padding calls) (padding-few calls) (begin S) firstPlace [] calls (record { formed = start-gives S placed; small = omega arith; at = refl; split = recording-bits calls; can = can }) in
+    let g = gives (recordingOf calls) (toBits 2 3 ++ zeros (padding calls)) ends (mark-end (padding calls) (padding-few calls)) (begin S) firstPlace [] calls (record { formed = start-gives S placed; small = omega arith; at = refl; split = recording-bits calls; can = can }) in
     record {
       answers = rw (sheet-start S placed ok) (g .answers);
       state = rw (sheet-start S placed ok) (g .state);
     }
+
+-- ---- any recording, from any sheet
+
+pub any-recording : AnyRecording
+unfolding AnyRecording AllStepsStand ReadPlaced answersOf stepsOf runOf begin StartGives replayStart
+any-recording sheet recording =
+    let l = all-steps-stand recording in
+    let x : Set = readOf sheet .set in
+    let g = gives recording (l .rest) (tapeOf recording .stop) (l .stop) (begin x) firstPlace [] (tapeOf recording .calls)
+    (record { formed = start-gives x (read-placed sheet); small = omega arith; at = refl; split = l .whole; can = l .can }) in
+    record { answers = g .answers; state = g .state }

@@ -17,6 +17,7 @@ use Rattle.rules.specs.declared.Call.the-variants.{Posts, Units}
 use Rattle.rules.specs.declared.Mark.{Mark}
 use Rattle.rules.specs.declared.Mark.the-variants.{Makes, Ends}
 use Rattle.rules.specs.Sheet.{isZero}
+use Rattle.record_call.proofs.Widths.{call-bits, calls-bits}
 use Rattle.rules.specs.Recordings.{callKind, streamField, callBits, recordable, recordingOf, endMark, postMark, kindMark, markOf}
 
 -- ---- a call's bits say the call
@@ -55,16 +56,6 @@ mark-end pad h =
     (rw (lt-ltb (length (zeros pad)) 8 (omega (arith, length-replicate {A = ℕ} pad 0)), zeros-zero pad))
 
 -- ---- the bits of a recording
-
-call-bits : (c : Call) → AreBits (callBits c)
-unfolding callBits
-call-bits (Posts k) = all-append IsBit (toBits 2 0) (toBits 4 k) (toBits-bits 2 0) (toBits-bits 4 k)
-call-bits (Units done) = all-append IsBit (toBits 2 (cond done 2 1)) [] (toBits-bits 2 (cond done 2 1)) tt
-
-pub calls-bits : (cs : List Call) → AreBits (flat callBits cs)
-unfolding flat
-calls-bits [] = tt
-calls-bits (c ∷ cs) = all-append IsBit (callBits c) (flat callBits cs) (call-bits c) (calls-bits cs)
 
 abbrev pub padding : List Call → ℕ
 padding calls = padOf (length (flat callBits calls ++ toBits 2 3))

@@ -5,7 +5,7 @@ use native.Mathlib.Omega.{arith}
 use mathlib.Core.Bool.{Bool, true, false, cond, _&&_}
 use mathlib.Core.List.{List, [], _∷_, _++_, append-assoc, append-nil}
 use mathlib.Core.Path.{_≡_, refl, ap, ap₂, sym, subst, _∙_}
-use borrow.Author.Tests.{leb-true, ltb-true, eqb-true}
+use borrow.Author.Tests.{leb-true, ltb-true, lt-ltb, eqb-true}
 use lib.Dec.{ltb, leb}
 use lib.ListN.{length, take, drop, length-append}
 use lib.Seq.{drop-at}
@@ -21,9 +21,10 @@ use Rattle.rules.specs.declared.Call.the-variants.{Posts, Units}
 use Rattle.rules.specs.declared.Refusal.{Refusal}
 use Rattle.rules.specs.declared.Refusal.the-variants.{StopsEarly, Trailing}
 use Rattle.rules.specs.Sheet.{isZero}
-use Rattle.rules.specs.Recordings.{endMark, postMark, kindMark, callBits, callKind, streamField, recordable, recordingOf, markOf, Tape, Stop, ends, behind, tapeBy, tapeFrom, tapeOf}
+use Rattle.rules.specs.Recordings.{endMark, postMark, kindMark, callBits, callKind, streamField, recordable, recordingOf, markOf, Tape, Stop, ends, refused, behind, tapeBy, tapeFrom, tapeOf}
 use Rattle.promise_replay.specs.Replays.{markBy, TapeBack, RecordingBack, AllStepsStand}
-use Rattle.promise_replay.proofs.Reading.{mark-call, mark-end, calls-bits, padding, padding-few, recording-bits}
+use Rattle.record_call.proofs.Widths.{calls-bits}
+use Rattle.promise_replay.proofs.Reading.{mark-call, mark-end, padding, padding-few, recording-bits}
 
 -- a call has at least two bits, so that there are fewer calls than bits
 call-some : (c : Call) → 2 ≤ length (callBits c)
@@ -35,31 +36,37 @@ unfolding flat
 calls-few [] = omega arith
 calls-few (c ∷ cs) = omega (arith, calls-few cs, call-some c, length-append (callBits c) (flat callBits cs))
 
-module _ (pad : ℕ) (few : pad < 8) where
-  abbrev end : List ℕ
-  end = toBits 2 3 ++ zeros pad
+-- behind calls, bits that stop
+pub tape-from : (last : List ℕ) (stop : Stop) → markOf last ≡ markBy stop → (n : ℕ) (cs : List Call) → all recordable cs ≡ true → length cs < n
+    → tapeFrom n (flat callBits cs ++ last) ≡ record { calls = cs; stop = stop }
+unfolding tapeFrom flat all
+tape-from last stop is zero cs can h = absurd (omega arith)
+tape-from last stop is (suc n) [] can h = ap (λ (m : Mark). tapeBy m (λ c. tapeFrom n (drop (length (callBits c)) last))) is ∙ stops stop
+  where
+    stops : (t : Stop) → tapeBy (markBy t) (λ c. tapeFrom n (drop (length (callBits c)) last)) ≡ record { calls = []; stop = t }
+    stops ends = refl
+    stops (refused why) = refl
+tape-from last stop is (suc n) (c ∷ cs) can h =
+    ap (λ (bs : List ℕ). tapeBy (markOf bs) (λ d. tapeFrom n (drop (length (callBits d)) bs))) (append-assoc (callBits c) (flat callBits cs) last)
+    ∙ rw (mark-call c (flat callBits cs ++ last) (and-parts (recordable c) (all recordable cs) can .0), drop-at (callBits c) (flat callBits cs ++ last) (length (callBits c)) refl)
+    (ap (behind c) (tape-from last stop is n cs (and-parts (recordable c) (all recordable cs) can .1) (omega arith)))
 
-  tape-from : (n : ℕ) (cs : List Call) → all recordable cs ≡ true → length cs < n → tapeFrom n (flat callBits cs ++ end) ≡ record { calls = cs; stop = ends }
-  unfolding tapeFrom flat all
-  tape-from zero cs can h = absurd (omega arith)
-  tape-from (suc n) [] can h = rw (mark-end pad few)
-  tape-from (suc n) (c ∷ cs) can h =
-      ap (λ (bs : List ℕ). tapeBy (markOf bs) (λ d. tapeFrom n (drop (length (callBits d)) bs))) (append-assoc (callBits c) (flat callBits cs) end)
-      ∙ rw (mark-call c (flat callBits cs ++ end) (and-parts (recordable c) (all recordable cs) can .0), drop-at (callBits c) (flat callBits cs ++ end) (length (callBits c)) refl)
-      (ap (behind c) (tape-from n cs (and-parts (recordable c) (all recordable cs) can .1) (omega arith)))
+pub tape-of : (recording : List ℕ) (cs : List Call) (last : List ℕ) (stop : Stop) → all recordable cs ≡ true → bits recording ≡ flat callBits cs ++ last → markOf last ≡ markBy stop
+    → tapeOf recording ≡ record { calls = cs; stop = stop }
+unfolding tapeOf
+tape-of recording cs last stop can e is =
+    ap (λ (bs : List ℕ). tapeFrom (suc (length bs)) bs) e
+    ∙ tape-from last stop is (suc (length (flat callBits cs ++ last))) cs can (omega (arith, calls-few cs, length-append (flat callBits cs) last))
 
 pub tape-back : TapeBack
-unfolding TapeBack tapeOf
-tape-back calls can =
-    ap₂ (λ (n : ℕ) (bs : List ℕ). tapeFrom (suc n) bs) (ap length (recording-bits calls)) (recording-bits calls)
-    ∙ tape-from (padding calls) (padding-few calls) (suc (length (flat callBits calls ++ (toBits 2 3 ++ zeros (padding calls))))) calls can
-    (omega (arith, calls-few calls, length-append (flat callBits calls) (toBits 2 3 ++ zeros (padding calls))))
+unfolding TapeBack
+tape-back calls can = tape-of (recordingOf calls) calls (toBits 2 3 ++ zeros (padding calls)) ends can (recording-bits calls) (mark-end (padding calls) (padding-few calls))
 
 -- ---- back: what bits say
 
 -- a call in front, the end, or a refusal
 data Reads (bs : List ℕ) : Mark → Type 0 where
-  a-call : (c : Call) (rest : List ℕ) → bs ≡ callBits c ++ rest → Reads bs (Makes c)
+  a-call : (c : Call) (rest : List ℕ) → recordable c ≡ true → bs ≡ callBits c ++ rest → Reads bs (Makes c)
   the-end : (k : ℕ) → k < 8 → bs ≡ toBits 2 3 ++ zeros k → Reads bs Ends
   a-refusal : (why : Refusal) → Reads bs (Refused why)
 
@@ -74,13 +81,13 @@ module _ (bs rest : List ℕ) (bits-of : AreBits rest) where
   reads-post : bs ≡ toBits 2 0 ++ rest → Reads bs (postMark rest)
   unfolding callBits
   reads-post e = by-test (leb 4 (length rest))
-      (λ y. rw y (a-call (Posts (value (take 4 rest))) (drop 4 rest)
+      (λ y. rw y (a-call (Posts (value (take 4 rest))) (drop 4 rest) (lt-ltb (value (take 4 rest)) 16 (taken-lt 4 rest bits-of (leb-true 4 (length rest) y)))
       (e ∙ ap (λ (l : List ℕ). toBits 2 0 ++ l) (sym (taken-split 4 rest bits-of (leb-true 4 (length rest) y))) ∙ sym (append-assoc (toBits 2 0) (toBits 4 (value (take 4 rest))) (drop 4 rest)))))
       (λ y. rw y (a-refusal StopsEarly))
 
   reads-unit : (done : Bool) → bs ≡ toBits 2 (cond done 2 1) ++ rest → Reads bs (Makes (Units done))
   unfolding callBits
-  reads-unit done e = a-call (Units done) rest (e ∙ ap (λ (l : List ℕ). l ++ rest) (sym (append-nil (toBits 2 (cond done 2 1)))))
+  reads-unit done e = a-call (Units done) rest refl (e ∙ ap (λ (l : List ℕ). l ++ rest) (sym (append-nil (toBits 2 (cond done 2 1)))))
 
   reads-end : bs ≡ toBits 2 3 ++ rest → Reads bs (endMark rest)
   reads-end e = by-test (ltb (length rest) 8 && all isZero rest)
@@ -107,6 +114,7 @@ record Left (n : ℕ) (bs : List ℕ) : Type 0 where
   rest : List ℕ
   whole : bs ≡ flat callBits (tapeFrom n bs .calls) ++ rest
   are-bits : AreBits rest
+  can : all recordable (tapeFrom n bs .calls) ≡ true
   stop : markOf rest ≡ markBy (tapeFrom n bs .stop)
 
 tail-bits : (xs ys : List ℕ) → AreBits (xs ++ ys) → AreBits ys
@@ -114,32 +122,33 @@ tail-bits [] ys h = h
 tail-bits (x ∷ xs) ys h = tail-bits xs ys (h .1)
 
 left : (n : ℕ) (bs : List ℕ) → AreBits bs → length bs < n → Left n bs
-unfolding tapeFrom flat
+unfolding tapeFrom flat all
 left zero bs h f = absurd (omega arith)
 left (suc n) bs h f = go (markOf bs) refl (reads bs h) (λ c rest e. left n rest (tail-bits (callBits c) rest (subst AreBits e h)) (omega (arith, ap length e, length-append (callBits c) rest, call-some c)))
   where
     go : (m : Mark) → markOf bs ≡ m → Reads bs m → ((c : Call) (rest : List ℕ) → bs ≡ callBits c ++ rest → Left n rest) → Left (suc n) bs
-    go m e (a-call c rest q) more = call-first c rest e q (more c rest q)
+    go m e (a-call c rest ok q) more = call-first c rest e ok q (more c rest q)
       where
-        call-first : (c : Call) (rest : List ℕ) → markOf bs ≡ Makes c → bs ≡ callBits c ++ rest → Left n rest → Left (suc n) bs
-        call-first c rest e q l =
+        call-first : (c : Call) (rest : List ℕ) → markOf bs ≡ Makes c → recordable c ≡ true → bs ≡ callBits c ++ rest → Left n rest → Left (suc n) bs
+        call-first c rest e ok q l =
             let d : drop (length (callBits c)) bs ≡ rest = ap (drop (length (callBits c))) q ∙ drop-at (callBits c) rest (length (callBits c)) refl in
             record {
               rest = l .rest;
               whole = q ∙ ap (λ (r : List ℕ). callBits c ++ r) (l .whole) ∙ sym (append-assoc (callBits c) (flat callBits (tapeFrom n rest .calls)) (l .rest)) ∙ rw (e, d);
               are-bits = l .are-bits;
+              can = rw (e, d) (rw (ok, l .can));
               stop = l .stop ∙ rw (e, d);
             }
-    go m e (the-end k small q) more = record { rest = bs; whole = rw e; are-bits = h; stop = e ∙ rw e }
-    go m e (a-refusal why) more = record { rest = bs; whole = rw e; are-bits = h; stop = e ∙ rw e }
+    go m e (the-end k small q) more = record { rest = bs; whole = rw e; are-bits = h; can = rw e; stop = e ∙ rw e }
+    go m e (a-refusal why) more = record { rest = bs; whole = rw e; are-bits = h; can = rw e; stop = e ∙ rw e }
 
 pub all-steps-stand : AllStepsStand
 unfolding AllStepsStand tapeOf
-all-steps-stand s = let l = left (suc (length (bits s))) (bits s) (bits-bits s) (omega arith) in record { rest = l .rest; whole = l .whole; stop = l .stop }
+all-steps-stand s = let l = left (suc (length (bits s))) (bits s) (bits-bits s) (omega arith) in record { rest = l .rest; whole = l .whole; can = l .can; stop = l .stop }
 
 -- a recording that ends
 ends-as : (bs : List ℕ) (m : Mark) → m ≡ Ends → Reads bs m → (k : ℕ) × (k < 8) × (bs ≡ toBits 2 3 ++ zeros k)
-ends-as bs m e (a-call c rest q) = absurd (let z : _≡_ {A = ℕ} 0 1 = cc in omega arith)
+ends-as bs m e (a-call c rest ok q) = absurd (let z : _≡_ {A = ℕ} 0 1 = cc in omega arith)
 ends-as bs m e (the-end k small q) = (k, small, q)
 ends-as bs m e (a-refusal why) = absurd (let z : _≡_ {A = ℕ} 0 1 = cc in omega arith)
 

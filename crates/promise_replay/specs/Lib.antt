@@ -1,1 +1,4 @@
 pub mod Replays
+pub mod Stops
+pub mod Recorder
+pub mod Prints

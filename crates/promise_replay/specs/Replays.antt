@@ -12,8 +12,8 @@ use Rattle.rules.specs.declared.Call.{Call}
 use Rattle.rules.specs.declared.Set.{Set}
 use Rattle.rules.specs.declared.State.{State}
 use Rattle.rules.specs.Streams.{Placed, valid}
-use Rattle.rules.specs.Sheet.{sheetOf}
-use Rattle.rules.specs.Numbers.{Says, ended}
+use Rattle.rules.specs.Sheet.{sheetOf, readOf}
+use Rattle.rules.specs.Numbers.{Says, number, ended, refused as refused-with}
 use Rattle.rules.specs.Runs.{runOf, answersOf}
 use Rattle.rules.specs.declared.Mark.{Mark}
 use Rattle.rules.specs.declared.Mark.the-variants.{Ends, Refused}
@@ -44,7 +44,22 @@ RecordingBack = (recording : List ℕ) → All IsByte recording → tapeOf recor
 pub record Stopped (recording : List ℕ) : Type 0 where
   pub rest : List ℕ
   pub whole : bits recording ≡ flat callBits (tapeOf recording .calls) ++ rest
+  pub can : all recordable (tapeOf recording .calls) ≡ true
   pub stop : markOf rest ≡ markBy (tapeOf recording .stop)
 
 unfoldable pub AllStepsStand : Type 0
 AllStepsStand = (recording : List ℕ) → Stopped recording
+
+-- what stops a replay, as it is said
+abbrev pub stopSays : Stop → Says
+stopSays ends = ended
+stopSays (refused why) = refused-with (number why)
+
+-- any recording, from any sheet: the cab's answers to the calls that it says, from the start of the sheet's set; then end, 13 or 14; and the cab's state
+pub record StepsAre (sheet recording : List ℕ) : Type 0 where
+  pub answers : replayAnswers (suc (length (tapeOf recording .calls))) recording (replayStart sheet .state) firstPlace
+      ≡ answersOf (readOf sheet .set) (tapeOf recording .calls) ++ (stopSays (tapeOf recording .stop) ∷ [])
+  pub state : replayState (suc (length (tapeOf recording .calls))) recording (replayStart sheet .state) firstPlace ≡ runOf (readOf sheet .set) (tapeOf recording .calls) .state
+
+unfoldable pub AnyRecording : Type 0
+AnyRecording = (sheet recording : List ℕ) → StepsAre sheet recording

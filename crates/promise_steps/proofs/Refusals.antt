@@ -13,7 +13,7 @@ use Rattle.rules.specs.declared.Call.the-variants.{Posts, Units}
 use Rattle.rules.specs.declared.PostAnswer.the-variants.{Posted}
 use Rattle.rules.specs.States.{wellFormed, taskOf, costOf, mostPending, lastClock}
 use Rattle.rules.specs.Steps.{newMessage, added, postOf, messageAt, placeOf, chooseOf, laxityOf, servedOf, emptyUnit, unitOf, callOf}
-use Rattle.rules.specs.Numbers.{Says, refused, refused-with-0, started, posted, none, runs, ran, done as finishes, cut, idle, gives, tuples, accept, late, overload, read, wrote, ended, postSays, chooseSays, unitSays}
+use Rattle.rules.specs.Numbers.{Says, refused, refused-with-0, started, posted, none, runs, ran, done as finishes, cut, idle, gives, tuples, accept, late, overload, read, wrote, ended, recorded, postSays, chooseSays, unitSays, callSays}
 use Rattle.promise_steps.specs.Refusals.{saysToPost, saysToUnit, Twelve, One, NotInSet, Two, AllPlacesTaken, Three, AtLastClock, Four, DoneWithNothing, RefusedSame}
 
 -- the number of a refusal, 0 of any other answer: two that say the same have the same
@@ -36,6 +36,7 @@ no-of overload = 0
 no-of read = 0
 no-of (wrote n) = 0
 no-of ended = 0
+no-of (recorded n) = 0
 
 -- ---- post: "Order: post 12, 1, 2."
 
@@ -228,3 +229,33 @@ pub refused-same : RefusedSame
 unfolding RefusedSame callOf
 refused-same s (Posts k) number e = post-same s k number e
 refused-same s (Units done) number e = unit-same s done number e
+
+-- ---- a call's refusals are those of document 01's table
+
+post-low : (s : State) (k : ℕ) → no-of (postSays (postOf s k .answer)) ≤ 12
+unfolding postOf no-of
+post-low s k =
+    by-test (wellFormed s)
+    (λ w. by-test (ltb k (s .set .count))
+    (λ i. by-test (ltb (s .count) mostPending) (λ f. rw (w, i, f) (omega arith)) (λ f. rw (w, i, f) (omega arith)))
+    (λ i. rw (w, i) (omega arith)))
+    (λ w. rw w (omega arith))
+
+empty-low : (s : State) (done : Bool) → no-of (unitSays (emptyUnit s done .answer)) ≤ 12
+unfolding emptyUnit no-of
+empty-low s true = omega arith
+empty-low s false = omega arith
+
+unit-low : (s : State) (done : Bool) → no-of (unitSays (unitOf s done .answer)) ≤ 12
+unfolding unitOf no-of
+unit-low s done =
+    by-test (wellFormed s)
+    (λ w. by-test (ltb (s .clock) lastClock)
+    (λ i. by-test (eqb (s .count) 0) (λ z. rw (w, i, z) (empty-low s done)) (λ z. rw (w, i, z) (omega (arith, served-says s (placeOf s) done))))
+    (λ i. rw (w, i) (omega arith)))
+    (λ w. rw w (omega arith))
+
+pub call-low : (s : State) (c : Call) (number : ℕ) → callSays (callOf s c .answer) ≡ refused number → number ≤ 12
+unfolding callOf no-of
+call-low s (Posts k) number e = omega (arith, post-low s k, ap no-of e)
+call-low s (Units done) number e = omega (arith, unit-low s done, ap no-of e)

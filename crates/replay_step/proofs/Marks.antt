@@ -34,7 +34,9 @@ use Rattle.bits.specs.declared.Gathered.{Gathered}
 use Rattle.bits.specs.declared.Taken.{Taken}
 use Rattle.bits.specs.declared.Taken.the-variants.{Field, Missing, TooWide}
 use Rattle.bits.specs.Places.{fieldAt, gatherOf, gotOf, takeOf}
-use Rattle.replay_step.specs.Places.{place, Behind}
+use Rattle.record_call.specs.Places.{place}
+use Rattle.record_call.proofs.Widths.{Inside, inside}
+use Rattle.replay_step.specs.Steps.{Behind}
 
 -- ---- bits that stand for 0 are zero bits
 
@@ -153,32 +155,7 @@ unfolding markOf
 makes-two bs c e = by-test (leb 2 (length bs)) (λ y. leb-true 2 (length bs) y)
     (λ y. let q : Refused StopsEarly ≡ Makes c = rw y at e in absurd (let z : _≡_ {A = ℕ} 0 1 = cc in omega arith))
 
--- ---- the width of a call, and the place behind it
-
-pub width-post : (c : Call) (k : ℕ) → c ≡ Posts k → 6 ≡ length (callBits c)
-unfolding callBits
-width-post c k e = rw e (sym (length-append (toBits 2 0) (toBits 4 k) ∙ ap₂ _+_ (toBits-length 2 0) (toBits-length 4 k)))
-
-pub width-unit : (c : Call) (done : Bool) → c ≡ Units done → 2 ≡ length (callBits c)
-unfolding callBits
-width-unit c done e = rw e (sym (length-append (toBits 2 (cond done 2 1)) [] ∙ ap (λ (n : ℕ). n + 0) (toBits-length 2 (cond done 2 1))))
-
-pub call-width : (c : Call) → length (callBits c) ≤ 6
-call-width (Posts k) = omega (arith, width-post (Posts k) k refl)
-call-width (Units done) = omega (arith, width-unit (Units done) done refl)
-
 -- ---- the place
-
-pub record Inside (s : List ℕ) (byte bit : ℕ) : Type 0 where
-  pub byte-in : byte ≤ length s
-  pub bit-in : bit < 8
-
-pub inside : (s : List ℕ) (byte bit : ℕ) → placeIn s (place byte bit) ≡ true → Inside s byte bit
-unfolding placeIn
-inside s byte bit e =
-    let a = and-parts (leb byte (length s)) (ltb bit 8 && (ltb byte (length s) || eqb bit 0)) e in
-    let b = and-parts (ltb bit 8) (ltb byte (length s) || eqb bit 0) (a .1) in
-    record { byte-in = leb-true byte (length s) (a .0); bit-in = ltb-true bit 8 (b .0) }
 
 pub inside-by : (s : List ℕ) (byte bit : ℕ) (a b : Bool) → b ≡ placeIn s (place byte bit) → (a && b) ≡ true → Inside s byte bit
 inside-by s byte bit a b e g = inside s byte bit (sym e ∙ and-parts a b g .1)

@@ -4,8 +4,9 @@ ghost use mathlib.Core.List.{_++_};
 ghost use Prim.Native.Nat.{_+_, _≤_, _<_, _^_};
 ghost use lib.ListN.{length, drop};
 ghost use Rattle.laws.specs.Bits.{bits};
-ghost use Rattle.rules.specs.Recordings.{Place, callBits, placeIn, bitAt, placeAfter, endMark, postMark, kindMark, markOf, replayStep, replayStart};
-ghost use Rattle.replay_step.specs.Places.{place, Behind};
+ghost use Rattle.rules.specs.Recordings.{Place, bitAt, placeAfter, endMark, postMark, kindMark, markOf, replayStep, replayStart};
+ghost use Rattle.record_call.specs.Places.{place};
+ghost use Rattle.replay_step.specs.Steps.{Behind};
 use bits::Taken;
 use rules::Call;
 use rules::Mark;
@@ -15,24 +16,6 @@ use rules::ReplayAnswer;
 use rules::ReplayResult;
 use rules::ReplayStart;
 use rules::State;
-
-// Is the place in the recording? Behind the last byte only bit 0 is one.
-pub fn place_in(recording: &[u8], byte: usize, bit: u32) -> bool
-    ensures { λ r. ⌜ r ≡ placeIn (now (recording .entry)) (place byte bit) ⌝ }
-{
-    let n = recording.len();
-    (byte <= n) & ((bit < 8) & ((byte < n) | (bit == 0)))
-}
-
-// How many bits a call has in a recording.
-fn width(c: Call) -> u32
-    ensures { λ r. ⌜ r ≡ length (callBits c) ⌝ }
-{
-    match c {
-        Call::Posts(_) => 6,
-        Call::Units(_) => 2,
-    }
-}
 
 // ---- what the bits at a place say
 
@@ -106,7 +89,7 @@ fn made(s: State, c: Call, byte: usize, bit: u32) -> ReplayResult
     requires { ⌜ (bit < 8) × (byte + 1 < 2 ^ 64) ⌝ }
     ensures { λ r. ⌜ r ≡ Behind s c (place byte bit) ⌝ }
 {
-    let n = bit + width(c);
+    let n = bit + record_call::width(c);
     let q = scheduler::call(s, c);
     let said = q.answer;
     let next = q.state;
@@ -123,7 +106,7 @@ pub fn step(recording: &[u8], byte: usize, bit: u32, s: State) -> ReplayResult
     ensures { λ r. ⌜ r ≡ replayStep s (now (recording .entry)) (place byte bit) ⌝ }
 {
     let formed = state_formed::well_formed(s);
-    let inside = place_in(recording, byte, bit);
+    let inside = record_call::place_in(recording, byte, bit);
     if !(formed & inside) {
         return standing(ReplayAnswer::Refused(Refusal::IllFormed), s, byte, bit);
     }

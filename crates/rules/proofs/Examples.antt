@@ -15,7 +15,7 @@ use Rattle.rules.specs.States.{messageOk, messagesOk, startedOnce, messa
 use Rattle.rules.specs.Steps.{startOf, postOf, taskDeadline, ahead, runningTask, startedAt, urgentAt, servedAt, placeOf, chooseOf, laxityOf, servedOf, emptyUnit, unitOf, callOf}
 use Rattle.rules.specs.Load.{costIn, due, has, blocksFor, blocking, demand, demandOf, streamLoad, load}
 use Rattle.rules.specs.Sheet.{streamOf, setOf, streamBits, sheetBits, sheetOf, readEnd, readTuples, readStream, readStreams, readBits, readOf, writeOf, bufferOf}
-use Rattle.rules.specs.Recordings.{callBits, recordingOf, placeIn, placeAfter, markOf, replayStep, replayStart, tapeFrom, tapeOf}
+use Rattle.rules.specs.Recordings.{callBits, recordingOf, placeIn, placeAfter, markOf, replayStep, replayStart, tapeFrom, tapeOf, written, appendOf, appendedTo, finishOf, finishedTo, recordOf, recordedTo}
 use Rattle.rules.specs.Runs.{acceptedOf, departuresOf, stepOf, begin, runFrom, runOf, stepsFrom, stepsOf, answersOf, missedNow, missedFrom, missedIn}
 
 -- a stream with one tuple
@@ -32,5 +32,5 @@ setB = setOf (stream 0 2 5 (each 20) ∷ stream 0 4 20 (each 20) ∷ stream 1 2 
 
 -- An example is computed: to unfold `computed` is to unfold every definition that it goes through.
 unfoldable pub computed : ℕ
-unfolding all any sum top count find remove flat scan firstBy toBits onto bits bytes pack tupleOk tuplesOk tupleUnused streamOk streamUnused valid events limit limitOf jitterOk jitterOf messageOk messagesOk startedOnce messageUnused wellFormed startOf postOf taskDeadline ahead runningTask startedAt urgentAt servedAt placeOf chooseOf laxityOf servedOf emptyUnit unitOf callOf costIn due has blocksFor blocking demand demandOf streamLoad load streamBits sheetBits sheetOf readEnd readTuples readStream readStreams readBits readOf writeOf bufferOf acceptedOf departuresOf stepOf begin runFrom runOf stepsFrom stepsOf answersOf missedNow missedFrom missedIn callBits recordingOf placeIn placeAfter markOf replayStep replayStart tapeFrom tapeOf
+unfolding all any sum top count find remove flat scan firstBy toBits onto bits bytes pack tupleOk tuplesOk tupleUnused streamOk streamUnused valid events limit limitOf jitterOk jitterOf messageOk messagesOk startedOnce messageUnused wellFormed startOf postOf taskDeadline ahead runningTask startedAt urgentAt servedAt placeOf chooseOf laxityOf servedOf emptyUnit unitOf callOf costIn due has blocksFor blocking demand demandOf streamLoad load streamBits sheetBits sheetOf readEnd readTuples readStream readStreams readBits readOf writeOf bufferOf acceptedOf departuresOf stepOf begin runFrom runOf stepsFrom stepsOf answersOf missedNow missedFrom missedIn callBits recordingOf placeIn placeAfter markOf replayStep replayStart tapeFrom tapeOf written appendOf appendedTo finishOf finishedTo recordOf recordedTo
 computed = 0

@@ -25,6 +25,8 @@ use Rattle.rules.specs.declared.ReadAnswer.{ReadAnswer}
 use Rattle.rules.specs.declared.ReadAnswer.the-variants.{Read, Refused as ReadRefused}
 use Rattle.rules.specs.declared.ReplayAnswer.{ReplayAnswer}
 use Rattle.rules.specs.declared.ReplayAnswer.the-variants.{Called, Ended, Refused as ReplayRefused}
+use Rattle.rules.specs.declared.RecordAnswer.{RecordAnswer}
+use Rattle.rules.specs.declared.RecordAnswer.the-variants.{Recorded, Refused as RecordRefused}
 use Rattle.rules.specs.declared.WriteAnswer.{WriteAnswer}
 use Rattle.rules.specs.declared.WriteAnswer.the-variants.{Wrote, Refused as WriteRefused}
 
@@ -65,6 +67,7 @@ pub data Says : Type 0 where
   read : Says
   wrote : (bytes : ℕ) → Says
   ended : Says
+  recorded : (bytes : ℕ) → Says
 
 abbrev pub startSays : StartAnswer → Says
 startSays Started = started
@@ -121,3 +124,7 @@ abbrev pub replaySays : ReplayAnswer → Says
 replaySays (Called a) = callSays a
 replaySays Ended = ended
 replaySays (ReplayRefused why) = refused (number why)
+
+abbrev pub recordSays : RecordAnswer → Says
+recordSays (Recorded n) = recorded n
+recordSays (RecordRefused why) = refused (number why)

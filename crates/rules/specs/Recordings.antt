@@ -6,12 +6,16 @@ use mathlib.Core.List.{List, [], _∷_, _++_}
 use lib.ListN.{length, take, drop}
 use lib.Dec.{ltb, leb, eqb}
 use Rattle.laws.specs.Lists.{every, all, flat}
-use Rattle.laws.specs.Bits.{toBits, value, bits, zeros, pack}
+use Rattle.laws.specs.Bits.{toBits, value, bits, zeros, bytesFor, bytes, pack}
 use Rattle.rules.specs.declared.State.{State}
 use Rattle.rules.specs.declared.Call.{Call}
 use Rattle.rules.specs.declared.Call.the-variants.{Posts, Units}
 use Rattle.rules.specs.declared.Refusal.{Refusal}
-use Rattle.rules.specs.declared.Refusal.the-variants.{IllFormed, StopsEarly, Trailing}
+use Rattle.rules.specs.declared.Refusal.the-variants.{NoStream, ShortBuffer, IllFormed, StopsEarly, Trailing}
+use Rattle.rules.specs.declared.AppendAnswer.{AppendAnswer}
+use Rattle.rules.specs.declared.AppendAnswer.the-variants.{Appended, Refused as NotAppended}
+use Rattle.rules.specs.declared.RecordAnswer.{RecordAnswer}
+use Rattle.rules.specs.declared.RecordAnswer.the-variants.{Recorded, Refused as NotRecorded}
 use Rattle.rules.specs.declared.Mark.{Mark}
 use Rattle.rules.specs.declared.Mark.the-variants.{Makes, Ends, Refused}
 use Rattle.rules.specs.declared.ReplayAnswer.{ReplayAnswer}
@@ -153,3 +157,61 @@ tapeFrom (suc n) bs = tapeBy (markOf bs) (λ c. tapeFrom n (drop (length (callBi
 -- of a whole recording: it has fewer calls than bits
 unfoldable pub tapeOf : List ℕ → Tape
 tapeOf recording = tapeFrom (suc (length (bits recording))) (bits recording)
+
+-- ---- the cab's recorder
+
+-- there is room for bits at a place of a buffer
+abbrev pub fits : List ℕ → Place → List ℕ → Bool
+fits buffer p bs = leb (bitAt p + length bs) (8 * length buffer)
+
+-- "only the bits that are written change"
+unfoldable pub written : List ℕ → Place → List ℕ → List ℕ
+written buffer p bs = bytes (length buffer) (take (bitAt p) (bits buffer) ++ bs ++ drop (bitAt p + length bs) (bits buffer))
+
+-- "append a call to a lent buffer at a place .. 11 where there is no room": before it 12 for a place that is not in the buffer,
+-- and 1 for a call to a stream that 4 bits cannot name, which "cannot be recorded, and the cab's answer to it was 1"
+unfoldable pub appendOf : List ℕ → Place → Call → AppendAnswer
+appendOf buffer p c =
+    cond (placeIn buffer p)
+    (cond (recordable c)
+    (cond (fits buffer p (callBits c))
+    (let q = placeAfter p (length (callBits c)) in Appended (q .byte) (q .bit))
+    (NotAppended ShortBuffer))
+    (NotAppended NoStream))
+    (NotAppended IllFormed)
+
+-- ".. the buffer unchanged"
+abbrev pub appendedBy : AppendAnswer → List ℕ → Place → Call → List ℕ
+appendedBy (Appended byte bit) buffer p c = written buffer p (callBits c)
+appendedBy (NotAppended why) buffer p c = buffer
+
+unfoldable pub appendedTo : List ℕ → Place → Call → List ℕ
+appendedTo buffer p c = appendedBy (appendOf buffer p c) buffer p c
+
+-- "finish it": end, then zero bits to the byte's end
+abbrev pub endBits : Place → List ℕ
+endBits p = toBits 2 3 ++ zeros (8 * bytesFor (p .bit + 2) - (p .bit + 2))
+
+unfoldable pub finishOf : List ℕ → Place → RecordAnswer
+finishOf buffer p =
+    cond (placeIn buffer p)
+    (cond (fits buffer p (endBits p)) (Recorded (p .byte + bytesFor (p .bit + 2))) (NotRecorded ShortBuffer))
+    (NotRecorded IllFormed)
+
+abbrev pub finishedBy : RecordAnswer → List ℕ → Place → List ℕ
+finishedBy (Recorded n) buffer p = written buffer p (endBits p)
+finishedBy (NotRecorded why) buffer p = buffer
+
+unfoldable pub finishedTo : List ℕ → Place → List ℕ
+finishedTo buffer p = finishedBy (finishOf buffer p) buffer p
+
+-- a whole recording: 11 for a buffer of too few bytes
+unfoldable pub recordOf : List Call → ℕ → RecordAnswer
+recordOf calls room = cond (leb (length (recordingOf calls)) room) (Recorded (length (recordingOf calls))) (NotRecorded ShortBuffer)
+
+abbrev pub recordedBy : RecordAnswer → List Call → List ℕ → List ℕ
+recordedBy (Recorded n) calls buffer = recordingOf calls ++ drop n buffer
+recordedBy (NotRecorded why) calls buffer = buffer
+
+unfoldable pub recordedTo : List Call → List ℕ → List ℕ
+recordedTo calls buffer = recordedBy (recordOf calls (length buffer)) calls buffer

@@ -192,3 +192,15 @@ pub struct ReplayStart {
     pub answer: ReadAnswer,
     pub state: State,
 }
+
+// What appending a call to a recording answers: the place behind it, or why it was not appended.
+pub enum AppendAnswer {
+    Appended(usize, u32),
+    Refused(Refusal),
+}
+
+pub enum RecordAnswer {
+    // bytes of the recording
+    Recorded(usize),
+    Refused(Refusal),
+}

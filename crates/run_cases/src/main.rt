@@ -1,4 +1,6 @@
 // Runs the stored cases: random sheets and traces, whose expected output the second program wrote.
+use case_io::Kind;
+
 fn main() {
-    trace_io::batch();
+    case_io::batch(Kind::Traces);
 }

@@ -4,13 +4,10 @@ ghost use mathlib.Core.Bool.{true, false};
 ghost use mathlib.Core.List.{_++_, []};
 ghost use Prim.Native.Nat.{_+_, _*_, _≤_};
 ghost use lib.ListN.{length, drop};
-ghost use Rattle.rules.specs.Numbers.{callSays};
 ghost use Rattle.line.specs.Line.{lineRoom, holding};
-ghost use Rattle.answer_words.specs.Words.{stepLine};
 ghost use Rattle.trace_steps.specs.Turns.{wasRead, tracingFrom, Beginning, going, nextTracing, nextText, tracingAfter, textAfter, tracingOn, textOn, Ending, PieceTraced};
 use line::Line;
 use rules::Call;
-use rules::CallAnswer;
 use rules::ReadAnswer;
 use rules::ReadResult;
 use rules::Refusal;
@@ -68,15 +65,6 @@ pub fn begin_trace(r: ReadResult) -> Turn
 
 // ---- a byte
 
-fn step_line(clock: u32, a: CallAnswer) -> Line
-    ensures { λ r. ⌜ r ≡ holding (stepLine clock (callSays a)) ⌝ }
-{
-    match a {
-        CallAnswer::ToPost(p) => answer_words::post_line(clock, p),
-        CallAnswer::ToUnit(u) => answer_words::unit_line(clock, u),
-    }
-}
-
 fn turn_at(state: State, line: Line) -> Turn
     ensures { λ r. ⌜ r ≡ record { tracing = going state false; line = line } ⌝ }
 {
@@ -95,7 +83,7 @@ fn stepped(s: State, c: Call) -> Turn
     let r = scheduler::call(s, c);
     let answer = r.answer;
     let state = r.state;
-    turn_at(state, step_line(clock, answer))
+    turn_at(state, answer_words::call_line(clock, answer))
 }
 
 fn refused(s: State) -> Turn

@@ -1,7 +1,7 @@
 -- `console_names::row_of` meets its contract.
 -- Assumes nothing.
 use mathlib.Core.Path.{ap, _∙_}
-use Rattle.console_names.specs.Rows.{setRow, stateRow, questionRow, rowOf}
+use Rattle.console_names.specs.Rows.{setRow, stateRow, questionRow, replayRow, rowOf}
 use borrow.Author.Needs.{needs}
 use Rattle.console_names.proofs.row_of.Statement.{statement}
 use Rattle.console_names.proofs.row_of.Tie as tie
@@ -18,14 +18,25 @@ state-row-requires c κs = search needs
 question-row-requires : tie.Need-question-row-requires
 question-row-requires c κs = search needs
 
+replay-row-requires : tie.Need-replay-row-requires
+replay-row-requires c κs = search needs
+
 returns : tie.Need-returns
 unfolding rowOf
 returns c =
-    let set = c .before .before in
-    c .question-row .ensures
-    ∙ ap (questionRow _) (c .before .state-row .ensures ∙ ap (stateRow _) (set .set-row .ensures ∙ ap (setRow _) (set .before .asks .ensures)))
+    let q = c .before in
+    let set = q .before .before in
+    c .replay-row .ensures
+    ∙ ap (replayRow _) (q .question-row .ensures
+    ∙ ap (questionRow _) (q .before .state-row .ensures ∙ ap (stateRow _) (set .set-row .ensures ∙ ap (setRow _) (set .before .asks .ensures))))
 
 pub row-of-spec : {M : Type 1} → statement M
 row-of-spec =
     tie.close
-    (tie.spec asks-requires set-row-requires state-row-requires question-row-requires returns)
+    (tie.spec
+    asks-requires
+    set-row-requires
+    state-row-requires
+    question-row-requires
+    replay-row-requires
+    returns)

@@ -32,10 +32,22 @@ enum-known-k-3 c = search needs
 question-step-requires : tie.Need-question-step-requires
 question-step-requires c κs = search needs
 
+enum-known-k-4 : tie.Need-enum-known-k-4
+enum-known-k-4 c = search needs
+
+replayed-step-requires : tie.Need-replayed-step-requires
+replayed-step-requires c κs = search needs
+
+enum-told-3 : tie.Need-enum-told-3
+enum-told-3 c = search needs
+
+record-step-requires : tie.Need-record-step-requires
+record-step-requires c κs = search needs
+
 returns : tie.Need-returns
 returns c =
-    let a = c .before .before .before .before .args in
-    nothing-step (a .d) (a .n) (a .bytes .now) (a .out .now) (a .at) (a .k) (c .enum-told .given .1)
+    let a = c .before .before .before .before .before .args in
+    nothing-step (a .d) (a .n) (a .text .now) (a .out .now) (a .at) (a .k) (c .enum-told .given .1)
 
 same-length : tie.Need-same-length
 same-length c = search needs
@@ -43,8 +55,8 @@ same-length c = search needs
 returns-2 : tie.Need-returns-2
 returns-2 c =
     let e = c .before .before .before .before in
-    let a = e .before .before .before .before .args in
-    by-command (a .d) (a .n) (a .bytes .now) (a .out .now) (a .at) (a .k) _ _ _ (e .enum-told2 .given .1) (c .before .before .unknown-step .ensures)
+    let a = e .before .before .before .before .before .args in
+    by-command (a .d) (a .n) (a .text .now) (a .out .now) (a .at) (a .k) _ _ _ (e .enum-told2 .given .1) (c .before .before .unknown-step .ensures)
 
 same-length-2 : tie.Need-same-length-2
 same-length-2 c = search needs
@@ -52,8 +64,8 @@ same-length-2 c = search needs
 returns-3 : tie.Need-returns-3
 returns-3 c =
     let e = c .before .before .before .before .before in
-    let a = e .before .before .before .before .args in
-    by-command (a .d) (a .n) (a .bytes .now) (a .out .now) (a .at) (a .k) _ _ _ (e .k .given .1) (c .before .before .set-step .ensures)
+    let a = e .before .before .before .before .before .args in
+    by-command (a .d) (a .n) (a .text .now) (a .out .now) (a .at) (a .k) _ _ _ (e .k .given .1) (c .before .before .set-step .ensures)
 
 same-length-3 : tie.Need-same-length-3
 same-length-3 c = search needs
@@ -61,8 +73,8 @@ same-length-3 c = search needs
 returns-4 : tie.Need-returns-4
 returns-4 c =
     let e = c .before .before .before .before .before in
-    let a = e .before .before .before .before .args in
-    by-command (a .d) (a .n) (a .bytes .now) (a .out .now) (a .at) (a .k) _ _ _ (e .k2 .given .1) (c .before .before .state-step .ensures)
+    let a = e .before .before .before .before .before .args in
+    by-command (a .d) (a .n) (a .text .now) (a .out .now) (a .at) (a .k) _ _ _ (e .k2 .given .1) (c .before .before .state-step .ensures)
 
 same-length-4 : tie.Need-same-length-4
 same-length-4 c = search needs
@@ -70,8 +82,26 @@ same-length-4 c = search needs
 returns-5 : tie.Need-returns-5
 returns-5 c =
     let e = c .before .before .before .before .before in
-    let a = e .before .before .before .before .args in
-    by-command (a .d) (a .n) (a .bytes .now) (a .out .now) (a .at) (a .k) _ _ _ (e .k3 .given .1) (c .before .before .question-step .ensures)
+    let a = e .before .before .before .before .before .args in
+    by-command (a .d) (a .n) (a .text .now) (a .out .now) (a .at) (a .k) _ _ _ (e .k3 .given .1) (c .before .before .question-step .ensures)
+
+same-length-5 : tie.Need-same-length-5
+same-length-5 c = search needs
+
+returns-6 : tie.Need-returns-6
+returns-6 c =
+    let e = c .before .before .before .before .before in
+    let a = e .before .before .before .before .before .args in
+    by-command (a .d) (a .n) (a .text .now) (a .out .now) (a .at) (a .k) _ _ _ (e .k4 .given .1) (c .before .before .replayed-step .ensures)
+
+same-length-6 : tie.Need-same-length-6
+same-length-6 c = search needs
+
+returns-7 : tie.Need-returns-7
+returns-7 c =
+    let e = c .before .before .before .before in
+    let a = e .before .before .before .before .before .args in
+    by-command (a .d) (a .n) (a .text .now) (a .out .now) (a .at) (a .k) _ _ _ (e .enum-told3 .given .1) (c .before .before .record-step .ensures)
 
 pub command-step-spec : {M : Type 1} → statement M
 command-step-spec =
@@ -86,6 +116,10 @@ command-step-spec =
     state-step-requires
     enum-known-k-3
     question-step-requires
+    enum-known-k-4
+    replayed-step-requires
+    enum-told-3
+    record-step-requires
     returns
     same-length
     returns-2
@@ -94,4 +128,8 @@ command-step-spec =
     same-length-3
     returns-4
     same-length-4
-    returns-5)
+    returns-5
+    same-length-5
+    returns-6
+    same-length-6
+    returns-7)

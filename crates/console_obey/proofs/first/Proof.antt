@@ -11,8 +11,11 @@ empty-set-requires c κs = search needs
 start-requires : tie.Need-start-requires
 start-requires c κs = search needs
 
+first-requires : tie.Need-first-requires
+first-requires c κs = search needs
+
 returns : tie.Need-returns
-returns c = begun _ _ (c .before .before .empty-set .ensures) (c .before .start .ensures)
+returns c = begun _ _ _ (c .before .before .before .empty-set .ensures) (c .before .before .start .ensures) (c .first .ensures)
 
 pub first-spec : {M : Type 1} → statement M
-first-spec = tie.close (tie.spec empty-set-requires start-requires returns)
+first-spec = tie.close (tie.spec empty-set-requires start-requires first-requires returns)

@@ -15,7 +15,7 @@ returns : tie.Need-returns
 returns c =
     let s = c .before .before .before .before .before .before in
     let a = s .args in
-    question-step (a .d) (a .n) (a .bytes .now) (a .out .now) (a .at) _ _ (a .q) (s .pre) (c .before .before .ask .ensures)
+    question-step (a .d) (a .n) (a .text .now) (a .out .now) (a .at) _ _ (a .q) (s .pre) (c .before .before .ask .ensures)
 
 pub question-step-spec : {M : Type 1} → statement M
 question-step-spec = tie.close (tie.spec ask-requires same-length returns)

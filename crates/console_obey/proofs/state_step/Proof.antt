@@ -16,8 +16,9 @@ same-length c = search needs
 
 returns : tie.Need-returns
 returns c =
-    let a = c .before .before .before .before .before .before .before .before .before .args in
-    state-step (a .d) (a .n) (a .bytes .now) (a .out .now) (a .at) _ _ (a .k) _ (c .before .before .before .before .before .before .after .ensures) (c .before .before .append .ensures)
+    let f = c .before .before .before .before .before .before .before in
+    let a = f .before .before .before .args in
+    state-step (a .d) (a .n) (a .text .now) (a .out .now) (a .at) _ _ (a .k) _ (f .after .ensures) (c .before .before .append .ensures)
 
 pub state-step-spec : {M : Type 1} → statement M
 state-step-spec = tie.close (tie.spec after-requires append-requires same-length returns)

@@ -17,7 +17,7 @@ same-length c = search needs
 returns : tie.Need-returns
 returns c =
     let a = c .before .before .before .before .before .before .before .args in
-    unknown-step (a .d) (a .n) (a .bytes .now) (a .out .now) (a .at) _ _ _ (c .before .before .before .unknown-line .ensures) (c .before .before .append .ensures)
+    unknown-step (a .d) (a .n) (a .text .now) (a .out .now) (a .at) _ _ _ (c .before .before .before .unknown-line .ensures) (c .before .before .append .ensures)
 
 pub unknown-step-spec : {M : Type 1} → statement M
 unknown-step-spec = tie.close (tie.spec unknown-line-requires append-requires same-length returns)

@@ -3,7 +3,8 @@ use borrow.Author.Needs.{needs}
 use native.Mathlib.Omega.{arith}
 use mathlib.Core.Path.{_≡_, ap, _∙_}
 use Prim.Native.Nat.{ℕ, _+_}
-use Rattle.replay_step.proofs.Marks.{call-width, behind-is}
+use Rattle.record_call.proofs.Widths.{call-width}
+use Rattle.replay_step.proofs.Marks.{behind-is}
 use Rattle.replay_step.proofs.made.Statement.{statement}
 use Rattle.replay_step.proofs.made.Tie as tie
 

@@ -5,7 +5,7 @@ use borrow.Author.Tests.{not-true, not-false}
 use mathlib.Core.Path.{_≡_, ap, sym, _∙_}
 use Rattle.rules.specs.declared.Mark.{Mark}
 use Rattle.rules.specs.Recordings.{replayBy}
-use Rattle.replay_step.specs.Places.{place}
+use Rattle.record_call.specs.Places.{place}
 use Rattle.replay_step.proofs.Marks.{inside-by, byte-there, no-step, a-step}
 use Rattle.replay_step.proofs.step.Statement.{statement}
 use Rattle.replay_step.proofs.step.Tie as tie

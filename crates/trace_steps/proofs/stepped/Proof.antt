@@ -8,14 +8,14 @@ use Rattle.trace_steps.proofs.stepped.Tie as tie
 call-requires : tie.Need-call-requires
 call-requires c κs = search needs
 
-step-line-requires : tie.Need-step-line-requires
-step-line-requires c κs = search needs
+call-line-requires : tie.Need-call-line-requires
+call-line-requires c κs = search needs
 
 turn-at-requires : tie.Need-turn-at-requires
 turn-at-requires c κs = search needs
 
 returns : tie.Need-returns
-returns c = step-turn _ _ _ _ _ (c .before .before .before .call .ensures) (c .before .step-line .ensures) (c .turn-at .ensures)
+returns c = step-turn _ _ _ _ _ (c .before .before .before .call .ensures) (c .before .call-line .ensures) (c .turn-at .ensures)
 
 pub stepped-spec : {M : Type 1} → statement M
-stepped-spec = tie.close (tie.spec call-requires step-line-requires turn-at-requires returns)
+stepped-spec = tie.close (tie.spec call-requires call-line-requires turn-at-requires returns)

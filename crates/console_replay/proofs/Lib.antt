@@ -1,0 +1,4 @@
+pub mod Loads
+pub mod Replays
+pub mod Records
+pub mod Once

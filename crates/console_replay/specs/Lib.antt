@@ -1,0 +1,2 @@
+pub mod ReplayCommands
+pub mod Records

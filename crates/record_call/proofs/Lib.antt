@@ -1,0 +1,5 @@
+pub mod Widths
+pub mod Written
+pub mod Putting
+pub mod Appending
+pub mod Finishing

@@ -1,0 +1,2 @@
+-- Where the office reader stands after a step. Assumes nothing.
+pub mod Standing

@@ -1,0 +1,2 @@
+-- The office reader. Assumes nothing.
+pub mod Readers
