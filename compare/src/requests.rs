@@ -4,7 +4,7 @@
 
 /// The requests of document 02 that are in force: all up to this number. A request's landing
 /// raises it.
-pub const IN_FORCE: u32 = 1;
+pub const IN_FORCE: u32 = 2;
 
 /// The last request that is rendered here. Those above [`IN_FORCE`] wait for their landing.
 pub const RENDERED: u32 = JITTER_BOTH_WAYS;

@@ -1,6 +1,6 @@
 -- What a text reads as is a valid set.
 -- Assumes nothing.
-use Prim.Native.Nat.{ℕ, zero, suc, _+_, _-_, _≤_, _<_}
+use Prim.Native.Nat.{ℕ, zero, suc, _+_, _-_, _*_, _≤_, _<_}
 use native.Mathlib.Omega.{arith}
 use mathlib.Core.Path.{_≡_, refl, sym, ap, _∙_}
 use mathlib.Core.Bool.{Bool, true, false, cond, _&&_}
@@ -8,15 +8,18 @@ use mathlib.Core.List.{List, [], _∷_, _++_, append-nil}
 use lib.ListN.{length, drop, length-append}
 use lib.Seq.{append-snoc}
 use lib.Dec.{leb, ltb, eqb}
-use borrow.Author.Tests.{leb-true, ltb-true, eqb-false}
+use borrow.Author.Tests.{le-leb, leb-true, ltb-true, eqb-false}
 use Rattle.laws.specs.Lists.{All, within}
-use Rattle.laws.proofs.Sums.{and-parts}
+use Rattle.laws.proofs.Sums.{and-parts, every-all}
 use Rattle.laws.proofs.Fields.{all-append}
 use Rattle.rules.specs.declared.Tuple.{Tuple}
 use Rattle.rules.specs.declared.Tuple.the-variants.{Once, Every}
 use Rattle.rules.specs.declared.TuplePlace.{TuplePlace}
 use Rattle.rules.specs.declared.Stream.{Stream}
-use Rattle.rules.specs.Streams.{offset, offsetAt}
+use Rattle.rules.specs.declared.JitterAnswer.{JitterAnswer}
+use Rattle.rules.specs.declared.JitterAnswer.the-variants.{Tuples, Refused as NoTuples}
+use Rattle.rules.specs.declared.Refusal.the-variants.{OutOfRule}
+use Rattle.rules.specs.Streams.{offset, offsetAt, jitterOk, jitterOf}
 use Rattle.rules.specs.Sheet.{streamOf, setOf}
 use Rattle.rules.specs.Valid.{Between, ValidCycle, ValidPlace}
 use Rattle.sheet_read.proofs.Filled.{cond-elim}
@@ -24,7 +27,7 @@ use Rattle.sheet_write.proofs.Back.{Chain}
 use Rattle.sheet_write.proofs.Accepted.{GoodStream, stream-four, stream-ok, set-ok, set-placed}
 use Rattle.ascii.specs.Decimal.{letters, readOn}
 use Rattle.text_line.specs.declared.Fault.{Fault}
-use Rattle.text_line.specs.declared.Fault.the-variants.{NotTask, Task, NotCost, Cost, NotDeadline, Deadline, NotTuple, Cycle, Offset, FiveTuples, LongLine, ManyStreams}
+use Rattle.text_line.specs.declared.Fault.the-variants.{NotTask, Task, NotCost, Cost, NotDeadline, Deadline, NotTuple, Cycle, Offset, FiveTuples, NotJitter, Jitter, LongLine, ManyStreams}
 use Rattle.text_line.specs.declared.NumberRead.{NumberRead}
 use Rattle.text_line.specs.declared.NumberRead.the-variants.{Is, Missing, Outside}
 use Rattle.text_line.specs.declared.TupleRead.{TupleRead}
@@ -32,7 +35,7 @@ use Rattle.text_line.specs.declared.TupleRead.the-variants.{Is as IsTuple, Bad 
 use Rattle.text_line.specs.declared.Meaning.{Meaning}
 use Rattle.text_line.specs.declared.Meaning.the-variants.{Stream as IsStream, Nothing, Bad as BadLine}
 use Rattle.text_line.specs.declared.LineRead.{LineRead}
-use Rattle.text_line.specs.Lines.{digits, startsAt, endedAt, numberAt, fieldAt, byField, byTuple, everyAt, tupleAt, isStream, bad, added, opened, finished, tuplesAt, deadlineAt, costAt, lineRead}
+use Rattle.text_line.specs.Lines.{digits, startsAt, endedAt, numberAt, fieldAt, byField, byTuple, everyAt, tupleAt, isStream, bad, added, opened, finished, tuplesAt, byJitter, alone, jitterSaid, eachWayAt, jitterAt, limitAt, deadlineAt, costAt, lineRead}
 use Rattle.text_line.specs.Lines as lines
 use Rattle.text_tidy.specs.Tidied.{tidied}
 use Rattle.text_read.specs.declared.Finding.the-variants.{Fine, Bad}
@@ -121,14 +124,44 @@ module _ (task cost d : ℕ) (t : task ≤ 15) (c : within 1 cost 65535 ≡ true
       (λ qs q. rw (append-snoc ts (record { tuple = u }) qs) (h (record { tuple = u } ∷ qs) (i, (record { offset = omega (arith, high-of low (offset u) high i); cycle = v }, q))))))
       at)
 
+  -- the two tuples of a jitter
+  both-end : (z a at : ℕ) → within 1 z 1000000 ≡ true → a ≤ 100000 → Good (alone (added (added (opened task cost d) (Once 0)) (Every z a)) l at)
+  both-end z a at h g =
+      let o : TuplePlace = record { tuple = Once 0 } in
+      let y : TuplePlace = record { tuple = Every z a } in
+      let two : added (added (opened task cost d) (Once 0)) (Every z a) ≡ streamOf task cost d (o ∷ (y ∷ [])) =
+      ap (λ (s : Stream). added s (Every z a)) (added-more task cost d [] o (omega arith)) ∙ added-more task cost d (o ∷ []) y (omega arith) in
+      let chain : Chain 0 0 (o ∷ (y ∷ [])) =
+      (refl, (record { offset = omega arith; cycle = tt }, (rw (le-leb 0 a (omega arith), le-leb a 100000 g), (record { offset = g; cycle = between 1 z 1000000 h }, tt)))) in
+      rw two (cond-elim Good (leb (length l) at) (isStream (streamOf task cost d (o ∷ (y ∷ [])))) (bad NotJitter) (λ e. ended (o ∷ (y ∷ [])) (omega arith) chain) (λ e. no-stream NotJitter))
+
+  jitter-ends : (z j at : ℕ) → Good (jitterSaid (opened task cost d) z j l at)
+  unfolding jitterSaid jitterOf jitterOk byJitter
+  jitter-ends z j at =
+      let next : Tuple → Tuple → LineRead = λ t u. alone (added (added (opened task cost d) t) u) l at in
+      cond-elim (λ (v : JitterAnswer). Good (byJitter v next)) (jitterOk z j) (Tuples (Once 0) (Every z (z - 2 * j))) (NoTuples OutOfRule)
+      (λ e. let u = every-all (within 1 z 1000000 ∷ leb (2 * j) z ∷ leb (z - 2 * j) 100000 ∷ []) e in
+      both-end z (z - 2 * j) at (u .0) (leb-true (z - 2 * j) 100000 (u .1 .1 .0)))
+      (λ e. no-stream Jitter)
+
+  limit-ends : (at : ℕ) → Good (limitAt (opened task cost d) l at)
+  unfolding limitAt jitterAt eachWayAt
+  limit-ends at =
+      let s : Stream = opened task cost d in
+      cond-elim Good (startsAt (letters " jitter") l at) (jitterAt s l at) (tuplesAt 4 s 0 0 l at)
+      (λ e. field-ends Good (bad NotJitter) (bad Jitter) (λ z end. eachWayAt s z l end) (letters " jitter ") 0 4294967295 l at (no-stream NotJitter) (no-stream Jitter)
+      (λ z end h. field-ends Good (bad NotJitter) (bad Jitter) (λ j last. jitterSaid s z j l last) (letters " ") 0 4294967295 l end (no-stream NotJitter) (no-stream Jitter)
+      (λ j last g. jitter-ends z j last)))
+      (λ e. tuples-end 4 [] 0 0 at (omega arith) (omega arith) (λ qs q. q))
+
 task-ends : (l : List ℕ) → Good (lineRead l)
 unfolding lineRead costAt deadlineAt
 task-ends l =
     cond-elim Good (eqb (length l) 0) (record { said = Nothing; stream = _ }) _ (λ e s. nothing s)
     (λ e. field-ends Good (bad NotTask) (bad Task) (λ task end. costAt task l end) (letters "task ") 0 15 l 0 (no-stream NotTask) (no-stream Task)
     (λ task end t. field-ends Good (bad NotCost) (bad Cost) (λ cost last. deadlineAt task cost l last) (letters " cost ") 1 65535 l end (no-stream NotCost) (no-stream Cost)
-    (λ cost last c. field-ends Good (bad NotDeadline) (bad Deadline) (λ d from. tuplesAt 4 (opened task cost d) 0 0 l from) (letters " deadline ") 1 200000 l last (no-stream NotDeadline) (no-stream Deadline)
-    (λ d from f. tuples-end task cost d (high-of 0 task 15 t) c f l 4 [] 0 0 from (omega arith) (omega arith) (λ qs q. q)))))
+    (λ cost last c. field-ends Good (bad NotDeadline) (bad Deadline) (λ d from. limitAt (opened task cost d) l from) (letters " deadline ") 1 200000 l last (no-stream NotDeadline) (no-stream Deadline)
+    (λ d from f. limit-ends task cost d (high-of 0 task 15 t) c f l from))))
   where
     nothing : {A : Type 0} → Nothing ≡ IsStream → A
     nothing s = let z : _≡_ {A = ℕ} 0 1 = cc in absurd (omega arith)

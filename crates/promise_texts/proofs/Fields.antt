@@ -57,7 +57,7 @@ unfolding same
 same-self [] = refl
 same-self (b ∷ v) = rw (eq-eqb b b refl) (same-self v)
 
-starts : (v p r m : List ℕ) → m ≡ p ++ (v ++ r) → startsAt v m (length p) ≡ true
+pub starts : (v p r m : List ℕ) → m ≡ p ++ (v ++ r) → startsAt v m (length p) ≡ true
 unfolding startsAt
 starts v p r m q =
     let room : length p + length v ≤ length m = omega (arith, ap length q, length-append p (v ++ r), length-append v r) in
@@ -80,10 +80,15 @@ module _ (low high n : ℕ) (rest : List ℕ) (stop : digits rest ≡ []) (from 
       rw (starts w pre (decimalOf n ++ rest) l e, ← size, whole) (number-here (pre ++ w) l (e ∙ sym (append-assoc pre w (decimalOf n ++ rest))))
 
 -- a word that differs from what stands there
-pub field-not : (w : List ℕ) (low high : ℕ) (pre r l : List ℕ) → l ≡ pre ++ r → same (take (length w) r) w ≡ false → fieldAt w low high l (length pre) ≡ Missing
-unfolding fieldAt startsAt
-field-not w low high pre r l e h = rw (e, drop-append-seam pre r, h, never (leb (length pre + length w) (length (pre ++ r))))
-  where
-    never : (t : Bool) → (t && false) ≡ false
-    never true = refl
-    never false = refl
+module _ (w pre r l : List ℕ) (e : l ≡ pre ++ r) (h : same (take (length w) r) w ≡ false) where
+  pub starts-not : startsAt w l (length pre) ≡ false
+  unfolding startsAt
+  starts-not = rw (e, drop-append-seam pre r, h, never (leb (length pre + length w) (length (pre ++ r))))
+    where
+      never : (t : Bool) → (t && false) ≡ false
+      never true = refl
+      never false = refl
+
+  pub field-not : (low high : ℕ) → fieldAt w low high l (length pre) ≡ Missing
+  unfolding fieldAt
+  field-not low high = rw starts-not

@@ -23,10 +23,10 @@ use Rattle.sheet_write.proofs.Whole.{stream-holds, whole-stream}
 use Rattle.ascii.specs.Decimal.{letters, decimalOf}
 use Rattle.ascii.specs.Same.{same}
 use Rattle.text_line.specs.declared.TupleRead.the-variants.{Is as IsTuple}
-use Rattle.text_line.specs.Lines.{lead, digits, tupleText, placeText, streamText, byField, byTuple, everyAt, tupleAt, tuplesAt, added, deadlineAt, costAt, lineRead, isStream}
+use Rattle.text_line.specs.Lines.{lead, digits, tupleText, placeText, streamText, byField, byTuple, everyAt, tupleAt, tuplesAt, added, limitAt, deadlineAt, costAt, lineRead, isStream}
 use Rattle.text_line.specs.Lines as lines
 use Rattle.promise_texts.specs.Returns.{LineReturns}
-use Rattle.promise_texts.proofs.Fields.{field-here, field-not}
+use Rattle.promise_texts.proofs.Fields.{field-here, starts-not, field-not}
 
 -- ---- a tuple
 
@@ -46,7 +46,7 @@ module _ (low high : ℕ) (rest : List ℕ) (stop : digits rest ≡ []) (small :
       let behind : l ≡ from ++ once = here ∙ simp append-assoc in
       let end : from ++ (letters "@" ++ decimalOf a) ≡ pre ++ tupleText (Every z a) = simp append-assoc in
       rw (
-        field-not (letters " once@") low high pre (letters " every " ++ (decimalOf z ++ once)) l here refl,
+        field-not (letters " once@") pre (letters " every " ++ (decimalOf z ++ once)) l here refl low high,
         field-here 1 1000000 z once (at-sign a rest) (c .low) (c .high) (omega (arith, c .high)) (letters " every ") pre l here,
         field-here low high a rest stop h g (omega arith) (letters "@") from l behind,
         end,
@@ -61,6 +61,16 @@ no-digit [] = refl
 no-digit (p ∷ ts) = first (p .tuple)
   where
     first : (t : Tuple) → digits (tupleText t ++ flat placeText ts) ≡ []
+    first (Once a) = refl
+    first (Every z a) = refl
+
+-- nor does it begin with a jitter
+no-jitter : (ts : List TuplePlace) → same (take 7 (flat placeText ts)) (letters " jitter") ≡ false
+unfolding same flat
+no-jitter [] = refl
+no-jitter (p ∷ ts) = first (p .tuple)
+  where
+    first : (t : Tuple) → same (take 7 (tupleText t ++ flat placeText ts)) (letters " jitter") ≡ false
     first (Once a) = refl
     first (Every z a) = refl
 
@@ -128,7 +138,7 @@ first-zero [] f = tt
 first-zero (p ∷ ts) f = omega arith
 
 pub line-returns : LineReturns
-unfolding LineReturns streamText lineRead costAt deadlineAt byField lead tuplesOk
+unfolding LineReturns streamText lineRead costAt deadlineAt limitAt byField lead tuplesOk
 line-returns s four ok =
     let v : ValidStream s = valid-stream s ok in
     let A : List ℕ = letters "task " ++ decimalOf (s .task) in
@@ -143,6 +153,7 @@ line-returns s four ok =
       field-here 0 15 (s .task) (B ++ (C ++ D)) refl (omega arith) (v .task) (omega (arith, v .task)) (letters "task ") [] (streamText s) back,
       field-here 1 65535 (s .cost) (C ++ D) refl (v .cost .low) (v .cost .high) (omega (arith, v .cost .high)) (letters " cost ") A (streamText s) back,
       field-here 1 200000 (s .deadline) D (no-digit (tuplesOf s)) (v .deadline .low) (v .deadline .high) (omega (arith, v .deadline .high)) (letters " deadline ") (A ++ B) (streamText s) (append-assoc (A ++ B) C D),
+      starts-not (letters " jitter") ((A ++ B) ++ C) D (streamText s) refl (no-jitter (tuplesOf s)),
     )
     (tuples-here (s .task) (s .cost) (s .deadline) (streamText s) (tuplesOf s) [] 4 0 0 ((A ++ B) ++ C) (v .order) (first-zero (tuplesOf s) (v .first)) (omega arith) size (omega arith) (omega arith) refl
     ∙ ap isStream (whole-stream s (stream-holds s v four)))

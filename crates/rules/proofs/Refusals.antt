@@ -69,7 +69,7 @@ counts =
     ∷ countSays (demandOf badSet 5)
     ∷ jitterSays (jitterOf 0 0)
     ∷ jitterSays (jitterOf 1000001 1000001)
-    ∷ jitterSays (jitterOf 5 6)
+    ∷ jitterSays (jitterOf 10 6)
     ∷ jitterSays (jitterOf 100001 0)
     ∷ []
 

@@ -15,10 +15,10 @@ use Rattle.rules.specs.declared.ReadAnswer.the-variants.{Read}
 use Rattle.rules.specs.declared.ReadResult.{ReadResult}
 use Rattle.rules.specs.declared.CountAnswer.the-variants.{Number}
 use Rattle.rules.specs.declared.Verdict.{Verdict}
-use Rattle.rules.specs.Streams.{noTuple, emptySet, streamsOf}
+use Rattle.rules.specs.Streams.{noTuple, emptySet, streamsOf, jitterOf}
 use Rattle.rules.specs.Load.{demand, demandOf, greatestDeadline, streamOffset, greatestOffset, lastLength, VerdictOf}
 use Rattle.rules.specs.Sheet.{setOf, sheetOf, readOf}
-use Rattle.rules.specs.Numbers.{Says, countSays, gives, verdictSays, readSays, accept, late, overload, refused}
+use Rattle.rules.specs.Numbers.{Says, countSays, gives, verdictSays, readSays, jitterSays, accept, late, overload, refused, tuples}
 use Rattle.rules.proofs.Examples.{stream, each, setB, computed}
 use Rattle.rules.proofs.Valid.{valid-set}
 use Rattle.rules.proofs.Finite.{demand-more}
@@ -59,6 +59,7 @@ pub data Row : Type 0 where
   judged : Set → Says → Row
   sheet : Set → List ℕ → Row
   no-sheet : List ℕ → ℕ → Row
+  jittered : ℕ → ℕ → Says → Row
 
 -- a verdict on the set says what the row says
 pub record Judges (x : Set) (says : Says) : Type 0 where
@@ -81,6 +82,7 @@ True (demands-each x f) = (i : ℕ) → countSays (demandOf x i) ≡ gives (f i)
 True (judged x says) = Judges x says
 True (sheet x found) = Sheets x found
 True (no-sheet found n) = readSays (readOf found .answer) ≡ refused n
+True (jittered z j says) = jitterSays (jitterOf z j) ≡ says
 
 abbrev same : ℕ → ℕ
 same i = i
@@ -121,6 +123,18 @@ abbrev pub faults : List Row
 faults =
     demands lateAfter 5 4 ∷ judged lateAfter (late 6 12)
     ∷ no-sheet [] 5 ∷ no-sheet (0x10 ∷ []) 5 ∷ no-sheet (0x20 ∷ 0x00 ∷ []) 6 ∷ no-sheet (0x10 ∷ 0x01 ∷ []) 10 ∷ no-sheet (0x10 ∷ 0x00 ∷ 0x00 ∷ []) 10
+    ∷ []
+
+-- a cycle with jitter both ways: once at 0, and every z from the offset
+abbrev bothWays : ℕ → ℕ → Says
+bothWays z a = tuples (Once 0) (Every z a)
+
+-- request 2: "z - 2j"; 7 "when 2j is above z or z - 2j is above 100,000, and for z as before"
+abbrev pub jitters : List Row
+jitters =
+    jittered 20 2 (bothWays 20 16) ∷ jittered 20 10 (bothWays 20 0) ∷ jittered 20 11 (refused 7) ∷ jittered 21 10 (bothWays 21 1)
+    ∷ jittered 1000000 450000 (bothWays 1000000 100000) ∷ jittered 1000000 449999 (refused 7) ∷ jittered 1000000 4294967295 (refused 7)
+    ∷ jittered 0 0 (refused 7) ∷ jittered 1000001 450001 (refused 7)
     ∷ []
 
 -- ---- the tables are true
@@ -167,3 +181,7 @@ yard-true =
 pub faults-true : All True faults
 unfolding computed judge judgeBy judgeFrom hOf lastLength greatestDeadline greatestOffset streamOffset
 faults-true = refl and worked lateAfter (late 6 12) refl and refl and refl and refl and refl and refl and tt
+
+pub jitters-true : All True jitters
+unfolding computed
+jitters-true = refl and refl and refl and refl and refl and refl and refl and refl and refl and tt

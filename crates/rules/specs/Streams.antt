@@ -1,6 +1,6 @@
 -- Document 01, "Streams and sets".
 -- Assumes nothing.
-use Prim.Native.Nat.{ℕ, _+_, _-_, _/_}
+use Prim.Native.Nat.{ℕ, _+_, _-_, _*_, _/_}
 use mathlib.Core.Bool.{Bool, true, false, cond, _&&_, _||_}
 use mathlib.Core.List.{List, [], _∷_}
 use mathlib.Core.Path.{_≡_}
@@ -128,10 +128,12 @@ limit s i = sum (events i) (tuplesOf s)
 unfoldable pub limitOf : Set → ℕ → ℕ → CountAnswer
 limitOf x k i = cond (valid x && ltb k (x .count)) (Number (limit (streamAt x k) i)) (Refused OutOfRule)
 
--- "It is refused with 7 exactly if z is 0 or above 1,000,000, j is above z, or z - j is above 100,000; no tuples are then returned."
+-- "It is refused with 7 exactly if z is 0 or above 1,000,000 ..; no tuples are then returned."; document 02, request 2: "7 now when 2j is above z or
+-- z - 2j is above 100,000, and for z as before"
 unfoldable pub jitterOk : ℕ → ℕ → Bool
-jitterOk z j = every (within 1 z 1000000 ∷ leb j z ∷ leb (z - j) 100000 ∷ [])
+jitterOk z j = every (within 1 z 1000000 ∷ leb (2 * j) z ∷ leb (z - 2 * j) 100000 ∷ [])
 
--- "A jittered cycle (z, j) is written as once at 0, and every z from z - j."
+-- "A jittered cycle (z, j) is written as once at 0, and every z from ..": request 2: "comes early as well as late, by up to j each way ..
+-- has the second tuple start at z - 2j"
 unfoldable pub jitterOf : ℕ → ℕ → JitterAnswer
-jitterOf z j = cond (jitterOk z j) (Tuples (Once 0) (Every z (z - j))) (NoTuples OutOfRule)
+jitterOf z j = cond (jitterOk z j) (Tuples (Once 0) (Every z (z - 2 * j))) (NoTuples OutOfRule)

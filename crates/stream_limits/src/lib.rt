@@ -1,6 +1,6 @@
 // The event limit of a stream, and a jittered cycle as tuples.
 ghost use mathlib.Core.Path.{_≡_};
-ghost use Prim.Native.Nat.{_/_, _≤_};
+ghost use Prim.Native.Nat.{_-_, _*_, _/_, _≤_};
 ghost use Rattle.rules.specs.Streams.{eventsOf, limit, limitOf, jitterOk, jitterOf};
 use rules::CountAnswer;
 use rules::JitterAnswer;
@@ -66,20 +66,39 @@ pub fn event_limit(x: Set, k: usize, i: u32) -> CountAnswer
 
 // ---- a jittered cycle
 
+// Early and late together; 32 bits may be too few for it.
+fn both_ways(j: u32) -> u64
+    ensures { λ r. ⌜ r ≡ 2 * j ⌝ }
+{
+    j as u64 * 2
+}
+
+// The second tuple's offset, 0 where it would be below.
+fn second_from(z: u32, j: u32) -> u32
+    ensures { λ r. ⌜ r ≡ z - 2 * j ⌝ }
+{
+    let cycle = z as u64;
+    let both = both_ways(j);
+    if cycle < both {
+        return 0;
+    }
+    (cycle - both) as u32
+}
+
 fn jitter_ok(z: u32, j: u32) -> bool
     ensures { λ r. ⌜ r ≡ jitterOk z j ⌝ }
 {
-    let from = stream_valid::less(z, j);
-    ((1 <= z) & (z <= 1000000)) & ((j <= z) & (from <= 100000))
+    let from = second_from(z, j);
+    ((1 <= z) & (z <= 1000000)) & ((both_ways(j) <= z as u64) & (from <= 100000))
 }
 
-// The jittered cycle (z, j) as once at 0 and every z from z - j, or 7.
+// The jittered cycle (z, j), early or late by up to j, as once at 0 and every z from z - 2j, or 7.
 pub fn jittered(z: u32, j: u32) -> JitterAnswer
     ensures { λ r. ⌜ r ≡ jitterOf z j ⌝ }
 {
     if jitter_ok(z, j) {
         let first = Tuple::Once(0);
-        let second = Tuple::Every(z, stream_valid::less(z, j));
+        let second = Tuple::Every(z, second_from(z, j));
         return JitterAnswer::Tuples(first, second);
     }
     JitterAnswer::Refused(Refusal::OutOfRule)

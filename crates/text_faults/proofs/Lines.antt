@@ -15,14 +15,14 @@ use Rattle.line.specs.Line.{holding, putOf, puts}
 use Rattle.ascii.proofs.Digits.{digits-short}
 use Rattle.line.proofs.Puts.{then, last, single, holds}
 use Rattle.text_line.specs.declared.Fault.{Fault}
-use Rattle.text_line.specs.declared.Fault.the-variants.{NotTask, Task, NotCost, Cost, NotDeadline, Deadline, NotTuple, Cycle, Offset, FiveTuples, LongLine, ManyStreams}
+use Rattle.text_line.specs.declared.Fault.the-variants.{NotTask, Task, NotCost, Cost, NotDeadline, Deadline, NotTuple, Cycle, Offset, FiveTuples, NotJitter, Jitter, LongLine, ManyStreams}
 use Rattle.text_faults.specs.Notes.{faultWords, faultLine, plural, madeLine}
 
 -- what was put on a blank line is what it holds
 held : (b r : Line) (w : List ℕ) → b ≡ holding [] → r ≡ puts b w → length w ≤ 128 → r ≡ holding w
 held b r w e f h = f ∙ ap (λ (l : Line). puts l w) e ∙ holds [] w (omega arith)
 
-words-short : (why : Fault) → length (faultWords why) ≤ 80
+words-short : (why : Fault) → length (faultWords why) ≤ 100
 words-short NotTask = omega arith
 words-short Task = omega arith
 words-short NotCost = omega arith
@@ -33,6 +33,8 @@ words-short NotTuple = omega arith
 words-short Cycle = omega arith
 words-short Offset = omega arith
 words-short FiveTuples = omega arith
+words-short NotJitter = omega arith
+words-short Jitter = omega arith
 words-short LongLine = omega arith
 words-short ManyStreams = omega arith
 

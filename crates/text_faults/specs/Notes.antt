@@ -6,7 +6,7 @@ use mathlib.Core.List.{List, [], _++_}
 use lib.Dec.{eqb}
 use Rattle.ascii.specs.Decimal.{letters, decimalOf, spaced, newline}
 use Rattle.text_line.specs.declared.Fault.{Fault}
-use Rattle.text_line.specs.declared.Fault.the-variants.{NotTask, Task, NotCost, Cost, NotDeadline, Deadline, NotTuple, Cycle, Offset, FiveTuples, LongLine, ManyStreams}
+use Rattle.text_line.specs.declared.Fault.the-variants.{NotTask, Task, NotCost, Cost, NotDeadline, Deadline, NotTuple, Cycle, Offset, FiveTuples, NotJitter, Jitter, LongLine, ManyStreams}
 
 -- what is wrong with a line
 abbrev pub faultWords : Fault → List ℕ
@@ -20,6 +20,8 @@ faultWords NotTuple = letters "the deadline is not followed by tuples alone, suc
 faultWords Cycle = letters "a cycle is not from 1 to 1000000"
 faultWords Offset = letters "the first offset is not 0, or an offset falls or is above 100000"
 faultWords FiveTuples = letters "there are more than 4 tuples"
+faultWords NotJitter = letters "jitter is not followed by two numbers alone, such as jitter 20 2"
+faultWords Jitter = letters "the jitter Z J is out of rule: Z from 1 to 1000000, 2J at most Z, Z - 2J at most 100000"
 faultWords LongLine = letters "the line is too long for a stream"
 faultWords ManyStreams = letters "there are more than 16 streams"
 

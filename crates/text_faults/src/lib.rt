@@ -26,6 +26,14 @@ fn fault(l: Line, why: Fault) -> Line
             b"the first offset is not 0, or an offset falls or is above 100000",
         ),
         Fault::FiveTuples => line::word(l, b"there are more than 4 tuples"),
+        Fault::NotJitter => line::word(
+            l,
+            b"jitter is not followed by two numbers alone, such as jitter 20 2",
+        ),
+        Fault::Jitter => line::word(
+            l,
+            b"the jitter Z J is out of rule: Z from 1 to 1000000, 2J at most Z, Z - 2J at most 100000",
+        ),
         Fault::LongLine => line::word(l, b"the line is too long for a stream"),
         Fault::ManyStreams => line::word(l, b"there are more than 16 streams"),
     }

@@ -10,7 +10,10 @@ use lib.Dec.{leb, ltb, eqb}
 use borrow.Author.Tests.{le-leb, lt-leb, eq-eqb, ne-eqb, lt-ltb, le-ltb}
 use Rattle.rules.specs.declared.Tuple.{Tuple}
 use Rattle.rules.specs.declared.Stream.{Stream}
-use Rattle.rules.specs.Streams.{offset}
+use Rattle.rules.specs.declared.Refusal.{Refusal}
+use Rattle.rules.specs.declared.JitterAnswer.{JitterAnswer}
+use Rattle.rules.specs.declared.JitterAnswer.the-variants.{Tuples, Refused as NoTuples}
+use Rattle.rules.specs.Streams.{offset, jitterOf}
 use Rattle.text_line.specs.declared.Fault.{Fault}
 use Rattle.text_line.specs.declared.Fault.the-variants.{FiveTuples}
 use Rattle.text_line.specs.declared.NumberRead.{NumberRead}
@@ -22,8 +25,8 @@ use Rattle.rules.specs.Streams.{noStream}
 use Rattle.line.specs.declared.Line.{Line}
 use Rattle.ascii.specs.Decimal.{letters}
 use Rattle.text_line.specs.declared.Meaning.the-variants.{Nothing}
-use Rattle.text_line.specs.declared.Fault.the-variants.{NotTask, Task, LongLine}
-use Rattle.text_line.specs.Lines.{fieldAt, costAt, lineRead, judged, byField, byTuple, bad, finished, added, tupleAt, tuplesAt}
+use Rattle.text_line.specs.declared.Fault.the-variants.{NotTask, Task, Jitter, LongLine}
+use Rattle.text_line.specs.Lines.{startsAt, fieldAt, byJitter, alone, jitterSaid, jitterAt, limitAt, costAt, lineRead, judged, byField, byTuple, bad, finished, added, tupleAt, tuplesAt}
 
 module _ {A : Type 0} (x y : A) (g : ℕ → ℕ → A) (r : A) (v f : NumberRead) (p : v ≡ f) where
   by : (w : NumberRead) → v ≡ w → byField f x y g ≡ byField w x y g
@@ -66,9 +69,28 @@ module _ (s : Stream) (low high : ℕ) (l : List ℕ) (at : ℕ) (r : LineRead) 
   no-tuple zero v why h z p q e = absurd (z refl)
   no-tuple (suc n) v why h z p q e = rw (lt-leb (length l) at h, sym p ∙ q) e
 
-pub with-stream : (s more : Stream) (low high n : ℕ) (l : List ℕ) (at : ℕ) (r : LineRead) → more ≡ s → r ≡ tuplesAt n more low high l at
-    → r ≡ tuplesAt n s low high l at
-with-stream s more low high n l at r x e = rw x at e
+-- a jitter: its tuples, or none
+module _ (s : Stream) (z j : ℕ) (l : List ℕ) (at : ℕ) (r : LineRead) (v : JitterAnswer) (p : v ≡ jitterOf z j) where
+  pub jitter-is : (t u : Tuple) (one two : Stream) → v ≡ Tuples t u → one ≡ added s t → two ≡ added one u → r ≡ alone two l at → r ≡ jitterSaid s z j l at
+  unfolding jitterSaid byJitter
+  jitter-is t u one two q x y e = rw (sym p ∙ q) (rw (y, x) at e)
+
+  pub jitter-not : (why : Refusal) → v ≡ NoTuples why → r ≡ bad Jitter → r ≡ jitterSaid s z j l at
+  unfolding jitterSaid byJitter
+  jitter-not why q e = rw (sym p ∙ q) e
+
+-- an event limit: a jitter, or tuples
+module _ (s : Stream) (l : List ℕ) (at : ℕ) (r : LineRead) (t : Bool) (p : t ≡ startsAt (letters " jitter") l at) where
+  pub limit-jitter : t ≡ true → r ≡ jitterAt s l at → r ≡ limitAt s l at
+  unfolding limitAt
+  limit-jitter q e = rw (sym p ∙ q) e
+
+  pub limit-tuples : t ≡ false → r ≡ tuplesAt 4 s 0 0 l at → r ≡ limitAt s l at
+  unfolding limitAt
+  limit-tuples q e = rw (sym p ∙ q) e
+
+pub limit-of : (s more : Stream) (l : List ℕ) (at : ℕ) (r : LineRead) → more ≡ s → r ≡ limitAt more l at → r ≡ limitAt s l at
+limit-of s more l at r x e = rw x at e
 
 -- a whole line
 pub nothing-said : (l : List ℕ) (s : Stream) → length l ≡ 0 → s ≡ noStream → record { said = Nothing; stream = s } ≡ lineRead l

@@ -1,4 +1,4 @@
--- A stream as a line of text: `task 0 cost 2 deadline 5 once@0 every 20@18`.
+-- A stream as a line of text: `task 0 cost 2 deadline 5 once@0 every 20@16`, which may also be written `task 0 cost 2 deadline 5 jitter 20 2`.
 -- Assumes nothing.
 use Prim.Native.Nat.{ℕ, zero, suc, _+_}
 use Prim.Native.Char.{code}
@@ -11,13 +11,15 @@ use Rattle.rules.specs.declared.Tuple.{Tuple}
 use Rattle.rules.specs.declared.Tuple.the-variants.{Once, Every}
 use Rattle.rules.specs.declared.TuplePlace.{TuplePlace}
 use Rattle.rules.specs.declared.Stream.{Stream as StreamT}
-use Rattle.rules.specs.Streams.{noStream, offset, tuplesOf}
+use Rattle.rules.specs.declared.JitterAnswer.{JitterAnswer}
+use Rattle.rules.specs.declared.JitterAnswer.the-variants.{Tuples, Refused as NoTuples}
+use Rattle.rules.specs.Streams.{noStream, offset, tuplesOf, jitterOf}
 use Rattle.line.specs.declared.Line.{Line}
 use Rattle.line.specs.Line.{lineRoom}
 use Rattle.ascii.specs.Decimal.{letters, decimalOf, readOn, isDigit}
 use Rattle.ascii.specs.Same.{same}
 use Rattle.text_line.specs.declared.Fault.{Fault}
-use Rattle.text_line.specs.declared.Fault.the-variants.{NotTask, Task, NotCost, Cost, NotDeadline, Deadline, NotTuple, Cycle, Offset, FiveTuples, LongLine}
+use Rattle.text_line.specs.declared.Fault.the-variants.{NotTask, Task, NotCost, Cost, NotDeadline, Deadline, NotTuple, Cycle, Offset, FiveTuples, NotJitter, Jitter, LongLine}
 use Rattle.text_line.specs.declared.NumberRead.{NumberRead}
 use Rattle.text_line.specs.declared.NumberRead.the-variants.{Is, Missing, Outside}
 use Rattle.text_line.specs.declared.TupleRead.{TupleRead}
@@ -120,10 +122,35 @@ tuplesAt (suc n) s low high l at =
     cond (leb (length l) at) (finished s)
     (byTuple (tupleAt low high l at) (λ t end. tuplesAt n (added s t) (offset t) 100000 l end))
 
+-- the tuples of a jittered cycle, or that it is out of rule
+unfoldable pub byJitter : JitterAnswer → (Tuple → Tuple → LineRead) → LineRead
+byJitter (Tuples t u) next = next t u
+byJitter (NoTuples why) next = bad Jitter
+
+-- the line ends behind a jitter
+abbrev pub alone : StreamT → List ℕ → ℕ → LineRead
+alone s l at = cond (leb (length l) at) (isStream s) (bad NotJitter)
+
+-- `jitter Z J`, alone: what Z and J say, from J on, and the whole of it
+unfoldable pub jitterSaid : StreamT → ℕ → ℕ → List ℕ → ℕ → LineRead
+jitterSaid s z j l at = byJitter (jitterOf z j) (λ t u. alone (added (added s t) u) l at)
+
+unfoldable pub eachWayAt : StreamT → ℕ → List ℕ → ℕ → LineRead
+eachWayAt s z l at =
+    byField (fieldAt (letters " ") 0 4294967295 l at) (bad NotJitter) (bad Jitter) (λ j end. jitterSaid s z j l end)
+
+unfoldable pub jitterAt : StreamT → List ℕ → ℕ → LineRead
+jitterAt s l at =
+    byField (fieldAt (letters " jitter ") 0 4294967295 l at) (bad NotJitter) (bad Jitter) (λ z end. eachWayAt s z l end)
+
+-- a stream's event limit: a jitter, or tuples
+unfoldable pub limitAt : StreamT → List ℕ → ℕ → LineRead
+limitAt s l at = cond (startsAt (letters " jitter") l at) (jitterAt s l at) (tuplesAt 4 s 0 0 l at)
+
 -- the fields in their order
 unfoldable pub deadlineAt : ℕ → ℕ → List ℕ → ℕ → LineRead
 deadlineAt task cost l at =
-    byField (fieldAt (letters " deadline ") 1 200000 l at) (bad NotDeadline) (bad Deadline) (λ d end. tuplesAt 4 (opened task cost d) 0 0 l end)
+    byField (fieldAt (letters " deadline ") 1 200000 l at) (bad NotDeadline) (bad Deadline) (λ d end. limitAt (opened task cost d) l end)
 
 unfoldable pub costAt : ℕ → List ℕ → ℕ → LineRead
 costAt task l at =

@@ -1,4 +1,4 @@
-// A stream as a line of text: `task 0 cost 2 deadline 5 once@0 every 20@18`.
+// A stream as a line of text: `task 0 cost 2 deadline 5 once@0 every 20@16`, or `task 0 cost 2 deadline 5 jitter 20 2`.
 ghost use mathlib.Core.Path.{_≡_};
 ghost use mathlib.Core.List.{_++_, []};
 ghost use Prim.Native.Nat.{_-_, _≤_};
@@ -6,8 +6,9 @@ ghost use lib.ListN.{drop, take};
 ghost use Rattle.laws.specs.Lists.{flat};
 ghost use Rattle.rules.specs.Streams.{tuplesOf, noTuple, noStream};
 ghost use Rattle.line.specs.Line.{holding, puts};
-ghost use Rattle.text_line.specs.Lines.{startsAt, endedAt, numberAt, fieldAt, offsetAt, everyAt, tupleAt, opened, added, isStream, bad, finished, tuplesAt, deadlineAt, costAt, lineRead, judged, placeText, streamText};
+ghost use Rattle.text_line.specs.Lines.{startsAt, endedAt, numberAt, fieldAt, offsetAt, everyAt, tupleAt, opened, added, isStream, bad, finished, tuplesAt, alone, jitterSaid, eachWayAt, jitterAt, limitAt, deadlineAt, costAt, lineRead, judged, placeText, streamText};
 use line::Line;
+use rules::JitterAnswer;
 use rules::Stream;
 use rules::Tuple;
 use rules::TuplePlace;
@@ -24,6 +25,8 @@ pub enum Fault {
     Cycle,
     Offset,
     FiveTuples,
+    NotJitter,
+    Jitter,
     LongLine,
     ManyStreams,
 }
@@ -247,11 +250,63 @@ fn tuples(line: &[u8], at: usize, s: Stream, low: u32, high: u32, left: usize) -
     }
 }
 
+// The line ends behind a jitter.
+fn end_alone(line: &[u8], at: usize, s: Stream) -> LineRead
+    ensures { λ r. ⌜ r ≡ alone s (now (line .entry)) at ⌝ }
+{
+    if line.len() <= at {
+        stream_read(s)
+    } else {
+        bad_line(Fault::NotJitter)
+    }
+}
+
+// The stream with the tuples of the jittered cycle (z, j).
+fn jitter_said(line: &[u8], at: usize, s: Stream, z: u32, j: u32) -> LineRead
+    ensures { λ r. ⌜ r ≡ jitterSaid s z j (now (line .entry)) at ⌝ }
+{
+    match stream_limits::jittered(z, j) {
+        JitterAnswer::Tuples(t, u) => end_alone(line, at, add(add(s, t), u)),
+        JitterAnswer::Refused(_) => bad_line(Fault::Jitter),
+    }
+}
+
+fn each_way_at(line: &[u8], at: usize, s: Stream, z: u32) -> LineRead
+    ensures { λ r. ⌜ r ≡ eachWayAt s z (now (line .entry)) at ⌝ }
+{
+    match field_at(line, at, b" ", 0, 4294967295) {
+        NumberRead::Is(j, end) => jitter_said(line, end, s, z, j),
+        NumberRead::Missing => bad_line(Fault::NotJitter),
+        NumberRead::Outside => bad_line(Fault::Jitter),
+    }
+}
+
+fn jitter_at(line: &[u8], at: usize, s: Stream) -> LineRead
+    ensures { λ r. ⌜ r ≡ jitterAt s (now (line .entry)) at ⌝ }
+{
+    match field_at(line, at, b" jitter ", 0, 4294967295) {
+        NumberRead::Is(z, end) => each_way_at(line, end, s, z),
+        NumberRead::Missing => bad_line(Fault::NotJitter),
+        NumberRead::Outside => bad_line(Fault::Jitter),
+    }
+}
+
+// A stream's event limit: a jitter, or tuples.
+fn limit_at(line: &[u8], at: usize, s: Stream) -> LineRead
+    ensures { λ r. ⌜ r ≡ limitAt s (now (line .entry)) at ⌝ }
+{
+    if starts(line, at, b" jitter") {
+        jitter_at(line, at, s)
+    } else {
+        tuples(line, at, s, 0, 0, 4)
+    }
+}
+
 fn deadline_at(line: &[u8], at: usize, task: u32, cost: u32) -> LineRead
     ensures { λ r. ⌜ r ≡ deadlineAt task cost (now (line .entry)) at ⌝ }
 {
     match field_at(line, at, b" deadline ", 1, 200000) {
-        NumberRead::Is(d, end) => tuples(line, end, open(task, cost, d), 0, 0, 4),
+        NumberRead::Is(d, end) => limit_at(line, end, open(task, cost, d)),
         NumberRead::Missing => bad_line(Fault::NotDeadline),
         NumberRead::Outside => bad_line(Fault::Deadline),
     }

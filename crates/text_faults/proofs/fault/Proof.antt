@@ -112,6 +112,24 @@ slice-aggregate-word-12 c = search needs
 word-requires-12 : tie.Need-word-requires-12
 word-requires-12 c κs = search needs
 
+enum-told-13 : tie.Need-enum-told-13
+enum-told-13 c = search needs
+
+slice-aggregate-word-13 : tie.Need-slice-aggregate-word-13
+slice-aggregate-word-13 c = search needs
+
+word-requires-13 : tie.Need-word-requires-13
+word-requires-13 c κs = search needs
+
+enum-told-14 : tie.Need-enum-told-14
+enum-told-14 c = search needs
+
+slice-aggregate-word-14 : tie.Need-slice-aggregate-word-14
+slice-aggregate-word-14 c = search needs
+
+word-requires-14 : tie.Need-word-requires-14
+word-requires-14 c κs = search needs
+
 returns : tie.Need-returns
 returns c = rw (c .before .before .enum-told .given .1) (c .word .ensures)
 
@@ -147,6 +165,12 @@ returns-11 c = rw (c .before .before .enum-told11 .given .1) (c .word11 .ensures
 
 returns-12 : tie.Need-returns-12
 returns-12 c = rw (c .before .before .enum-told12 .given .1) (c .word12 .ensures)
+
+returns-13 : tie.Need-returns-13
+returns-13 c = rw (c .before .before .enum-told13 .given .1) (c .word13 .ensures)
+
+returns-14 : tie.Need-returns-14
+returns-14 c = rw (c .before .before .enum-told14 .given .1) (c .word14 .ensures)
 
 pub fault-spec : {M : Type 1} → statement M
 fault-spec =
@@ -188,6 +212,12 @@ fault-spec =
     enum-told-12
     slice-aggregate-word-12
     word-requires-12
+    enum-told-13
+    slice-aggregate-word-13
+    word-requires-13
+    enum-told-14
+    slice-aggregate-word-14
+    word-requires-14
     returns
     returns-2
     returns-3
@@ -199,4 +229,6 @@ fault-spec =
     returns-9
     returns-10
     returns-11
-    returns-12)
+    returns-12
+    returns-13
+    returns-14)

@@ -1,6 +1,6 @@
-use Rattle.text_line.proofs.Ways.{with-stream, way-is, way-missing, way-outside}
+use Rattle.text_line.proofs.Ways.{limit-of, way-is, way-missing, way-outside}
 use mathlib.Core.Path.{refl, sym, ap, _∙_}
-use Rattle.text_line.specs.Lines.{deadlineAt, tuplesAt}
+use Rattle.text_line.specs.Lines.{deadlineAt}
 use Rattle.rules.specs.declared.Stream.{Stream}
 use native.Mathlib.Omega.{arith}
 use borrow.Author.Needs.{needs}
@@ -11,7 +11,7 @@ use Rattle.text_line.proofs.deadline_at.Lts as lts
 use Rattle.text_line.proofs.bad_line.Reads as bad-line-reads
 use Rattle.text_line.proofs.field_at.Reads as field-at-reads
 use Rattle.text_line.proofs.open.Reads as open-reads
-use Rattle.text_line.proofs.tuples.Reads as tuples-reads
+use Rattle.text_line.proofs.limit_at.Reads as limit-at-reads
 
 -- src/lib.rt:265:30
 slice-aggregate-field-at : tie.Need-slice-aggregate-field-at
@@ -30,8 +30,8 @@ open-requires : tie.Need-open-requires
 open-requires c κs = search needs
 
 -- src/lib.rt:266:30
-tuples-requires : tie.Need-tuples-requires
-tuples-requires c κs = search needs
+limit-at-requires : tie.Need-limit-at-requires
+limit-at-requires c κs = search needs
 
 -- src/lib.rt:267:36
 enum-told : tie.Need-enum-told
@@ -52,7 +52,7 @@ bad-line-requires-2 c κs = search needs
 -- src/lib.rt:262:1
 returns : tie.Need-returns
 unfolding deadlineAt
-returns c = way-is _ _ _ _ _ _ (c .before .before .before .before .before .field-at .ensures) _ _ (c .before .before .before .d .given .1) (with-stream _ _ _ _ _ _ _ _ (c .before .open .ensures) (c .tuples .ensures))
+returns c = way-is _ _ _ _ _ _ (c .before .before .before .before .before .field-at .ensures) _ _ (c .before .before .before .d .given .1) (limit-of _ _ _ _ _ (c .before .open .ensures) (c .limit-at .ensures))
 
 -- src/lib.rt:262:1
 returns-2 : tie.Need-returns-2
@@ -72,7 +72,7 @@ deadline-at-spec =
     field-at-requires
     enum-known-d
     open-requires
-    tuples-requires
+    limit-at-requires
     enum-told
     bad-line-requires
     enum-told-2
