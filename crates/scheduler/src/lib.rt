@@ -1,6 +1,7 @@
 // The steps of the scheduler: start, post, choose and unit.
 ghost use mathlib.Core.Path.{_≡_};
-ghost use Rattle.rules.specs.Steps.{fresh, startOf, postOf, chooseOf, laxityOf, unitOf, callOf};
+ghost use Prim.Native.Nat.{_<_};
+ghost use Rattle.rules.specs.Steps.{fresh, startOf, postOf, messageAt, chooseOf, laxityOf, unitOf, callOf};
 ghost use Rattle.scheduler.specs.Serving.{workOf, servedAnswer};
 use rules::Call;
 use rules::CallAnswer;
@@ -88,6 +89,16 @@ pub fn post(s: State, k: usize) -> PostResult
 
 // ---- choose
 
+// The stream of the message at i. In a function of its own, so that the copy which an index reads takes no stack while looking.
+fn stream_of(s: State, i: usize) -> usize
+    requires { ⌜ i < 64 ⌝ }
+    ensures { λ r. ⌜ r ≡ messageAt s i .stream ⌝ }
+{
+    let messages = s.messages;
+    let m = messages[i];
+    m.stream
+}
+
 // The task that runs and the stream of the message that it serves, none, or 12.
 pub fn choose(s: State) -> ChooseAnswer
     ensures { λ r. ⌜ r ≡ chooseOf s ⌝ }
@@ -96,10 +107,7 @@ pub fn choose(s: State) -> ChooseAnswer
     match found {
         ToServe::IllFormed => ChooseAnswer::Refused(Refusal::IllFormed),
         ToServe::Nothing => ChooseAnswer::Nothing,
-        ToServe::At(i, task, _) => {
-            let m = s.messages[i];
-            ChooseAnswer::Runs(task, m.stream)
-        }
+        ToServe::At(i, task, _) => ChooseAnswer::Runs(task, stream_of(s, i)),
     }
 }
 

@@ -79,14 +79,14 @@ module _ (turn : ℕ → ℕ) (x : Set) (l : List Message) (some : 0 < length l)
       deadline-met x l (runningTask turn x l)
       (omega (arith, run-least (taskOf x (at l 0)) (tasks 0 some), deadline-le x l (taskOf x (at l 0)) 0 some refl, dues 0 some))
 
-  run-own : DeadlineOf x l (runningTask turn x l) (taskDeadline x l (runningTask turn x l))
+  pub run-own : DeadlineOf x l (runningTask turn x l) (taskDeadline x l (runningTask turn x l))
   run-own = record { who = run-met .0; inside = run-met .1; his = run-met .2; that = run-met .3; least = λ j h e. deadline-le x l (runningTask turn x l) j h e }
 
   -- no task's deadline is less
   named-le : (t w : ℕ) → DeadlineOf x l t w → taskDeadline x l t ≤ w
   named-le t w h = omega (arith, deadline-le x l t (h .who) (h .inside) (h .his), h .that)
 
-  run-before : (t w : ℕ) → DeadlineOf x l t w → taskDeadline x l (runningTask turn x l) ≤ w
+  pub run-before : (t w : ℕ) → DeadlineOf x l t w → taskDeadline x l (runningTask turn x l) ≤ w
   run-before t w h = omega (arith, named-le t w h, run-least t (rw (← h .his) (tasks (h .who) (h .inside))))
 
   -- a task's deadline is one number
@@ -99,7 +99,7 @@ module _ (turn : ℕ → ℕ) (x : Set) (l : List Message) (some : 0 < length l)
   run-turned : (t w : ℕ) → DeadlineOf x l t w → w ≡ taskDeadline x l (runningTask turn x l) → turn (runningTask turn x l) ≤ turn t
   run-turned t w h e = run-turn t (rw (← h .his) (tasks (h .who) (h .inside))) (named-is t w h (named-soon t w h) ∙ e)
 
-  run-tie : (t w : ℕ) → DeadlineOf x l t w → w ≡ taskDeadline x l (runningTask turn x l) → turn (runningTask turn x l) ≡ turn t → runningTask turn x l ≤ t
+  pub run-tie : (t w : ℕ) → DeadlineOf x l t w → w ≡ taskDeadline x l (runningTask turn x l) → turn (runningTask turn x l) ≡ turn t → runningTask turn x l ≤ t
   run-tie t w h e q = by-test (ltb t (runningTask turn x l))
       (λ f. absurd (⊎-elim
       (λ (z : taskDeadline x l (runningTask turn x l) < taskDeadline x l t). omega (arith, named-is t w h (named-soon t w h)))
@@ -138,7 +138,7 @@ module _ (turn : ℕ → ℕ) (x : Set) (l : List Message) (some : 0 < length l)
       let b = begun (at l k) (runningTask turn x l) (find-passes (startedOf x (runningTask turn x l)) noMessage l h) in
       by-run k h (b .1) (λ j q r u. b .0) (λ u. absurd (omega (arith, b .0))) (λ u j q r. absurd (omega (arith, b .0)))
 
-  is-due : (m : Message) (t v : ℕ) → dueOf x t v m ≡ true → (m .deadline ≤ v) × (taskOf x m ≡ t)
+  pub is-due : (m : Message) (t v : ℕ) → dueOf x t v m ≡ true → (m .deadline ≤ v) × (taskOf x m ≡ t)
   is-due m t v e = (
     ltb-false v (m .deadline) (not-yes (ltb v (m .deadline)) (and-parts (not (ltb v (m .deadline))) (eqb (taskOf x m) t) e .0)),
     eqb-true (taskOf x m) t (and-parts (not (ltb v (m .deadline))) (eqb (taskOf x m) t) e .1),
@@ -148,7 +148,7 @@ module _ (turn : ℕ → ℕ) (x : Set) (l : List Message) (some : 0 < length l)
       not-yes true e = sym e
       not-yes false e = refl
 
-  due-is : (m : Message) (t v : ℕ) → m .deadline ≤ v → taskOf x m ≡ t → dueOf x t v m ≡ true
+  pub due-is : (m : Message) (t v : ℕ) → m .deadline ≤ v → taskOf x m ≡ t → dueOf x t v m ≡ true
   due-is m t v h q = rw (le-ltb v (m .deadline) h, eq-eqb (taskOf x m) t q)
 
   by-due : length l ≤ startedAt x l (runningTask turn x l) → Served turn x l (urgentAt x l (runningTask turn x l))
@@ -183,12 +183,12 @@ module _ (s : State) (w : wellFormed s ≡ true) (ms : length (s .messages) ≡ 
   pub pending-at : (j : ℕ) → j < s .count → at (pending s) j ≡ messageAt s j
   pending-at j q = getD-take (s .count) (s .messages) j noMessage q
 
-  pending-task : (j : ℕ) → j < length (pending s) → taskOf (s .set) (at (pending s) j) < 16
+  pub pending-task : (j : ℕ) → j < length (pending s) → taskOf (s .set) (at (pending s) j) < 16
   pending-task j q =
       let c : j < s .count = omega (arith, all-pending) in
       rw (pending-at j c) (task-in s (in-range s w) ms j c ss)
 
-  pending-due : (j : ℕ) → j < length (pending s) → at (pending s) j .deadline < never
+  pub pending-due : (j : ℕ) → j < length (pending s) → at (pending s) j .deadline < never
   pending-due j q =
       let c : j < s .count = omega (arith, all-pending) in
       let o = stands s (in-range s w) ms j c in

@@ -1,6 +1,4 @@
-pub mod Least
-pub mod Front
-pub mod Filling
-pub mod Places
 pub mod Choice
+pub mod Best
 pub mod Looking
+pub mod Passing

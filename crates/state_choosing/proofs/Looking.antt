@@ -6,12 +6,11 @@ use mathlib.Core.Path.{_≡_, refl, sym, _∙_}
 use native.Mathlib.Omega.{arith}
 use borrow.Author.Tests.{eqb-true, eqb-false, ne-eqb}
 use lib.Dec.{eqb}
-use lib.ListN.{length, getD}
-use Rattle.rules.specs.declared.Stream.{Stream}
+use lib.ListN.{length}
 use Rattle.rules.specs.declared.State.{State}
 use Rattle.rules.specs.States.{taskOf, costOf, wellFormed}
 use Rattle.rules.specs.Steps.{placeOf, messageAt}
-use Rattle.state_formed.proofs.WellFormed.{blank, well-formed, in-range, stream-place, stream-read}
+use Rattle.state_formed.proofs.WellFormed.{well-formed}
 use Rattle.state_choosing.specs.declared.ToServe.{ToServe}
 use Rattle.state_choosing.specs.declared.ToServe.the-variants.{IllFormed, Nothing, At}
 use Rattle.state_choosing.specs.ToServe.{serveOf}
@@ -74,20 +73,14 @@ module _ (s : State) (f : ToServe) (e : f ≡ serveOf s) where
 
 -- ---- the message that is served
 
-module _ (s : State) (i : ℕ) (h : Chosen s i) (ms : length (s .messages) ≡ 64) (ss : length (s .set .streams) ≡ 16) where
-  pub place-count : i < s .count
-  place-count = rw (h .place) (place-in s (h .formed) ms ss (h .some))
-
-  pub place-lt : i < 64
-  place-lt = omega (arith, place-count, well-formed s (h .formed) .few)
-
-  pub stream-lt : messageAt s i .stream < 16
-  stream-lt = stream-place s (in-range s (h .formed)) ms i place-count
-
-  -- its stream, as the code reads it
-  abbrev stream : Stream
-  stream = getD (s .set .streams) (messageAt s i .stream) blank
-
-  pub found : At i (stream .task) (stream .cost) ≡ serveOf s
+module _ (s : State) (i : ℕ) (h : Chosen s i) where
+  pub found : (t c : ℕ) → t ≡ taskOf (s .set) (messageAt s i) → c ≡ costOf (s .set) (messageAt s i) → At i t c ≡ serveOf s
   unfolding serveOf
-  found = rw (stream-read s (in-range s (h .formed)) ms i place-count ss, h .formed, ne-eqb _ _ (h .some), ← h .place)
+  found t c e e′ = rw (e, e′, h .formed, ne-eqb _ _ (h .some), ← h .place)
+
+  module _ (ms : length (s .messages) ≡ 64) (ss : length (s .set .streams) ≡ 16) where
+    pub place-count : i < s .count
+    place-count = rw (h .place) (place-in s (h .formed) ms ss (h .some))
+
+    pub place-lt : i < 64
+    place-lt = omega (arith, place-count, well-formed s (h .formed) .few)

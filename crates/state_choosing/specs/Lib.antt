@@ -1,3 +1,3 @@
-pub mod Table
+pub mod First
 pub mod ToServe
 pub mod Words

@@ -1,10 +1,9 @@
 // Which pending message is served.
 ghost use mathlib.Core.Path.{_≡_};
-ghost use mathlib.Core.Bool.{cond};
+ghost use mathlib.Core.Bool.{true};
 ghost use Prim.Native.Nat.{_<_};
-ghost use Rattle.laws.specs.Lists.{firstBy};
-ghost use Rattle.rules.specs.Steps.{sooner, ahead, noTurn};
-ghost use Rattle.state_choosing.specs.Table.{at};
+ghost use Rattle.rules.specs.States.{wellFormed};
+ghost use Rattle.state_choosing.specs.First.{goesFirst};
 ghost use Rattle.state_choosing.specs.ToServe.{serveOf};
 use rules::State;
 
@@ -16,28 +15,56 @@ pub enum ToServe {
     At(usize, usize, u32),
 }
 
-// t where a is less than b, else best.
-fn better(a: u64, b: u64, t: usize, best: usize) -> usize
-    ensures { λ r. ⌜ r ≡ cond (sooner a b) t best ⌝ }
+// Does a message of deadline d and task t go before one of deadline e and task u that was posted before it?
+fn goes_first(d: u32, t: usize, e: u32, u: usize) -> bool
+    ensures { λ r. ⌜ r ≡ goesFirst d t e u ⌝ }
 {
-    if a < b { t } else { best }
+    (d < e) | (!(e < d) & (t < u))
 }
 
-// The first place of a table where it is least: of tasks with the same deadline the lowest.
-fn least_task(table: [u64; 16]) -> usize
-    ensures { λ r. ⌜ (r < 16) × (r ≡ firstBy (ahead (at table) noTurn) 16) ⌝ }
+// The message that is served, where one is pending. A first pass keeps the best message so far: of the least deadline, on a tie
+// of the lowest task, on a tie the earliest posted. A second looks for the started message of its task, which is served before it.
+// Both stand here, since what is handed to another function is copied.
+fn served(s: State) -> ToServe
+    requires { ⌜ (wellFormed s ≡ true) × (0 < s .count) ⌝ }
+    ensures { λ r. ⌜ r ≡ serveOf s ⌝ }
 {
+    let messages = s.messages;
+    let streams = s.set.streams;
     let mut best: usize = 0;
-    let mut t: usize = 0;
-    while t < 16 {
-        best = better(table[t], table[best], t, best);
-        t = t + 1;
+    // any message goes before these
+    let mut deadline: u32 = 4294967295;
+    let mut task: usize = 16;
+    let mut cost: u32 = 0;
+    let mut k: usize = 0;
+    while k < s.count {
+        let m = messages[k];
+        let i = m.stream;
+        let x = streams[i];
+        if goes_first(m.deadline, x.task, deadline, task) {
+            best = k;
+            deadline = m.deadline;
+            task = x.task;
+            cost = x.cost;
+        }
+        k = k + 1;
     }
-    best
+    k = 0;
+    while k < s.count {
+        let m = messages[k];
+        if 0 < m.used {
+            let i = m.stream;
+            let x = streams[i];
+            if x.task == task {
+                return ToServe::At(k, task, x.cost);
+            }
+        }
+        k = k + 1;
+    }
+    ToServe::At(best, task, cost)
 }
 
-// What there is to serve. The state is tested here, once for a call. From the last message to the first three things are kept for
-// each task: its deadline, the place of its message that is due then, and the place of its started one.
+// What there is to serve. The state is tested here, once for a call.
 pub fn look(s: State) -> ToServe
     ensures { λ r. ⌜ r ≡ serveOf s ⌝ }
 {
@@ -47,38 +74,8 @@ pub fn look(s: State) -> ToServe
     if !state_formed::formed(s) {
         return ToServe::IllFormed;
     }
-    let n = s.count;
-    if n == 0 {
+    if s.count == 0 {
         return ToServe::Nothing;
     }
-    let messages = s.messages;
-    let streams = s.set.streams;
-    let mut deadlines = [4294967296u64; 16];
-    let mut due = [n; 16];
-    let mut started = [n; 16];
-    let mut k = n;
-    while 0 < k {
-        k = k - 1;
-        let m = messages[k];
-        let i = m.stream;
-        let x = streams[i];
-        let t = x.task;
-        let d = m.deadline as u64;
-        if d <= deadlines[t] {
-            deadlines[t] = d;
-            due[t] = k;
-        }
-        if 0 < m.used {
-            started[t] = k;
-        }
-    }
-    let t = least_task(deadlines);
-    let mut place = started[t];
-    if s.count <= place {
-        place = due[t];
-    }
-    let m = messages[place];
-    let j = m.stream;
-    let x = streams[j];
-    ToServe::At(place, x.task, x.cost)
+    served(s)
 }
