@@ -6,8 +6,8 @@ use crate::load;
 use crate::recording::{self, Place};
 use crate::refusal::Refusal;
 use crate::replay;
-use crate::requests::REPLAY;
-use crate::set::{self, Set, Tuple, STREAM_PLACES, TUPLE_PLACES};
+use crate::requests::{REPLAY, STAGES};
+use crate::set::{self, Set, Stage, Stream, Tuple, STAGE_PLACES, STREAM_PLACES, TUPLE_PLACES};
 use crate::sheet;
 use crate::state::{Message, State, MESSAGE_PLACES};
 use crate::trace::{self, take, Step};
@@ -43,6 +43,7 @@ pub struct Console {
 fn request_of(name: &[u8]) -> u32 {
     match name {
         b"recording" | b"next" | b"reader" | b"where" | b"record" => REPLAY,
+        b"version" | b"stages" | b"stage" | b"staged" => STAGES,
         _ => 0,
     }
 }
@@ -109,11 +110,29 @@ impl Console {
                 put()
             }
             (b"stream", &[place, task, cost, deadline, tuple_count]) => {
-                let stream = &mut self.set.streams[index(place, STREAM_PLACES)?];
-                stream.task = task;
-                stream.cost = cost;
+                let stream = self.stream_place(place)?;
+                // "puts the task and cost into stage place 0, and 1 as the number of stages, or 0
+                // where all four numbers are 0; stage places 1 to 3 stay as they were"
+                stream.stages[0] = Stage { task, cost };
+                stream.stage_count = match (task, cost, deadline, tuple_count) {
+                    (0, 0, 0, 0) => 0,
+                    _ => 1,
+                };
                 stream.deadline = deadline;
                 stream.tuple_count = tuple_count;
+                put()
+            }
+            (b"version", &[version]) => {
+                self.set.version = version;
+                put()
+            }
+            (b"stages", &[place, count]) => {
+                self.stream_place(place)?.stage_count = count;
+                put()
+            }
+            (b"stage", &[place, stage_place, task, cost]) => {
+                let stage_place = index(stage_place, STAGE_PLACES)?;
+                self.stream_place(place)?.stages[stage_place] = Stage { task, cost };
                 put()
             }
             (b"once", &[place, tuple, offset]) => {
@@ -152,11 +171,17 @@ impl Console {
                 put()
             }
             (b"message", &[place, stream, deadline, used]) => {
+                // "`message` puts 0 there", where the stage is.
                 self.state.messages[index(place, MESSAGE_PLACES)?] = Message {
                     stream,
                     deadline,
                     used,
+                    stage: 0,
                 };
+                put()
+            }
+            (b"staged", &[place, stage]) => {
+                self.state.messages[index(place, MESSAGE_PLACES)?].stage = stage;
                 put()
             }
             (b"post", &[stream]) => Some(take(&mut self.state, Step::Post(stream))),
@@ -181,7 +206,7 @@ impl Console {
     /// "`read HEX`: reads the bytes as a sheet. Prints `set N` with the number of streams, and the
     /// set becomes the one read; or `refused N`, and the set becomes the empty set."
     fn read(&mut self, words: &[&[u8]]) -> Option<String> {
-        Some(match sheet::read(&hex_argument(words)?) {
+        Some(match sheet::read(&hex_argument(words)?, self.requests) {
             Ok(set) => {
                 self.set = set;
                 format!("set {}", set.count)
@@ -224,9 +249,14 @@ impl Console {
         replay::step(&mut self.state, &self.recording, &mut self.place).line(clock_before)
     }
 
+    /// A stream place of the set, if there is one of that number.
+    fn stream_place(&mut self, place: u32) -> Option<&mut Stream> {
+        Some(&mut self.set.streams[index(place, STREAM_PLACES)?])
+    }
+
     fn put_tuple(&mut self, place: u32, tuple_place: u32, tuple: Tuple) -> Option<String> {
-        let stream = &mut self.set.streams[index(place, STREAM_PLACES)?];
-        stream.tuples[index(tuple_place, TUPLE_PLACES)?] = tuple;
+        let tuple_place = index(tuple_place, TUPLE_PLACES)?;
+        self.stream_place(place)?.tuples[tuple_place] = tuple;
         put()
     }
 
@@ -262,16 +292,27 @@ impl Console {
 
     /// "`state`: prints `clock N`, then `pending N`, then a line `message I STREAM DEADLINE USED`
     /// for each of the 64 places that is not all zero, in order."
+    ///
+    /// "What `state` prints grows at its end: the lines of a request stand behind those of the
+    /// requests before it, and only for what is not zero": "`state` prints `staged I N` (a place of
+    /// which only the stage is not 0 has no `message` line)".
     fn show_state(&self) -> String {
         let mut answer = format!("clock {}\npending {}", self.state.clock, self.state.pending);
         for (place, message) in self.state.messages.iter().enumerate() {
-            if *message != Message::UNUSED {
-                let Message {
-                    stream,
-                    deadline,
-                    used,
-                } = message;
+            let Message {
+                stream,
+                deadline,
+                used,
+                stage: _,
+            } = *message;
+            if (stream, deadline, used) != (0, 0, 0) {
                 write!(answer, "\nmessage {place} {stream} {deadline} {used}")
+                    .expect("a string takes all that is written to it");
+            }
+        }
+        for (place, message) in self.state.messages.iter().enumerate() {
+            if message.stage != 0 {
+                write!(answer, "\nstaged {place} {}", message.stage)
                     .expect("a string takes all that is written to it");
             }
         }

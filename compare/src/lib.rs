@@ -8,9 +8,10 @@
 //! [`load::verdict_each_length`], which does not.
 //!
 //! - [`requests`]: which requests are in force
-//! - [`set`]: streams, sets, the event limit and the jittered cycle (with request 2)
+//! - [`set`]: streams and their stages (request 4), sets, the event limit and the jittered cycle
+//!   (with request 2)
 //! - [`load`]: demand, H, long-run load and the verdicts
-//! - [`sheet`]: reading and writing the packed sheet
+//! - [`sheet`]: reading and writing the packed sheet, of both versions (request 4)
 //! - [`state`]: the state, its rules, and the calls start, post, choose and unit
 //! - [`trace`]: the trace program
 //! - [`recording`]: recordings of calls, and the cab's recorder (request 1)

@@ -48,14 +48,15 @@ pub fn demand(set: &Set, length: u32) -> Result<u64, Refusal> {
 }
 
 /// "Demand(I), for I of 0 or more, is the sum over streams with d not above I of c times
-/// E(I - d), plus the blocking of each task."
+/// E(I - d), plus the blocking of each task." "Demand and long-run load take the sum of a stream's
+/// costs."
 fn demand_of_valid(set: &Set, length: u64) -> u64 {
     let work: u64 = set
         .used_streams()
         .iter()
         .filter(|stream| !deadline_above(stream, length))
         .map(|stream| {
-            u64::from(stream.cost) * stream.event_limit(length - u64::from(stream.deadline))
+            stream.cost_of_all_stages() * stream.event_limit(length - u64::from(stream.deadline))
         })
         .sum();
     work + blocking_of_all_tasks(set, length)
@@ -69,14 +70,20 @@ fn blocking_of_all_tasks(set: &Set, length: u64) -> u64 {
 
 /// "The blocking of a task is 0 unless it has a stream with d not above I; then it is the largest
 /// c - 1 among its streams with d above I, or 0 if there are none."
+///
+/// With stages: "a task's blocking uses each stage on it separately and counts a stream as urgent
+/// if any of its stages is there"; "0 unless some stream with d not above I has a stage on it; then
+/// the largest c - 1 among the stages on it of streams with d above I".
 fn blocking(set: &Set, task: u32, length: u64) -> u64 {
     let mut has_urgent = false;
     let mut largest = 0;
-    for stream in set.used_streams().iter().filter(|s| s.task == task) {
-        if deadline_above(stream, length) {
-            largest = largest.max(u64::from(stream.cost) - 1);
-        } else {
-            has_urgent = true;
+    for stream in set.used_streams() {
+        for stage in stream.used_stages().iter().filter(|s| s.task == task) {
+            if deadline_above(stream, length) {
+                largest = largest.max(u64::from(stage.cost) - 1);
+            } else {
+                has_urgent = true;
+            }
         }
     }
     if has_urgent {
@@ -91,14 +98,14 @@ fn deadline_above(stream: &Stream, length: u64) -> bool {
     u64::from(stream.deadline) > length
 }
 
-/// The cost and the cycle of each cyclic tuple of a valid set.
+/// The cost (of all stages) and the cycle of each cyclic tuple of a valid set.
 fn cyclic_tuples(set: &Set) -> impl Iterator<Item = (u64, u64)> + '_ {
     set.used_streams().iter().flat_map(|stream| {
         stream
             .used_tuples()
             .iter()
             .filter_map(|tuple| tuple.cycle())
-            .map(|cycle| (u64::from(stream.cost), u64::from(cycle)))
+            .map(|cycle| (stream.cost_of_all_stages(), u64::from(cycle)))
     })
 }
 
@@ -245,7 +252,7 @@ impl CountedTuple {
         for stream in set.used_streams() {
             for tuple in stream.used_tuples() {
                 all.push(CountedTuple {
-                    cost: u64::from(stream.cost),
+                    cost: stream.cost_of_all_stages(),
                     next: u64::from(stream.deadline) + u64::from(tuple.offset()),
                     cycle: tuple.cycle().map_or(Self::NEVER, u64::from),
                 });

@@ -82,8 +82,8 @@ impl<'a> Reader<'a> {
 /// `end` or `refused 13` or `refused 14`"; "all steps before them stand". "The start: bytes of a
 /// sheet, and reading's refusals 5, 6, 7, 10 as they are": as with a trace, "a refused sheet
 /// prints only that line".
-pub fn run(sheet: &[u8], recording: &[u8]) -> Run {
-    let (mut run, mut state) = match Run::begin(sheet) {
+pub fn run(sheet: &[u8], recording: &[u8], requests: u32) -> Run {
+    let (mut run, mut state) = match Run::begin(sheet, requests) {
         (run, Some(state)) => (run, state),
         (run, None) => return run,
     };

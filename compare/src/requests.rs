@@ -4,15 +4,19 @@
 
 /// The requests of document 02 that are in force: all up to this number. A request's landing
 /// raises it.
-pub const IN_FORCE: u32 = 2;
+pub const IN_FORCE: u32 = 4;
 
 /// The last request that is rendered here. Those above [`IN_FORCE`] wait for their landing.
-pub const RENDERED: u32 = JITTER_BOTH_WAYS;
+pub const RENDERED: u32 = STAGES;
 
 /// "CR 1. Replay a cab's recording in the office."
 pub const REPLAY: u32 = 1;
 /// "CR 2. Jitter goes both ways."
 pub const JITTER_BOTH_WAYS: u32 = 2;
+/// "CR 3. Less stack in choosing." "No answer changes, ties included."
+pub const LESS_STACK: u32 = 3;
+/// "CR 4. Stages for the boom message."
+pub const STAGES: u32 = 4;
 
 /// The number that a program goes by, and its other arguments: [`IN_FORCE`], or, for trying, N
 /// where the last arguments are `--requests N`. None if request N is not rendered here.

@@ -1,6 +1,10 @@
 //! "Streams and sets": what a set is, when it is valid, its event limits, the jittered cycle.
 //!
 //! A set here can hold any number in any place, so that sets out of rule can be asked about.
+//!
+//! Streams have stages and sets a version whether request 4 is in force or not: before it, "a
+//! task" and "a cost c" are those of the one stage, and every set that can be put or read has
+//! version 1.
 
 use crate::refusal::Refusal;
 use crate::requests::JITTER_BOTH_WAYS;
@@ -9,6 +13,10 @@ use crate::requests::JITTER_BOTH_WAYS;
 pub const STREAM_PLACES: usize = 16;
 /// "1 to 4 tuples"
 pub const TUPLE_PLACES: usize = 4;
+/// "A stream gets 1 to 4 stages"
+pub const STAGE_PLACES: usize = 4;
+/// "Set: its version, 1 or 2"
+pub const GREATEST_VERSION: u32 = 2;
 /// "a task (0 to 15 ...)"
 pub const GREATEST_TASK: u32 = 15;
 /// "a cost c (1 to 65,535)"
@@ -77,13 +85,34 @@ impl Tuple {
     }
 }
 
-/// "A stream has a task [...], a cost c [...], a relative deadline d [...] and 1 to 4 tuples."
+/// A stage: "each a task and a cost".
 #[derive(Clone, Copy, Debug, PartialEq, Eq)]
-pub struct Stream {
+pub struct Stage {
     /// The task.
     pub task: u32,
     /// The cost c.
     pub cost: u32,
+}
+
+impl Stage {
+    /// "unused stage places zero"
+    pub const UNUSED: Stage = Stage { task: 0, cost: 0 };
+
+    /// "a task (0 to 15 ...), a cost c (1 to 65,535)"
+    fn in_rule(self) -> bool {
+        self.task <= GREATEST_TASK && (1..=GREATEST_COST).contains(&self.cost)
+    }
+}
+
+/// "A stream has a task [...], a cost c [...], a relative deadline d [...] and 1 to 4 tuples."
+/// "Stream: `stages` 1 to 4, each a task and a cost [...]. They take the place of the stream's
+/// task and cost."
+#[derive(Clone, Copy, Debug, PartialEq, Eq)]
+pub struct Stream {
+    /// How many of the stage places are used.
+    pub stage_count: u32,
+    /// The stage places.
+    pub stages: [Stage; STAGE_PLACES],
     /// The relative deadline d.
     pub deadline: u32,
     /// How many of the tuple places are used.
@@ -95,12 +124,25 @@ pub struct Stream {
 impl Stream {
     /// "Unused places are zero, an unused tuple once at 0."
     pub const UNUSED: Stream = Stream {
-        task: 0,
-        cost: 0,
+        stage_count: 0,
+        stages: [Stage::UNUSED; STAGE_PLACES],
         deadline: 0,
         tuple_count: 0,
         tuples: [Tuple::UNUSED; TUPLE_PLACES],
     };
+
+    /// The stages of a stream in rule, in order.
+    pub fn used_stages(&self) -> &[Stage] {
+        &self.stages[..self.stage_count as usize]
+    }
+
+    /// "the sum of a stream's costs", of a stream in rule.
+    pub fn cost_of_all_stages(&self) -> u64 {
+        self.used_stages()
+            .iter()
+            .map(|stage| u64::from(stage.cost))
+            .sum()
+    }
 
     /// The tuples of a stream in rule.
     pub fn used_tuples(&self) -> &[Tuple] {
@@ -109,11 +151,18 @@ impl Stream {
 
     /// The rules of one stream of the set.
     fn in_rule(&self) -> bool {
-        self.task <= GREATEST_TASK
-            && (1..=GREATEST_COST).contains(&self.cost)
+        (1..=STAGE_PLACES as u32).contains(&self.stage_count)
+            && self.stages_in_rule()
             && (1..=GREATEST_DEADLINE).contains(&self.deadline)
             && (1..=TUPLE_PLACES as u32).contains(&self.tuple_count)
             && self.tuples_in_rule()
+    }
+
+    /// "each a task and a cost (1 to 65,535); unused stage places zero"
+    fn stages_in_rule(&self) -> bool {
+        let (used, unused) = self.stages.split_at(self.stage_count as usize);
+        used.iter().all(|stage| stage.in_rule())
+            && unused.iter().all(|stage| *stage == Stage::UNUSED)
     }
 
     /// "Offsets are 0 to 100,000; the first is 0 and they never fall. [...] an unused tuple once
@@ -140,28 +189,40 @@ impl Stream {
     }
 }
 
-/// "A set has 0 to 16 streams, numbered from 0 in order."
+/// "A set has 0 to 16 streams, numbered from 0 in order." "A set records its version".
 #[derive(Clone, Copy, Debug, PartialEq, Eq)]
 pub struct Set {
     /// How many of the stream places are used.
     pub count: u32,
     /// The stream places.
     pub streams: [Stream; STREAM_PLACES],
+    /// The version.
+    pub version: u32,
 }
 
 impl Set {
-    /// The set of no streams.
+    /// The set of no streams. "a refusal's empty set is version 1"
     pub const EMPTY: Set = Set {
         count: 0,
         streams: [Stream::UNUSED; STREAM_PLACES],
+        version: 1,
     };
 
-    /// The set of the given streams, at most 16, in order.
+    /// The set of version 1 of the given streams, at most 16, in order.
     pub fn of(streams: &[Stream]) -> Set {
         let mut set = Set::EMPTY;
         set.count = streams.len() as u32;
         set.streams[..streams.len()].copy_from_slice(streams);
         set
+    }
+
+    /// The same of a version. "A version 1 and a version 2 set with the same streams are two sets
+    /// and have two sheets."
+    pub fn of_version(version: u32, streams: &[Stream]) -> Set {
+        Set {
+            version,
+            ..Set::of(streams)
+        }
     }
 
     /// The streams of a valid set.
@@ -170,12 +231,19 @@ impl Set {
     }
 
     /// Count 0 to 16, every stream in rule, "Unused places are zero". "Any other set is invalid."
+    /// "a version 1 set has one stage everywhere; any other version, or more stages in version 1,
+    /// is invalid"
     pub fn valid(&self) -> bool {
         if self.count as usize > STREAM_PLACES {
             return false;
         }
         let (used, unused) = self.streams.split_at(self.count as usize);
-        used.iter().all(Stream::in_rule) && unused.iter().all(|stream| *stream == Stream::UNUSED)
+        used.iter().all(Stream::in_rule)
+            && unused.iter().all(|stream| *stream == Stream::UNUSED)
+            && match self.version {
+                1 => used.iter().all(|stream| stream.stage_count == 1),
+                version => version == GREATEST_VERSION,
+            }
     }
 }
 

@@ -3,17 +3,21 @@
 use std::{fs, io};
 
 use crate::refusal::Refusal;
+use crate::requests::STAGES;
 use crate::set::{
-    Set, Stream, Tuple, GREATEST_COST, GREATEST_CYCLE, GREATEST_DEADLINE, GREATEST_OFFSET,
+    Set, Stage, Stream, Tuple, GREATEST_COST, GREATEST_CYCLE, GREATEST_DEADLINE, GREATEST_OFFSET,
     STREAM_PLACES,
 };
 
 /// "version (4 bits, 1)"
-pub const VERSION: u32 = 1;
+pub const VERSION_1: u32 = 1;
+/// "Sheets of version 2 carry, after the deadline, 2 bits of stages less one and that many task
+/// and cost pairs in place of the single pair."
+pub const VERSION_2: u32 = 2;
 
 /// The widths of the fields: "version (4 bits, 1), stream count (5); for each stream task (4),
 /// cost (16), deadline (18), tuples less one (2); for each tuple cycle (20, 0 for once),
-/// offset (17)."
+/// offset (17)." Of version 2 also "stages less one 2".
 pub mod width {
     #![allow(missing_docs)]
     pub const VERSION: u32 = 4;
@@ -21,12 +25,16 @@ pub mod width {
     pub const TASK: u32 = 4;
     pub const COST: u32 = 16;
     pub const DEADLINE: u32 = 18;
+    pub const STAGES_LESS_ONE: u32 = 2;
     pub const TUPLES_LESS_ONE: u32 = 2;
     pub const CYCLE: u32 = 20;
     pub const OFFSET: u32 = 17;
 }
 
 /// The bytes of the file set.bin. "A missing set.bin is read as no bytes."
+///
+/// "The file set.bin is then read to 503 bytes": a sheet has at most 502, and what stands behind a
+/// further byte changes no answer, so all of them are read here.
 pub fn bytes_of_file() -> io::Result<Vec<u8>> {
     match fs::read("set.bin") {
         Err(error) if error.kind() == io::ErrorKind::NotFound => Ok(Vec::new()),
@@ -94,28 +102,47 @@ impl BitReader<'_> {
 /// "Reading goes field by field: bits missing gives 5, else a bad version 6, else a value outside
 /// the rules 7, an offset that breaks the offset rule included. After the last field, a set
 /// padding bit or a further byte gives 10."
-pub fn read(sheet: &[u8]) -> Result<Set, Refusal> {
+///
+/// With request 4 in force "6 is no longer given for version 2": "6 for any version but 1 and 2".
+pub fn read(sheet: &[u8], requests: u32) -> Result<Set, Refusal> {
     let mut reader = BitReader {
         bytes: sheet,
         position: 0,
     };
-    if reader.field(width::VERSION)? != VERSION {
+    let mut set = Set::EMPTY;
+    set.version = reader.field(width::VERSION)?;
+    let good = match set.version {
+        VERSION_1 => true,
+        VERSION_2 => requests >= STAGES,
+        _ => false,
+    };
+    if !good {
         return Err(Refusal::BadVersion);
     }
-    let mut set = Set::EMPTY;
     set.count = reader.field_in(width::STREAM_COUNT, 0, STREAM_PLACES as u32)?;
     for place in 0..set.count as usize {
-        set.streams[place] = read_stream(&mut reader)?;
+        set.streams[place] = read_stream(&mut reader, set.version)?;
     }
     reader.end()?;
     Ok(set)
 }
 
-fn read_stream(reader: &mut BitReader) -> Result<Stream, Refusal> {
+/// "for each stream task (4), cost (16), deadline (18), tuples less one (2)"; of version 2 "for
+/// each stream deadline 18, stages less one 2, that many times task 4 and cost 16, tuples less one
+/// 2, tuples as before".
+fn read_stream(reader: &mut BitReader, version: u32) -> Result<Stream, Refusal> {
     let mut stream = Stream::UNUSED;
-    stream.task = reader.field(width::TASK)?;
-    stream.cost = reader.field_in(width::COST, 1, GREATEST_COST)?;
-    stream.deadline = reader.field_in(width::DEADLINE, 1, GREATEST_DEADLINE)?;
+    if version == VERSION_2 {
+        stream.deadline = reader.field_in(width::DEADLINE, 1, GREATEST_DEADLINE)?;
+        stream.stage_count = reader.field(width::STAGES_LESS_ONE)? + 1;
+        for place in 0..stream.stage_count as usize {
+            stream.stages[place] = read_stage(reader)?;
+        }
+    } else {
+        stream.stage_count = 1;
+        stream.stages[0] = read_stage(reader)?;
+        stream.deadline = reader.field_in(width::DEADLINE, 1, GREATEST_DEADLINE)?;
+    }
     stream.tuple_count = reader.field(width::TUPLES_LESS_ONE)? + 1;
     let mut least_offset = 0;
     let mut greatest_offset = 0; // "the first is 0"
@@ -125,6 +152,13 @@ fn read_stream(reader: &mut BitReader) -> Result<Stream, Refusal> {
         greatest_offset = GREATEST_OFFSET; // "0 to 100,000"
     }
     Ok(stream)
+}
+
+/// "task (4), cost (16)"; "A stage's cost 0 is 7."
+fn read_stage(reader: &mut BitReader) -> Result<Stage, Refusal> {
+    let task = reader.field(width::TASK)?;
+    let cost = reader.field_in(width::COST, 1, GREATEST_COST)?;
+    Ok(Stage { task, cost })
 }
 
 /// "for each tuple cycle (20, 0 for once), offset (17)"
@@ -176,11 +210,24 @@ impl BitWriter {
 
 /// The fields of a valid set's sheet in order, each a value and its width.
 pub fn fields(set: &Set) -> Vec<(u32, u32)> {
-    let mut fields = vec![(VERSION, width::VERSION), (set.count, width::STREAM_COUNT)];
+    let mut fields = vec![
+        (set.version, width::VERSION),
+        (set.count, width::STREAM_COUNT),
+    ];
     for stream in set.used_streams() {
-        fields.push((stream.task, width::TASK));
-        fields.push((stream.cost, width::COST));
-        fields.push((stream.deadline, width::DEADLINE));
+        let deadline = (stream.deadline, width::DEADLINE);
+        let pairs = stream
+            .used_stages()
+            .iter()
+            .flat_map(|stage| [(stage.task, width::TASK), (stage.cost, width::COST)]);
+        if set.version == VERSION_2 {
+            fields.push(deadline);
+            fields.push((stream.stage_count - 1, width::STAGES_LESS_ONE));
+            fields.extend(pairs);
+        } else {
+            fields.extend(pairs);
+            fields.push(deadline);
+        }
         fields.push((stream.tuple_count - 1, width::TUPLES_LESS_ONE));
         for tuple in stream.used_tuples() {
             fields.push((tuple.cycle().unwrap_or(0), width::CYCLE));

@@ -5,14 +5,14 @@
 use std::fmt;
 
 use crate::refusal::Refusal;
-use crate::set::{Set, Stream, GREATEST_TASK};
+use crate::set::{Set, Stage, Stream, GREATEST_TASK};
 
 /// "up to 64 pending messages"
 pub const MESSAGE_PLACES: usize = 64;
 /// "the clock is at most 4,000,000,000"
 pub const LAST_CLOCK: u32 = 4_000_000_000;
 
-/// A message: "each with stream, absolute deadline and units used".
+/// A message: "each with stream, absolute deadline and units used"; "its stage, last".
 #[derive(Clone, Copy, Debug, PartialEq, Eq)]
 pub struct Message {
     /// The number of its stream.
@@ -21,6 +21,8 @@ pub struct Message {
     pub deadline: u32,
     /// The units used.
     pub used: u32,
+    /// The stage it is in, from 0.
+    pub stage: u32,
 }
 
 impl Message {
@@ -29,6 +31,7 @@ impl Message {
         stream: 0,
         deadline: 0,
         used: 0,
+        stage: 0,
     };
 
     fn started(&self) -> bool {
@@ -75,6 +78,13 @@ pub enum Answer {
         /// The deadline minus the clock after the unit.
         laxity: i64,
     },
+    /// "Finished means the last; an earlier one answers passed."
+    Passed {
+        /// The task that ran.
+        task: u32,
+        /// The stream of its message.
+        stream: u32,
+    },
     /// "If not done and its used units now equal c, it leaves as cut."
     Cut {
         /// The task that ran.
@@ -92,7 +102,7 @@ pub enum Answer {
 
 impl fmt::Display for Answer {
     /// "(posted stream deadline; ran task stream; done or cut task stream laxity; idle;
-    /// refused N)"
+    /// refused N)"; "The trace program prints passed with task and stream."
     fn fmt(&self, out: &mut fmt::Formatter) -> fmt::Result {
         match self {
             Answer::Posted { stream, deadline } => write!(out, "posted {stream} {deadline}"),
@@ -102,6 +112,7 @@ impl fmt::Display for Answer {
                 stream,
                 laxity,
             } => write!(out, "done {task} {stream} {laxity}"),
+            Answer::Passed { task, stream } => write!(out, "passed {task} {stream}"),
             Answer::Cut {
                 task,
                 stream,
@@ -154,10 +165,19 @@ impl State {
         &self.set.streams[message.stream as usize]
     }
 
+    /// "A message's task and cost are those of its present stage": the stage that a message of a
+    /// well formed state is in.
+    pub fn stage_of(&self, message: &Message) -> Stage {
+        self.stream_of(message).stages[message.stage as usize]
+    }
+
     /// "It is well formed if the set is valid; there are at most 64 messages; the clock is at most
     /// 4,000,000,000; each message names a stream of the set, has used less than c, and has a
     /// deadline from d to clock + d; deadline less d never falls along the order; each task has at
     /// most one message with a used unit; unused places are zero."
+    ///
+    /// With stages: "the stage is one of its stream's; it has used less than that stage's cost;
+    /// each task has at most one message *in a stage of that task* with a used unit".
     pub fn well_formed(&self) -> bool {
         self.set.valid()
             && self.pending as usize <= MESSAGE_PLACES
@@ -174,15 +194,19 @@ impl State {
     }
 
     /// "each message names a stream of the set, has used less than c, and has a deadline from d to
-    /// clock + d"
+    /// clock + d"; "the stage is one of its stream's; it has used less than that stage's cost"
     fn message_in_rule(&self, message: &Message) -> bool {
         if message.stream >= self.set.count {
             return false;
         }
         let stream = self.stream_of(message);
+        if message.stage >= stream.stage_count {
+            return false;
+        }
         let least = u64::from(stream.deadline);
         let greatest = u64::from(self.clock) + u64::from(stream.deadline);
-        message.used < stream.cost && (least..=greatest).contains(&u64::from(message.deadline))
+        message.used < self.stage_of(message).cost
+            && (least..=greatest).contains(&u64::from(message.deadline))
     }
 
     /// "deadline less d never falls along the order"
@@ -193,7 +217,7 @@ impl State {
             .all(|pair| posted_at(&pair[0]) <= posted_at(&pair[1]))
     }
 
-    /// "each task has at most one message with a used unit"
+    /// "each task has at most one message *in a stage of that task* with a used unit"
     fn one_started_for_each_task(&self) -> bool {
         (0..=GREATEST_TASK).all(|task| {
             self.messages_of_task(task)
@@ -203,12 +227,12 @@ impl State {
         })
     }
 
-    /// The pending messages of a task with their places, in posting order.
+    /// The pending messages in a stage of a task, with their places, in posting order.
     fn messages_of_task(&self, task: u32) -> impl Iterator<Item = (usize, &Message)> + '_ {
         self.pending_messages()
             .iter()
             .enumerate()
-            .filter(move |(_, message)| self.stream_of(message).task == task)
+            .filter(move |(_, message)| self.stage_of(message).task == task)
     }
 
     /// "Post. A message with deadline clock + d and 0 used goes last." Refusals: "post 12, 1, 2".
@@ -228,6 +252,7 @@ impl State {
             stream,
             deadline,
             used: 0,
+            stage: 0,
         };
         self.pending += 1;
         Answer::Posted { stream, deadline }
@@ -274,15 +299,20 @@ impl State {
     }
 
     /// The place of the chosen message of a well formed state, none with nothing pending.
-    fn chosen_place(&self) -> Option<usize> {
+    pub fn chosen_place(&self) -> Option<usize> {
         self.chosen_task().and_then(|task| self.served_place(task))
+    }
+
+    /// The message that the chosen task of a well formed state serves, none with nothing pending.
+    pub fn chosen_message(&self) -> Option<&Message> {
+        self.chosen_place().map(|place| &self.messages[place])
     }
 
     /// The task and stream of the message at a place.
     fn names(&self, place: usize) -> Choice {
         let message = &self.messages[place];
         Choice {
-            task: self.stream_of(message).task,
+            task: self.stage_of(message).task,
             stream: message.stream,
         }
     }
@@ -318,14 +348,24 @@ impl State {
     /// If not done and its used units now equal c, it leaves as cut. Otherwise it stays as ran."
     /// "Each answer names task and stream; a leaving one also has the laxity, its deadline minus
     /// the clock after the unit, which is negative when late."
+    ///
+    /// With stages: "Unit with done: at the last stage it leaves as finished; at an earlier one it
+    /// stays in its place, its stage one more, used 0, its deadline as it was, and the answer is
+    /// passed with the task that ran and the stream. Without done, at its cost: cut, at any stage,
+    /// and it leaves at once."
     fn run_message(&mut self, place: usize, done: bool) -> Answer {
         let Choice { task, stream } = self.names(place);
-        let cost = self.set.streams[stream as usize].cost;
+        let cost = self.stage_of(&self.messages[place]).cost;
+        let stages = self.stream_of(&self.messages[place]).stage_count;
         self.messages[place].used += 1;
         self.clock += 1;
         let message = self.messages[place];
         let laxity = i64::from(message.deadline) - i64::from(self.clock);
-        if done {
+        if done && message.stage + 1 < stages {
+            self.messages[place].stage += 1;
+            self.messages[place].used = 0;
+            Answer::Passed { task, stream }
+        } else if done {
             self.remove(place);
             Answer::Finished {
                 task,

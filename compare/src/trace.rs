@@ -30,8 +30,8 @@ pub struct Run {
 }
 
 /// Runs a trace: the verdict, then the steps.
-pub fn run(sheet: &[u8], trace: &[u8]) -> Run {
-    let (mut run, mut state) = match Run::begin(sheet) {
+pub fn run(sheet: &[u8], trace: &[u8], requests: u32) -> Run {
+    let (mut run, mut state) = match Run::begin(sheet, requests) {
         (run, Some(state)) => (run, state),
         (run, None) => return run,
     };
@@ -56,13 +56,13 @@ impl Run {
     /// "The first line is the verdict (accept, late I demand, overload, refused N); a refused
     /// sheet prints only that line, and after any verdict on a sheet that was read, 8 included,
     /// the steps follow": the run so far, and the start of the set if one was read.
-    pub(crate) fn begin(sheet: &[u8]) -> (Run, Option<State>) {
+    pub(crate) fn begin(sheet: &[u8], requests: u32) -> (Run, Option<State>) {
         let mut run = Run {
             output: String::new(),
             calls: 0,
             sheet_refused: false,
         };
-        match sheet::read(sheet) {
+        match sheet::read(sheet, requests) {
             Ok(set) => {
                 run.print(load::verdict(&set));
                 let (state, _) = State::start(&set);

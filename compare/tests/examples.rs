@@ -5,7 +5,7 @@
 mod common;
 
 use common::said_with;
-use second::requests::{JITTER_BOTH_WAYS, REPLAY};
+use second::requests::{JITTER_BOTH_WAYS, LESS_STACK, RENDERED, REPLAY, STAGES};
 
 /// The scripts of a section, each with what it must print: a block, a line `prints`, a block.
 fn scripts(section: &str) -> Vec<(&str, &str)> {
@@ -34,4 +34,31 @@ fn request_1_replay() {
 #[test]
 fn request_2_jitter_both_ways() {
     check(JITTER_BOTH_WAYS, include_str!("examples/cr-02.md"), 3);
+}
+
+#[test]
+fn request_3_less_stack_in_choosing() {
+    check(LESS_STACK, include_str!("examples/cr-03.md"), 3);
+    // "No answer changes."
+    for requests in 0..LESS_STACK {
+        check(requests, include_str!("examples/cr-03.md"), 3);
+    }
+}
+
+#[test]
+fn request_4_stages() {
+    check(STAGES, include_str!("examples/cr-04.md"), 6);
+}
+
+#[test]
+fn earlier_examples_stay_as_they_were() {
+    for requests in REPLAY..=RENDERED {
+        check(requests, include_str!("examples/cr-01.md"), 5);
+    }
+    for requests in JITTER_BOTH_WAYS..=RENDERED {
+        check(requests, include_str!("examples/cr-02.md"), 3);
+    }
+    for requests in LESS_STACK..=RENDERED {
+        check(requests, include_str!("examples/cr-03.md"), 3);
+    }
 }

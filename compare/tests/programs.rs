@@ -2,8 +2,8 @@
 
 mod common;
 
-use common::{said_from, said_with, set_b, SHEET_W12};
-use second::requests::{JITTER_BOTH_WAYS, REPLAY};
+use common::{said_from, said_with, set_b, set_of_stages, SHEET_W12};
+use second::requests::{JITTER_BOTH_WAYS, LESS_STACK, RENDERED, REPLAY, STAGES};
 use second::sheet::{fields, pack};
 use second::trace;
 
@@ -16,8 +16,13 @@ fn sheet_b() -> Vec<u8> {
     pack(&fields(&set_b()))
 }
 
+/// What the trace program prints, whichever requests are in force.
 fn traced(sheet: &[u8], steps: &[u8]) -> String {
-    trace::run(sheet, steps).output
+    let output = trace::run(sheet, steps, 0).output;
+    for requests in 0..=RENDERED {
+        assert_eq!(trace::run(sheet, steps, requests).output, output);
+    }
+    output
 }
 
 #[test]
@@ -41,7 +46,7 @@ accept
         traced(&sheet_b(), b"\n p1 u\np2p0uu  dud\nud\n \n"),
         expected
     );
-    let run = trace::run(&sheet_b(), b"p1up2p0uududud");
+    let run = trace::run(&sheet_b(), b"p1up2p0uududud", RENDERED);
     assert_eq!((run.calls, run.sheet_refused), (11, false));
 }
 
@@ -50,7 +55,7 @@ fn a_refused_sheet_prints_only_that_line() {
     for (sheet, output) in [
         (&[][..], "refused 5\n"),
         (&[0x10], "refused 5\n"),
-        (&[0x20, 0x00], "refused 6\n"),
+        (&[0x30, 0x00], "refused 6\n"),
         (&[0x18, 0x80], "refused 7\n"),
         (&[0x10, 0x01], "refused 10\n"),
         (&[0x10, 0x00, 0x00], "refused 10\n"),
@@ -66,12 +71,12 @@ fn steps_follow_after_every_verdict() {
         "accept\n0 idle\n1 refused 1\n1 refused 4\n"
     );
     let mut set = set_b();
-    set.streams[0].cost = 3;
+    set.streams[0].stages[0].cost = 3;
     assert_eq!(
         traced(&pack(&fields(&set)), b"p0"),
         "late 5 6\n0 posted 0 5\n"
     );
-    set.streams[0].cost = 30;
+    set.streams[0].stages[0].cost = 30;
     assert_eq!(
         traced(&pack(&fields(&set)), b"p0"),
         "overload\n0 posted 0 5\n"
@@ -333,4 +338,34 @@ fn lines_in_the_console() {
         said(&format!("{}\nunit", "x".repeat(100_000))),
         "?\n0 idle\n"
     );
+}
+
+#[test]
+fn a_trace_of_a_sheet_of_version_2() {
+    let sheet = pack(&fields(&set_of_stages()));
+    let expected = "\
+accept
+0 posted 1 30
+0 ran 4 1
+1 posted 0 13
+1 ran 1 0
+2 passed 1 0
+3 cut 4 1 26
+4 ran 4 0
+5 ran 4 0
+6 done 4 0 6
+7 posted 0 19
+7 ran 1 0
+8 cut 1 0 10
+9 refused 4
+";
+    let steps = b"p1up0uduuudp0uud";
+    assert_eq!(trace::run(&sheet, steps, STAGES).output, expected);
+    let empty = trace::run(&[0x20, 0x00], b"u", STAGES).output;
+    assert_eq!(empty, "accept\n0 idle\n");
+    for requests in 0..=LESS_STACK {
+        for sheet in [&sheet[..], &[0x20, 0x00]] {
+            assert_eq!(trace::run(sheet, steps, requests).output, "refused 6\n");
+        }
+    }
 }

@@ -5,11 +5,11 @@ mod common;
 use std::io::Write;
 use std::process::{Command, Output, Stdio};
 
-use common::{every, said_from, set_b, set_w12, stream, SHEET_W12};
+use common::{every, said_from, set_b, set_of_stages, set_w12, stream, SHEET_W12};
 use second::recording::{append, finish, record, recording_of, said_at, Place, Said};
 use second::refusal::Refusal;
 use second::replay::{self, step, Reader, Replayed};
-use second::requests::REPLAY;
+use second::requests::{LESS_STACK, RENDERED, REPLAY, STAGES};
 use second::set::Set;
 use second::sheet::{fields, pack};
 use second::state::{Answer, State, LAST_CLOCK};
@@ -385,37 +385,45 @@ fn what_the_replay_program_prints() {
     let sheet = pack(&fields(&set_b()));
     let trace = b"p1up2p0uududud";
     let recording = recording_of(&trace::steps(trace).unwrap());
-    let traced = trace::run(&sheet, trace);
-    let replayed = replay::run(&sheet, &recording);
+    let traced = trace::run(&sheet, trace, RENDERED);
+    let replayed = replay::run(&sheet, &recording, RENDERED);
     assert_eq!(replayed.output, format!("{}end\n", traced.output));
     assert_eq!(
         (replayed.calls, replayed.sheet_refused),
         (traced.calls, false)
     );
     assert_eq!(
-        replay::run(&SHEET_W12, &[0x01]).output,
+        replay::run(&SHEET_W12, &[0x01], RENDERED).output,
         "accept\n0 posted 0 5\n0 ran 3 0\nrefused 13\n"
     );
     assert_eq!(
-        replay::run(&SHEET_W12, &[0x70, 0x00]).output,
+        replay::run(&SHEET_W12, &[0x70, 0x00], RENDERED).output,
         "accept\n0 idle\nrefused 14\n"
     );
-    assert_eq!(replay::run(&SHEET_W12, &[]).output, "accept\nrefused 13\n");
-    assert_eq!(replay::run(&[0x10, 0x00], &[0xc0]).output, "accept\nend\n");
+    assert_eq!(
+        replay::run(&SHEET_W12, &[], RENDERED).output,
+        "accept\nrefused 13\n"
+    );
+    assert_eq!(
+        replay::run(&[0x10, 0x00], &[0xc0], RENDERED).output,
+        "accept\nend\n"
+    );
 }
 
 #[test]
 fn a_refused_sheet_replays_nothing() {
     for (sheet, output) in [
         (&[][..], "refused 5\n"),
-        (&[0x20, 0x00], "refused 6\n"),
+        (&[0x30, 0x00], "refused 6\n"),
         (&[0x18, 0x80], "refused 7\n"),
         (&[0x10, 0x00, 0x00], "refused 10\n"),
     ] {
         for recording in [&[][..], &[0x40, 0xc0], &[0xc1], &[0xc0]] {
-            let run = replay::run(sheet, recording);
-            assert_eq!(run.output, output);
-            assert_eq!((run.calls, run.sheet_refused), (0, true));
+            for requests in 0..=RENDERED {
+                let run = replay::run(sheet, recording, requests);
+                assert_eq!(run.output, output);
+                assert_eq!((run.calls, run.sheet_refused), (0, true));
+            }
         }
     }
     // Every verdict on a sheet that was read is followed by the steps.
@@ -429,9 +437,36 @@ fn a_refused_sheet_replays_nothing() {
         (set(2, 1), "overload"),
         (set(1, 999_999), "refused 8"),
     ] {
-        let output = replay::run(&sheet, &[0x03]).output;
+        let output = replay::run(&sheet, &[0x03], RENDERED).output;
         assert_eq!(output, format!("{verdict}\n0 posted 0 5\nend\n"));
     }
+}
+
+#[test]
+fn a_replay_of_a_set_with_stages() {
+    // "Replay and recordings need no new bits."
+    let calls = steps("p1up0uduuudp0uudp0dddp0dud");
+    let recording = recording_of(&calls);
+    let set = set_of_stages();
+    let mut cab = started(&set);
+    let mut office = cab;
+    let mut reader = Reader::new(&recording);
+    let mut passed = 0;
+    for &made in &calls {
+        let answer = call(&mut cab, made);
+        passed += u32::from(matches!(answer, Answer::Passed { .. }));
+        assert_eq!(reader.next(&mut office), Replayed::Called(answer));
+        assert_eq!(office, cab);
+    }
+    assert_eq!(passed, 3);
+    assert_eq!(reader.next(&mut office), Replayed::End);
+    let sheet = pack(&fields(&set));
+    let traced = trace::run(&sheet, b"p1up0uduuud", STAGES).output;
+    let recording = recording_of(&steps("p1up0uduuud"));
+    let replayed = replay::run(&sheet, &recording, STAGES).output;
+    assert_eq!(replayed, format!("{traced}end\n"));
+    let before = replay::run(&sheet, &recording, LESS_STACK).output;
+    assert_eq!(before, "refused 6\n");
 }
 
 #[test]

@@ -6,7 +6,9 @@ use std::process::{Command, Output};
 
 use common::{said_from, said_with};
 use second::console::Console;
-use second::requests::{of_arguments, IN_FORCE, JITTER_BOTH_WAYS, RENDERED, REPLAY};
+use second::requests::{
+    of_arguments, IN_FORCE, JITTER_BOTH_WAYS, LESS_STACK, RENDERED, REPLAY, STAGES,
+};
 
 /// Lines that are commands by request 1.
 const COMMANDS_OF_REPLAY: [&str; 9] = [
@@ -21,6 +23,17 @@ const COMMANDS_OF_REPLAY: [&str; 9] = [
     "record 3 p0ud",
 ];
 
+/// Lines that are commands by request 4.
+const COMMANDS_OF_STAGES: [&str; 7] = [
+    "version 1",
+    "version 2",
+    "version 4294967295",
+    "stages 0 1",
+    "stages 15 0",
+    "stage 0 0 1 1",
+    "staged 63 0",
+];
+
 #[test]
 fn what_is_in_force_is_rendered() {
     assert!((0..=RENDERED).contains(&IN_FORCE));
@@ -31,6 +44,12 @@ fn commands_come_with_their_request() {
     for command in COMMANDS_OF_REPLAY {
         assert_eq!(said_with(0, command), "?\n", "{command}");
         assert_ne!(said_from(REPLAY, command), "?\n", "{command}");
+    }
+    for command in COMMANDS_OF_STAGES {
+        for requests in 0..STAGES {
+            assert_eq!(said_with(requests, command), "?\n", "{command}");
+        }
+        assert_eq!(said_from(STAGES, command), "put\n", "{command}");
     }
 }
 
@@ -45,6 +64,25 @@ fn a_command_that_is_not_in_force_changes_nothing() {
         assert_eq!(console.line(command.as_bytes()), "?\n", "{command}");
         assert_eq!(console, before, "{command}");
     }
+    let mut console = Console::new(LESS_STACK);
+    for line in ["read 10980010000a0000500000", "start", "post 0", "unit"] {
+        console.line(line.as_bytes());
+    }
+    let before = console.clone();
+    for command in COMMANDS_OF_STAGES {
+        assert_eq!(console.line(command.as_bytes()), "?\n", "{command}");
+        assert_eq!(console, before, "{command}");
+    }
+}
+
+#[test]
+fn a_sheet_of_version_2_is_refused_before_request_4() {
+    let script = "read 2000\nwrite 2";
+    for requests in 0..STAGES {
+        let said = said_with(requests, script);
+        assert_eq!(said, "refused 6\nwrote 2\n1000\n", "{requests}");
+    }
+    assert_eq!(said_from(STAGES, script), "set 0\nwrote 2\n2000\n");
 }
 
 #[test]

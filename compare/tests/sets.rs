@@ -107,7 +107,7 @@ fn verdicts_come_in_order() {
     assert_eq!(both_verdicts(&set), Verdict::Overload);
     // 7 comes before 8.
     set.streams[0].tuples[0] = every(999_999, 0);
-    set.streams[0].cost = 0;
+    set.streams[0].stages[0].cost = 0;
     assert_eq!(both_verdicts(&set), Verdict::Refused(Refusal::OutOfRule));
 }
 
@@ -158,7 +158,7 @@ fn limits_and_demands_refused() {
     assert_eq!(event_limit(&set_b(), 3, 0), refused);
     assert_eq!(event_limit(&set_b(), u32::MAX, 0), refused);
     let mut invalid = set_b();
-    invalid.streams[2].cost = 0;
+    invalid.streams[2].stages[0].cost = 0;
     assert_eq!(event_limit(&invalid, 0, 0), refused);
     assert_eq!(demand(&invalid, 0), refused);
 }
@@ -285,9 +285,9 @@ fn sets_out_of_rule_are_invalid() {
         |set| set.count = 4,
         |set| set.count = 17,
         |set| set.count = u32::MAX,
-        |set| set.streams[0].task = 16,
-        |set| set.streams[0].cost = 0,
-        |set| set.streams[0].cost = 65_536,
+        |set| set.streams[0].stages[0].task = 16,
+        |set| set.streams[0].stages[0].cost = 0,
+        |set| set.streams[0].stages[0].cost = 65_536,
         |set| set.streams[0].deadline = 0,
         |set| set.streams[0].deadline = 200_001,
         |set| set.streams[0].tuple_count = 0,
@@ -308,8 +308,8 @@ fn sets_out_of_rule_are_invalid() {
             set.streams[0].tuples[1] = once(5);
             set.streams[0].tuples[2] = every(7, 4);
         },
-        |set| set.streams[3].task = 1,
-        |set| set.streams[3].cost = 1,
+        |set| set.streams[3].stages[0].task = 1,
+        |set| set.streams[3].stages[0].cost = 1,
         |set| set.streams[3].deadline = 1,
         |set| set.streams[15].tuple_count = 1,
         |set| set.streams[15].tuples[3] = once(1),

@@ -18,6 +18,7 @@ fn message(stream: u32, deadline: u32, used: u32) -> Message {
         stream,
         deadline,
         used,
+        stage: 0,
     }
 }
 
@@ -252,7 +253,7 @@ fn nothing_is_chosen_with_nothing_pending() {
 const FAULTS: &[fn(&mut State)] = &[
     // "the set is valid"
     |state| state.set.streams[0].deadline = 0,
-    |state| state.set.streams[9].task = 1,
+    |state| state.set.streams[9].stages[0].task = 1,
     // "there are at most 64 messages"
     |state| state.pending = 65,
     |state| state.pending = u32::MAX,

@@ -1,6 +1,6 @@
 //! The sheets and calls that are measured, and random ones that are compared.
 
-use second::set::{Set, Stream, Tuple};
+use second::set::{Set, Stage, Stream, Tuple};
 use second::sheet::{fields, pack};
 
 /// A full set with H = 1,000,000 that is accepted: 16 streams of so many tuples, on 5 tasks.
@@ -53,12 +53,12 @@ pub fn units(streams: usize, pending: usize, calls: usize) -> Vec<u8> {
 
 fn stream(task: u32, cost: u32, deadline: u32, count: u32, place: impl Fn(u32) -> Tuple) -> Stream {
     let mut stream = Stream {
-        task,
-        cost,
+        stage_count: 1,
         deadline,
         tuple_count: count,
         ..Stream::UNUSED
     };
+    stream.stages[0] = Stage { task, cost };
     for j in 0..count {
         stream.tuples[j as usize] = place(j);
     }
@@ -80,10 +80,12 @@ impl Random {
         ((self.0 >> 16) % u64::from(n)) as u32
     }
 
-    /// A sheet of small numbers, so that its verdict is quick; every third one is damaged.
+    /// A sheet of small numbers, so that its verdict is quick; every third one is damaged. Every
+    /// second one has version 2.
     pub fn sheet(&mut self) -> Vec<u8> {
-        let streams: Vec<Stream> = (0..self.below(17)).map(|_| self.stream()).collect();
-        let mut bytes = sheet(&streams);
+        let version = 1 + self.below(2);
+        let streams: Vec<Stream> = (0..self.below(17)).map(|_| self.stream(version)).collect();
+        let mut bytes = pack(&fields(&Set::of_version(version, &streams)));
         match self.below(9) {
             0 => bytes.truncate(self.below(bytes.len() as u32 + 1) as usize),
             1 => bytes.push(self.below(2) as u8),
@@ -93,7 +95,7 @@ impl Random {
         bytes
     }
 
-    fn stream(&mut self) -> Stream {
+    fn stream(&mut self, version: u32) -> Stream {
         const CYCLES: [u32; 12] = [1, 2, 3, 4, 5, 6, 10, 12, 15, 20, 60, 120];
         let mut offset = 0;
         let tuples: Vec<Tuple> = (0..1 + self.below(4))
@@ -115,9 +117,16 @@ impl Random {
             self.below(3)
         };
         let deadline = 1 + self.below(200);
-        stream(self.below(16), cost, deadline, tuples.len() as u32, |j| {
-            tuples[j as usize]
-        })
+        let place = |j: u32| tuples[j as usize];
+        let mut stream = stream(self.below(16), cost, deadline, tuples.len() as u32, place);
+        if version == 2 {
+            stream.stage_count += self.below(4);
+            for stage in &mut stream.stages[1..stream.stage_count as usize] {
+                stage.task = self.below(16);
+                stage.cost = 1 + self.below(6);
+            }
+        }
+        stream
     }
 
     /// Posts, units and units with done.

@@ -1,11 +1,12 @@
 //! The second program's answers in the same numbers: a third opinion on every result.
 
 use second::load::Verdict;
+use second::requests::IN_FORCE;
 use second::set::Set;
 use second::state::State;
 
 pub fn read(sheet: &[u8], k: usize) -> u64 {
-    match second::sheet::read(sheet) {
+    match second::sheet::read(sheet, IN_FORCE) {
         Ok(set) => set
             .streams
             .get(k)
@@ -15,7 +16,7 @@ pub fn read(sheet: &[u8], k: usize) -> u64 {
 }
 
 pub fn verdict(sheet: &[u8]) -> u64 {
-    let verdict = match second::sheet::read(sheet) {
+    let verdict = match second::sheet::read(sheet, IN_FORCE) {
         Ok(set) => second::load::verdict(&set),
         Err(refusal) => Verdict::Refused(refusal),
     };
@@ -28,7 +29,7 @@ pub fn verdict(sheet: &[u8]) -> u64 {
 }
 
 pub fn run(sheet: &[u8], calls: &[u8]) -> u64 {
-    let set = second::sheet::read(sheet).unwrap_or(Set::EMPTY);
+    let set = second::sheet::read(sheet, IN_FORCE).unwrap_or(Set::EMPTY);
     let (mut state, _) = State::start(&set);
     for &call in calls {
         match call {

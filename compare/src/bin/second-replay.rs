@@ -3,12 +3,13 @@
 
 use std::io::{self, Read, Write};
 
+use second::requests::IN_FORCE;
 use second::{replay, sheet};
 
 fn main() -> io::Result<()> {
     let sheet = sheet::bytes_of_file()?;
     let mut recording = Vec::new();
     io::stdin().read_to_end(&mut recording)?;
-    let run = replay::run(&sheet, &recording);
+    let run = replay::run(&sheet, &recording, IN_FORCE);
     io::stdout().write_all(run.output.as_bytes())
 }

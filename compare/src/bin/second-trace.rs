@@ -3,12 +3,13 @@
 
 use std::io::{self, Read, Write};
 
+use second::requests::IN_FORCE;
 use second::{sheet, trace};
 
 fn main() -> io::Result<()> {
     let sheet = sheet::bytes_of_file()?;
     let mut steps = Vec::new();
     io::stdin().read_to_end(&mut steps)?;
-    let run = trace::run(&sheet, &steps);
+    let run = trace::run(&sheet, &steps, IN_FORCE);
     io::stdout().write_all(run.output.as_bytes())
 }

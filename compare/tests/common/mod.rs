@@ -1,10 +1,11 @@
-//! Sets of document 01 for the tests, and what a console script prints.
+//! Sets of documents 01 and 02 for the tests, and what a console script prints.
 
 #![allow(dead_code)]
 
 use second::console::{lines, Console};
 use second::requests::RENDERED;
-use second::set::{Set, Stream, Tuple};
+use second::set::{Set, Stage, Stream, Tuple};
+use second::sheet::VERSION_2;
 
 /// All that a script prints with the requests up to a number in force.
 pub fn said_with(requests: u32, script: &str) -> String {
@@ -33,9 +34,16 @@ pub fn every(cycle: u32, offset: u32) -> Tuple {
 }
 
 pub fn stream(task: u32, cost: u32, deadline: u32, tuples: &[Tuple]) -> Stream {
+    staged(&[(task, cost)], deadline, tuples)
+}
+
+/// A stream of stages, each a task and a cost.
+pub fn staged(stages: &[(u32, u32)], deadline: u32, tuples: &[Tuple]) -> Stream {
     let mut stream = Stream::UNUSED;
-    stream.task = task;
-    stream.cost = cost;
+    stream.stage_count = stages.len() as u32;
+    for (place, &(task, cost)) in stages.iter().enumerate() {
+        stream.stages[place] = Stage { task, cost };
+    }
     stream.deadline = deadline;
     stream.tuple_count = tuples.len() as u32;
     stream.tuples[..tuples.len()].copy_from_slice(tuples);
@@ -78,4 +86,26 @@ pub fn full_set() -> Set {
         every(1_000_000, 100_000),
     ];
     Set::of(&[stream(15, 65_535, 200_000, &tuples); 16])
+}
+
+/// (1, 2 then 4, 3; 12; every 50) and (4, 2; 30; every 50), of version 2.
+pub fn set_of_stages() -> Set {
+    Set::of_version(
+        VERSION_2,
+        &[
+            staged(&[(1, 2), (4, 3)], 12, &[every(50, 0)]),
+            staged(&[(4, 2)], 30, &[every(50, 0)]),
+        ],
+    )
+}
+
+/// The full set's streams with four stages each, all numbers at their greatest.
+pub fn full_set_of_stages() -> Set {
+    let mut set = full_set();
+    set.version = VERSION_2;
+    for stream in &mut set.streams {
+        stream.stage_count = 4;
+        stream.stages = [stream.stages[0]; 4];
+    }
+    set
 }

@@ -9,7 +9,7 @@ use Rattle.rules.specs.declared.Tuple.{Tuple}
 use Rattle.rules.specs.declared.Tuple.the-variants.{Once, Every}
 use Rattle.rules.specs.declared.ReadAnswer.{ReadAnswer}
 use Rattle.rules.specs.declared.ReadAnswer.the-variants.{Read, Refused}
-use Rattle.rules.specs.Numbers.{Says, number, refused, refused-with-0, started, posted, none, runs, ran, done, cut, idle, gives, tuples, accept, late, overload, read, wrote, ended, recorded}
+use Rattle.rules.specs.Numbers.{Says, number, refused, refused-with-0, started, posted, none, runs, ran, passed, done, cut, idle, gives, tuples, accept, late, overload, read, wrote, ended, recorded}
 use Rattle.ascii.specs.Decimal.{letters, decimalOf, signedOf, spaced}
 use Rattle.ascii.proofs.Digits.{digits-short}
 use Rattle.line.specs.Line.{lineRoom}
@@ -49,6 +49,7 @@ says-short (runs t k) =
       one (letters " stream") k,
     )
 says-short (ran t k) = omega (arith, two (letters "ran") t k)
+says-short (passed t k) = omega (arith, two (letters "passed") t k)
 says-short (done t k z) = omega (arith, three (letters "done") t k z)
 says-short (cut t k z) = omega (arith, three (letters "cut") t k z)
 says-short idle = omega arith

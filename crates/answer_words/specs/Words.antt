@@ -8,7 +8,7 @@ use Rattle.rules.specs.declared.ReadAnswer.{ReadAnswer}
 use Rattle.rules.specs.declared.ReadAnswer.the-variants.{Read, Refused}
 use Rattle.rules.specs.declared.ReplayAnswer.{ReplayAnswer}
 use Rattle.rules.specs.declared.ReplayAnswer.the-variants.{Called, Ended, Refused as NoStep}
-use Rattle.rules.specs.Numbers.{Says, callSays, number, refused, refused-with-0, started, posted, none, runs, ran, done, cut, idle, gives, tuples, accept, late, overload, read, wrote, ended, recorded}
+use Rattle.rules.specs.Numbers.{Says, callSays, number, refused, refused-with-0, started, posted, none, runs, ran, passed, done, cut, idle, gives, tuples, accept, late, overload, read, wrote, ended, recorded}
 use Rattle.rules.specs.Runs.{Step}
 use Rattle.ascii.specs.Decimal.{letters, decimalOf, signedOf, spaced, newline}
 
@@ -22,7 +22,7 @@ tupleWords (Once a) = letters "once" ++ nr a
 tupleWords (Every z a) = letters "every" ++ nr z ++ nr a
 
 -- "(accept, late I demand, overload, refused N)", "(posted stream deadline; ran task stream; done or cut task stream laxity;
--- idle; refused N)", and the console's words
+-- idle; refused N)", and the console's words; document 02, request 4: "The trace program prints passed with task and stream."
 unfoldable pub says : Says → List ℕ
 says (refused n) = letters "refused" ++ nr n
 says (refused-with-0 n) = letters "refused" ++ nr n ++ nr 0
@@ -31,6 +31,7 @@ says (posted k d) = letters "posted" ++ nr k ++ nr d
 says none = letters "none"
 says (runs t k) = letters "task" ++ nr t ++ (letters " stream" ++ nr k)
 says (ran t k) = letters "ran" ++ nr t ++ nr k
+says (passed t k) = letters "passed" ++ nr t ++ nr k
 says (done t k z) = letters "done" ++ nr t ++ nr k ++ spaced (signedOf z)
 says (cut t k z) = letters "cut" ++ nr t ++ nr k ++ spaced (signedOf z)
 says idle = letters "idle"

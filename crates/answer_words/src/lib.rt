@@ -31,6 +31,7 @@ fn unit_words(l: Line, a: UnitAnswer) -> Line
 {
     match a {
         UnitAnswer::Ran(t, k) => line::two(l, b"ran", t as u64, k as u64),
+        UnitAnswer::Passed(t, k) => line::two(l, b"passed", t as u64, k as u64),
         UnitAnswer::Finished(t, k, z) => line::signed(line::two(l, b"done", t as u64, k as u64), z),
         UnitAnswer::Cut(t, k, z) => line::signed(line::two(l, b"cut", t as u64, k as u64), z),
         UnitAnswer::Idle => line::word(l, b"idle"),

@@ -1,4 +1,4 @@
--- A message's line, and that it takes no more bytes than a line has.
+-- A message's lines, and that each takes no more bytes than a line has.
 -- Assumes nothing.
 use Prim.Native.Nat.{ℕ, _+_, _≤_}
 use native.Mathlib.Omega.{arith}
@@ -12,9 +12,9 @@ use Rattle.line.specs.Line.{lineRoom, holding, putOf, puts}
 use Rattle.ascii.proofs.Digits.{digits-short}
 use Rattle.line.proofs.Puts.{then}
 use Rattle.answer_words.specs.Words.{lineOf}
-use Rattle.answer_words.proofs.Lengths.{line-short}
+use Rattle.answer_words.proofs.Lengths.{two, line-short}
 use Rattle.answer_words.proofs.Ends.{ended}
-use Rattle.console_ask.specs.Questions.{messageText}
+use Rattle.console_ask.specs.Questions.{messageText, stagedText}
 
 -- ---- lengths
 
@@ -39,7 +39,13 @@ message-short i m =
     line-short (letters "message" ++ spaced (decimalOf i) ++ spaced (decimalOf (m .stream)) ++ spaced (decimalOf (m .deadline)) ++ spaced (decimalOf (m .used)))
     (omega (arith, four (letters "message") i (m .stream) (m .deadline) (m .used)))
 
--- ---- a message's line
+pub staged-short : (i : ℕ) (m : Message) → length (stagedText i m) ≤ lineRoom
+unfolding stagedText
+staged-short i m =
+    line-short (letters "staged" ++ spaced (decimalOf i) ++ spaced (decimalOf (m .stage)))
+    (omega (arith, two (letters "staged") i (m .stage)))
+
+-- ---- a message's lines
 
 pub message-is : (b f u v r : Line) (i : ℕ) (m : Message) → b ≡ holding []
     → f ≡ puts b (letters "message" ++ spaced (decimalOf i) ++ spaced (decimalOf (m .stream)))
@@ -50,3 +56,9 @@ message-is b f u v r i m e p q x y =
     ended b v r
     (letters "message" ++ spaced (decimalOf i) ++ spaced (decimalOf (m .stream)) ++ spaced (decimalOf (m .deadline)) ++ spaced (decimalOf (m .used)))
     (omega (arith, four (letters "message") i (m .stream) (m .deadline) (m .used))) e (then b u v _ _ (then b f u _ _ p q) x) y
+
+pub staged-is : (b f r : Line) (i : ℕ) (m : Message) → b ≡ holding []
+    → f ≡ puts b (letters "staged" ++ spaced (decimalOf i) ++ spaced (decimalOf (m .stage))) → r ≡ putOf f 10 → r ≡ holding (stagedText i m)
+unfolding stagedText
+staged-is b f r i m e p q =
+    ended b f r (letters "staged" ++ spaced (decimalOf i) ++ spaced (decimalOf (m .stage))) (omega (arith, two (letters "staged") i (m .stage))) e p q

@@ -1,4 +1,4 @@
--- A state on a page: its clock, its count and its messages, a line each.
+-- A state on a page: its clock, its count, its messages and their stages, a line each.
 -- Assumes nothing.
 use Prim.Native.Nat.{ℕ, _+_, _-_, _*_, _≤_, _<_}
 use native.Mathlib.Omega.{arith}
@@ -8,10 +8,10 @@ use mathlib.Core.Bool.{true, false}
 use mathlib.Core.List.{List, [], _∷_, _++_, append-assoc, append-nil}
 use lib.ListN.{length, getD, drop, length-append, drop-of-length-le}
 use lib.Seq.{drop-cons}
+use lib.Dec.{eqb}
 use Rattle.laws.proofs.Sums.{by-test}
 use Rattle.rules.specs.declared.Message.{Message}
 use Rattle.rules.specs.declared.State.{State}
-use Rattle.rules.specs.States.{messageUnused}
 use Rattle.line.specs.declared.Line.{Line}
 use Rattle.ascii.specs.Decimal.{letters, decimalOf, spaced}
 use Rattle.line.specs.Line.{lineRoom, holding, putOf, puts}
@@ -19,77 +19,119 @@ use Rattle.answer_words.specs.Words.{lineOf}
 use Rattle.answer_words.proofs.Ends.{ended}
 use Rattle.answer_words.proofs.Lengths.{line-short}
 use Rattle.page.specs.Pages.{roomFor, Onto, appended, endOf}
-use Rattle.console_ask.specs.Questions.{messageText, messageLine, messageLines, stateLines, messagesRoom, answerRoom}
-use Rattle.console_ask.proofs.Lines.{numbered, message-short}
+use Rattle.console_ask.specs.Questions.{messageText, messageZero, messageLine, stagedText, stagedLine, linesOf, placeLines, stateLines, linesRoom, placesRoom, answerRoom}
+use Rattle.console_ask.proofs.Lines.{numbered, message-short, staged-short}
 use Rattle.page.proofs.Pieces.{onto-line, onto-none, onto-room, onto-then, onto-size}
 
--- ---- a message
+-- ---- a message, and its stage
 
-place-short : (i : ℕ) (m : Message) → length (messageLine i m) ≤ lineRoom
+pub place-short : (i : ℕ) (m : Message) → length (messageLine i m) ≤ lineRoom
 unfolding messageLine
 place-short i m =
-    by-test (messageUnused m)
+    by-test (messageZero m)
     (λ e. rw e (omega arith))
     (λ e. rw e (message-short i m))
 
-pub unused-onto : (i : ℕ) (m : Message) (out : List ℕ) (at : ℕ) → messageUnused m ≡ true → Onto out at (messageLine i m) at out
-unfolding messageLine
-unused-onto i m out at e = rw e (onto-none out at)
+pub stage-short : (i : ℕ) (m : Message) → length (stagedLine i m) ≤ lineRoom
+unfolding stagedLine
+stage-short i m =
+    by-test (eqb (m .stage) 0)
+    (λ e. rw e (omega arith))
+    (λ e. rw e (staged-short i m))
 
-pub used-onto : (i : ℕ) (m : Message) (out : List ℕ) (at : ℕ) (l : Line) (end : ℕ) (page : List ℕ) → messageUnused m ≡ false
-    → l ≡ holding (messageText i m) → (end ≡ endOf out at l) × (page ≡ appended out at l) → Onto out at (messageLine i m) end page
-unfolding messageLine
-used-onto i m out at l end page e f p = rw e (onto-line out (messageText i m) at l end page (message-short i m) f p)
+module _ (i : ℕ) (m : Message) (out : List ℕ) (at : ℕ) where
+  pub zero-onto : messageZero m ≡ true → Onto out at (messageLine i m) at out
+  unfolding messageLine
+  zero-onto e = rw e (onto-none out at)
 
--- ---- the messages: the lines of the first i places stand on the page
+  pub message-onto : (l : Line) (end : ℕ) (page : List ℕ) → messageZero m ≡ false → l ≡ holding (messageText i m)
+      → (end ≡ endOf out at l) × (page ≡ appended out at l) → Onto out at (messageLine i m) end page
+  unfolding messageLine
+  message-onto l end page e f p = rw e (onto-line out (messageText i m) at l end page (message-short i m) f p)
 
-pub record Printing (ms : List Message) (out₀ : List ℕ) (at : ℕ) (out : List ℕ) (end i : ℕ) : Type 0 where
+  pub unstaged-onto : eqb (m .stage) 0 ≡ true → Onto out at (stagedLine i m) at out
+  unfolding stagedLine
+  unstaged-onto e = rw e (onto-none out at)
+
+  pub staged-onto : (l : Line) (end : ℕ) (page : List ℕ) → eqb (m .stage) 0 ≡ false → l ≡ holding (stagedText i m)
+      → (end ≡ endOf out at l) × (page ≡ appended out at l) → Onto out at (stagedLine i m) end page
+  unfolding stagedLine
+  staged-onto l end page e f p = rw e (onto-line out (stagedText i m) at l end page (staged-short i m) f p)
+
+-- ---- the places: the lines of the first i stand on the page, whichever line of a place it is
+
+pub record Printing (line : ℕ → Message → List ℕ) (ms : List Message) (out₀ : List ℕ) (at : ℕ) (out : List ℕ) (end i : ℕ) : Type 0 where
   pub so-far : List ℕ
-  pub text : so-far ++ messageLines i (drop i ms) ≡ messageLines 0 ms
+  pub text : so-far ++ linesOf line i (drop i ms) ≡ linesOf line 0 ms
   pub low : length so-far ≤ i * lineRoom
   pub few : i ≤ 64
   pub onto : Onto out₀ at so-far end out
 
-pub print-start : (ms : List Message) (out : List ℕ) (at : ℕ) → Printing ms out at out at 0
-print-start ms out at = record { so-far = []; text = refl; low = omega arith; few = omega arith; onto = onto-none out at }
+pub print-start : (line : ℕ → Message → List ℕ) (ms : List Message) (out : List ℕ) (at : ℕ) → Printing line ms out at out at 0
+print-start line ms out at = record { so-far = []; text = refl; low = omega arith; few = omega arith; onto = onto-none out at }
 
-module _ (ms : List Message) (out₀ : List ℕ) (at : ℕ) (out : List ℕ) (end i : ℕ) (p : Printing ms out₀ at out end i) where
+module _ (line : ℕ → Message → List ℕ) (ms : List Message) (out₀ : List ℕ) (at : ℕ) (out : List ℕ) (end i : ℕ) (p : Printing line ms out₀ at out end i) where
   pub print-size : length out ≡ length out₀
   print-size = onto-size out₀ (p .so-far) at end out (p .onto)
 
-  pub print-turn : (d : Message) (end′ : ℕ) (out′ : List ℕ) → roomFor out₀ at messagesRoom ≡ true → length ms ≡ 64 → i < 64
-      → Onto out end (messageLine i (getD ms i d)) end′ out′ → Printing ms out₀ at out′ end′ (i + 1)
-  unfolding messageLines
-  print-turn d end′ out′ room all h q =
+  pub print-turn : (d : Message) (end′ : ℕ) (out′ : List ℕ) → ((k : ℕ) (m : Message) → length (line k m) ≤ lineRoom)
+      → roomFor out₀ at linesRoom ≡ true → length ms ≡ 64 → i < 64 → Onto out end (line i (getD ms i d)) end′ out′
+      → Printing line ms out₀ at out′ end′ (i + 1)
+  unfolding linesOf
+  print-turn d end′ out′ few room all h q =
       let m : Message = getD ms i d in
-      let short : length (messageLine i m) ≤ lineRoom = place-short i m in
+      let short : length (line i m) ≤ lineRoom = few i m in
       let next : drop i ms ≡ m ∷ drop (i + 1) ms = drop-cons ms i d (omega arith) ∙ ap (λ (k : ℕ). m ∷ drop k ms) (sym (add-one i)) in
       record {
-        so-far = p .so-far ++ messageLine i m;
+        so-far = p .so-far ++ line i m;
         text =
-            append-assoc (p .so-far) (messageLine i m) (messageLines (i + 1) (drop (i + 1) ms))
-            ∙ sym (ap (λ (l : List Message). p .so-far ++ messageLines i l) next)
+            append-assoc (p .so-far) (line i m) (linesOf line (i + 1) (drop (i + 1) ms))
+            ∙ sym (ap (λ (l : List Message). p .so-far ++ linesOf line i l) next)
             ∙ p .text;
-        low = omega (arith, length-append (p .so-far) (messageLine i m), p .low);
+        low = omega (arith, length-append (p .so-far) (line i m), p .low);
         few = omega arith;
-        onto = onto-then out₀ (p .so-far) at messagesRoom end out room (p .onto) (messageLine i m) end′ out′ (omega (arith, p .low)) q;
+        onto = onto-then out₀ (p .so-far) at linesRoom end out room (p .onto) (line i m) end′ out′ (omega (arith, p .low)) q;
       }
 
-  pub print-end : length ms ≡ 64 → 64 ≤ i → Onto out₀ at (messageLines 0 ms) end out
-  unfolding messageLines
+  pub print-end : length ms ≡ 64 → 64 ≤ i → Onto out₀ at (linesOf line 0 ms) end out
+  unfolding linesOf
   print-end all h =
       let none : drop i ms ≡ [] = drop-of-length-le ms (let far : length ms ≤ i = omega arith in far) in
-      let whole : p .so-far ≡ messageLines 0 ms =
-      sym (append-nil (p .so-far)) ∙ sym (ap (λ (l : List Message). p .so-far ++ messageLines i l) none) ∙ p .text in
+      let whole : p .so-far ≡ linesOf line 0 ms =
+      sym (append-nil (p .so-far)) ∙ sym (ap (λ (l : List Message). p .so-far ++ linesOf line i l) none) ∙ p .text in
       rw whole at (p .onto)
 
--- ---- the state
+-- no more bytes than a line for each place
+lines-short : (line : ℕ → Message → List ℕ) → ((k : ℕ) (m : Message) → length (line k m) ≤ lineRoom) → (i : ℕ) (ms : List Message)
+    → length (linesOf line i ms) ≤ length ms * lineRoom
+unfolding linesOf
+lines-short line few i [] = omega arith
+lines-short line few i (m ∷ ms) =
+    omega (arith, length-append (line i m) (linesOf line (i + 1) ms), few i m, lines-short line few (i + 1) ms)
 
-messages-short : (i : ℕ) (ms : List Message) → length (messageLines i ms) ≤ length ms * lineRoom
-unfolding messageLines
-messages-short i [] = omega arith
-messages-short i (m ∷ ms) =
-    omega (arith, length-append (messageLine i m) (messageLines (i + 1) ms), place-short i m, messages-short (i + 1) ms)
+module _ (ms : List Message) (all : length ms ≡ 64) where
+  messages-few : length (linesOf messageLine 0 ms) ≤ linesRoom
+  messages-few = omega (arith, lines-short messageLine place-short 0 ms)
+
+  stages-few : length (linesOf stagedLine 0 ms) ≤ linesRoom
+  stages-few = omega (arith, lines-short stagedLine stage-short 0 ms)
+
+  places-few : length (placeLines ms) ≤ placesRoom
+  places-few = omega (arith, length-append (linesOf messageLine 0 ms) (linesOf stagedLine 0 ms), messages-few, stages-few)
+
+-- ---- the messages, and their stages behind them
+
+module _ (ms : List Message) (out : List ℕ) (at : ℕ) (all : length ms ≡ 64) (room : roomFor out at placesRoom ≡ true) (a : ℕ) (o : List ℕ)
+    (p : Onto out at (linesOf messageLine 0 ms) a o) where
+  pub stages-room : roomFor o a linesRoom ≡ true
+  stages-room = onto-room out (linesOf messageLine 0 ms) at placesRoom a o room p linesRoom (omega (arith, messages-few ms all))
+
+  pub places-onto : (end : ℕ) (page : List ℕ) → Onto o a (linesOf stagedLine 0 ms) end page → Onto out at (placeLines ms) end page
+  places-onto end page q =
+      onto-then out (linesOf messageLine 0 ms) at placesRoom a o room p (linesOf stagedLine 0 ms) end page
+      (omega (arith, messages-few ms all, stages-few ms all)) q
+
+-- ---- the state
 
 pub number-is : (b m r : Line) (w : List ℕ) (n : ℕ) → length w ≤ 64 → b ≡ holding [] → m ≡ puts b (w ++ spaced (decimalOf n)) → r ≡ putOf m 10
     → r ≡ holding (lineOf (w ++ spaced (decimalOf n)))
@@ -117,20 +159,20 @@ module _ (s : State) (out : List ℕ) (at : ℕ) (room : roomFor out at answerRo
     second : Onto o a (countLine s) b p
     second = onto-line o (countLine s) a l b p (count-short s) g h
 
-    pub messages-room : roomFor p b messagesRoom ≡ true
-    messages-room =
-        onto-room o (countLine s) a (lineRoom + messagesRoom) b p (onto-room out (clockLine s) at answerRoom a o room first (lineRoom + messagesRoom) (omega (arith, clock-short s))) second messagesRoom
+    pub places-room : roomFor p b placesRoom ≡ true
+    places-room =
+        onto-room o (countLine s) a (lineRoom + placesRoom) b p (onto-room out (clockLine s) at answerRoom a o room first (lineRoom + placesRoom) (omega (arith, clock-short s))) second placesRoom
         (omega (arith, count-short s))
 
-    pub state-onto : (end : ℕ) (page : List ℕ) → length (s .messages) ≡ 64 → Onto p b (messageLines 0 (s .messages)) end page
+    pub state-onto : (end : ℕ) (page : List ℕ) → length (s .messages) ≡ 64 → Onto p b (placeLines (s .messages)) end page
         → Onto out at (stateLines s) end page
     unfolding stateLines
     state-onto end page all q =
-        let left : roomFor o a (lineRoom + messagesRoom) ≡ true = onto-room out (clockLine s) at answerRoom a o room first (lineRoom + messagesRoom) (omega (arith, clock-short s)) in
-        let short : length (messageLines 0 (s .messages)) ≤ messagesRoom = omega (arith, messages-short 0 (s .messages)) in
-        onto-then out (clockLine s) at answerRoom a o room first (countLine s ++ messageLines 0 (s .messages)) end page
-        (omega (arith, clock-short s, count-short s, length-append (countLine s) (messageLines 0 (s .messages))))
-        (onto-then o (countLine s) a (lineRoom + messagesRoom) b p left second (messageLines 0 (s .messages)) end page (omega (arith, count-short s)) q)
+        let left : roomFor o a (lineRoom + placesRoom) ≡ true = onto-room out (clockLine s) at answerRoom a o room first (lineRoom + placesRoom) (omega (arith, clock-short s)) in
+        let short : length (placeLines (s .messages)) ≤ placesRoom = places-few (s .messages) all in
+        onto-then out (clockLine s) at answerRoom a o room first (countLine s ++ placeLines (s .messages)) end page
+        (omega (arith, clock-short s, count-short s, length-append (countLine s) (placeLines (s .messages))))
+        (onto-then o (countLine s) a (lineRoom + placesRoom) b p left second (placeLines (s .messages)) end page (omega (arith, count-short s)) q)
 
 pub state-short : (s : State) → length (s .messages) ≡ 64 → length (stateLines s) ≤ answerRoom
 unfolding stateLines
@@ -139,7 +181,7 @@ state-short s all =
       arith,
       clock-short s,
       count-short s,
-      messages-short 0 (s .messages),
-      length-append (clockLine s) (countLine s ++ messageLines 0 (s .messages)),
-      length-append (countLine s) (messageLines 0 (s .messages)),
+      places-few (s .messages) all,
+      length-append (clockLine s) (countLine s ++ placeLines (s .messages)),
+      length-append (countLine s) (placeLines (s .messages)),
     )

@@ -5,13 +5,14 @@ use mathlib.Core.Bool.{Bool, true, false, cond}
 use mathlib.Core.List.{List, [], _∷_, _++_}
 use mathlib.Core.Path.{_≡_}
 use lib.ListN.{length, replicate}
-use lib.Dec.{leb}
+use lib.Dec.{leb, eqb}
+use Rattle.laws.specs.Lists.{every}
 use Rattle.rules.specs.declared.Set.{Set}
 use Rattle.rules.specs.declared.State.{State}
 use Rattle.rules.specs.declared.Message.{Message}
 use Rattle.rules.specs.declared.Verdict.{Verdict as Judgement}
 use Rattle.rules.specs.Streams.{valid, limitOf, jitterOf}
-use Rattle.rules.specs.States.{messageUnused, wellFormed}
+use Rattle.rules.specs.States.{wellFormed}
 use Rattle.rules.specs.Steps.{chooseOf}
 use Rattle.rules.specs.Load.{demandOf, VerdictOf}
 use Rattle.rules.specs.Sheet.{writeOf, bufferOf}
@@ -30,18 +31,32 @@ use Rattle.console_names.specs.declared.Question.the-variants.{Write, Valid, Li
 unfoldable pub messageText : ℕ → Message → List ℕ
 messageText i m = lineOf (letters "message" ++ nr i ++ nr (m .stream) ++ nr (m .deadline) ++ nr (m .used))
 
--- ".. for each of the 64 places that is not all zero"
-unfoldable pub messageLine : ℕ → Message → List ℕ
-messageLine i m = cond (messageUnused m) [] (messageText i m)
+-- ".. for each of the 64 places that is not all zero"; "(a place of which only the stage is not 0 has no `message` line)"
+unfoldable pub messageZero : Message → Bool
+messageZero m = every (eqb (m .stream) 0 ∷ eqb (m .deadline) 0 ∷ eqb (m .used) 0 ∷ [])
 
--- ".. in order", from place i on
-unfoldable pub messageLines : ℕ → List Message → List ℕ
-messageLines i [] = []
-messageLines i (m ∷ ms) = messageLine i m ++ messageLines (i + 1) ms
+unfoldable pub messageLine : ℕ → Message → List ℕ
+messageLine i m = cond (messageZero m) [] (messageText i m)
+
+-- "`state` prints `staged I N`", "and only for what is not zero"
+unfoldable pub stagedText : ℕ → Message → List ℕ
+stagedText i m = lineOf (letters "staged" ++ nr i ++ nr (m .stage))
+
+unfoldable pub stagedLine : ℕ → Message → List ℕ
+stagedLine i m = cond (eqb (m .stage) 0) [] (stagedText i m)
+
+-- ".. in order", from place i on: what `line` gives for each place
+unfoldable pub linesOf : (line : ℕ → Message → List ℕ) → ℕ → List Message → List ℕ
+linesOf line i [] = []
+linesOf line i (m ∷ ms) = line i m ++ linesOf line (i + 1) ms
+
+-- "the lines of a request stand behind those of the requests before it"
+abbrev pub placeLines : List Message → List ℕ
+placeLines ms = linesOf messageLine 0 ms ++ linesOf stagedLine 0 ms
 
 -- "prints `clock N`, then `pending N`, then .."
 unfoldable pub stateLines : State → List ℕ
-stateLines s = lineOf (letters "clock" ++ nr (s .clock)) ++ (lineOf (letters "pending" ++ nr (s .count)) ++ messageLines 0 (s .messages))
+stateLines s = lineOf (letters "clock" ++ nr (s .clock)) ++ (lineOf (letters "pending" ++ nr (s .count)) ++ placeLines (s .messages))
 
 -- "Prints `wrote N` with the bytes written, or `refused N`; then a line with the whole buffer in hex"
 unfoldable pub sheetLines : Set → List ℕ → List ℕ
@@ -71,12 +86,15 @@ Prints Choose ns x s w = w ≡ lineOf (says (chooseSays (chooseOf s)))
 Prints Shown ns x s w = w ≡ stateLines s
 Prints Formed ns x s w = w ≡ lineOf (formedWords (wellFormed s))
 
--- No answer has more lines than a state: a line for its clock, one for its count and 64 for its messages.
-abbrev pub messagesRoom : ℕ
-messagesRoom = 64 * lineRoom
+-- No answer has more lines than a state: a line for its clock, one for its count, and two for each of its 64 places.
+abbrev pub linesRoom : ℕ
+linesRoom = 64 * lineRoom
+
+abbrev pub placesRoom : ℕ
+placesRoom = linesRoom + linesRoom
 
 abbrev pub answerRoom : ℕ
-answerRoom = lineRoom + lineRoom + messagesRoom
+answerRoom = lineRoom + lineRoom + placesRoom
 
 -- The page after a question, and where the answer ends; one that has not that room stays as it is.
 pub record Answered (q : Question) (ns : List ℕ) (x : Set) (s : State) (out : List ℕ) (at end : ℕ) (page : List ℕ) : Type 0 where

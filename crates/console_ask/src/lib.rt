@@ -9,7 +9,7 @@ ghost use Rattle.line.specs.Line.{holding};
 ghost use Rattle.answer_words.specs.Words.{lineOf};
 ghost use Rattle.page.specs.Pages.{roomFor, Onto};
 ghost use Rattle.console_names.specs.Rows.{mostBytes};
-ghost use Rattle.console_ask.specs.Questions.{messageText, messageLine, messageLines, stateLines, sheetLines, writeLines, messagesRoom, answerRoom, Answered, Asks};
+ghost use Rattle.console_ask.specs.Questions.{messageText, messageLine, stagedText, stagedLine, linesOf, placeLines, stateLines, sheetLines, writeLines, linesRoom, placesRoom, answerRoom, Answered, Asks};
 use console_names::NUMBERS;
 use console_names::Question;
 use line::Line;
@@ -17,8 +17,8 @@ use rules::Message;
 use rules::Set;
 use rules::State;
 
-// Room for any answer: a line for a state's clock, one for its count, and one for each of its messages.
-pub const ROOM: usize = (2 + 64) * line::ROOM;
+// Room for any answer: a line for a state's clock, one for its count, and two for each of its places.
+pub const ROOM: usize = (2 + 64 + 64) * line::ROOM;
 
 // The longest buffer for a sheet.
 const MOST_BYTES: usize = console_names::MOST_BYTES as usize;
@@ -35,7 +35,16 @@ fn message_line(i: usize, m: Message) -> Line
     )
 }
 
-// A place that is all zero is left out.
+fn staged_line(i: usize, m: Message) -> Line
+    ensures { λ r. ⌜ r ≡ holding (stagedText i m) ⌝ }
+{
+    line::put(
+        line::two(line::blank(), b"staged", i as u64, m.stage as u64),
+        b'\n',
+    )
+}
+
+// A place that is all zero, but for its stage, is left out.
 fn message_onto(i: usize, m: Message, out: &mut [u8], at: usize) -> usize
     ensures { λ r. ⌜ Onto (now (out .entry)) at (messageLine i m) r (now (out .exit)) ⌝ }
 {
@@ -46,9 +55,19 @@ fn message_onto(i: usize, m: Message, out: &mut [u8], at: usize) -> usize
     }
 }
 
+fn staged_onto(i: usize, m: Message, out: &mut [u8], at: usize) -> usize
+    ensures { λ r. ⌜ Onto (now (out .entry)) at (stagedLine i m) r (now (out .exit)) ⌝ }
+{
+    if m.stage == 0 {
+        at
+    } else {
+        page::append(out, at, staged_line(i, m))
+    }
+}
+
 fn messages_onto(s: State, out: &mut [u8], at: usize) -> usize
-    requires { ⌜ roomFor (now out) at messagesRoom ≡ true ⌝ }
-    ensures { λ r. ⌜ Onto (now (out .entry)) at (messageLines 0 (s .messages)) r (now (out .exit)) ⌝ }
+    requires { ⌜ roomFor (now out) at linesRoom ≡ true ⌝ }
+    ensures { λ r. ⌜ Onto (now (out .entry)) at (linesOf messageLine 0 (s .messages)) r (now (out .exit)) ⌝ }
 {
     let messages = s.messages;
     let mut end = at;
@@ -58,6 +77,29 @@ fn messages_onto(s: State, out: &mut [u8], at: usize) -> usize
         i += 1;
     }
     end
+}
+
+fn stages_onto(s: State, out: &mut [u8], at: usize) -> usize
+    requires { ⌜ roomFor (now out) at linesRoom ≡ true ⌝ }
+    ensures { λ r. ⌜ Onto (now (out .entry)) at (linesOf stagedLine 0 (s .messages)) r (now (out .exit)) ⌝ }
+{
+    let messages = s.messages;
+    let mut end = at;
+    let mut i = 0;
+    while i < 64 {
+        end = staged_onto(i, messages[i], out, end);
+        i += 1;
+    }
+    end
+}
+
+// The stages stand behind all messages.
+fn places_onto(s: State, out: &mut [u8], at: usize) -> usize
+    requires { ⌜ roomFor (now out) at placesRoom ≡ true ⌝ }
+    ensures { λ r. ⌜ Onto (now (out .entry)) at (placeLines (s .messages)) r (now (out .exit)) ⌝ }
+{
+    let end = messages_onto(s, out, at);
+    stages_onto(s, out, end)
 }
 
 // A word and a number, as a line.
@@ -76,7 +118,7 @@ fn state_onto(s: State, out: &mut [u8], at: usize) -> usize
     let count = s.count;
     let a = page::append(out, at, number_line(b"clock", clock as u64));
     let b = page::append(out, a, number_line(b"pending", count as u64));
-    messages_onto(s, out, b)
+    places_onto(s, out, b)
 }
 
 // ---- the set's sheet

@@ -8,8 +8,8 @@ use lib.ListN.{length, getD}
 use Rattle.laws.specs.Bits.{zeros}
 use Rattle.ascii.specs.Decimal.{letters}
 use Rattle.ascii.specs.Same.{same}
-use Rattle.console_names.specs.declared.SetCommand.the-variants.{Read, Streams, Stream, Once, Every}
-use Rattle.console_names.specs.declared.StateCommand.the-variants.{Start, Clock, Pending, Message, Post, Unit, Done}
+use Rattle.console_names.specs.declared.SetCommand.the-variants.{Read, Streams, Stream, Once, Every, Version, Stages, Stage}
+use Rattle.console_names.specs.declared.StateCommand.the-variants.{Start, Clock, Pending, Message, Post, Unit, Done, Staged}
 use Rattle.console_names.specs.declared.Question.the-variants as ask
 use Rattle.console_names.specs.declared.ReplayCommand.the-variants.{Recording, Next, Reader, Where}
 use Rattle.console_names.specs.declared.Command.{Command}
@@ -64,7 +64,7 @@ abbrev among : List ℕ → List Named → Row → Row
 among w [] other = other
 among w (n ∷ ns) other = among w ns (ifNamed w (letters (n .name)) (n .stands) other)
 
--- **Set**
+-- **Set**; **CR 4**: "`version N` .. `stages I N` .. `stage I J TASK COST`: puts stage place J (0 to 3) of place I"
 unfoldable pub setRow : List ℕ → Row → Row
 setRow w =
     among w (
@@ -73,10 +73,13 @@ setRow w =
     ∷ row "stream" (Set Stream) (15 ∷ top ∷ top ∷ top ∷ top ∷ [])
     ∷ row "once" (Set Once) (15 ∷ 3 ∷ top ∷ [])
     ∷ row "every" (Set Every) (15 ∷ 3 ∷ top ∷ top ∷ [])
+    ∷ row "version" (Set Version) (top ∷ [])
+    ∷ row "stages" (Set Stages) (15 ∷ top ∷ [])
+    ∷ row "stage" (Set Stage) (15 ∷ 3 ∷ top ∷ top ∷ [])
     ∷ []
     )
 
--- **State**
+-- **State**; **CR 4**: "`staged I N`"
 unfoldable pub stateRow : List ℕ → Row → Row
 stateRow w =
     among w (
@@ -87,6 +90,7 @@ stateRow w =
     ∷ row "post" (State Post) (top ∷ [])
     ∷ row "unit" (State Unit) []
     ∷ row "done" (State Done) []
+    ∷ row "staged" (State Staged) (63 ∷ top ∷ [])
     ∷ []
     )
 

@@ -10,6 +10,9 @@ pub enum SetCommand {
     Stream,
     Once,
     Every,
+    Version,
+    Stages,
+    Stage,
 }
 
 // The commands that change the state.
@@ -21,6 +24,7 @@ pub enum StateCommand {
     Post,
     Unit,
     Done,
+    Staged,
 }
 
 // The commands that ask, and change nothing.
@@ -144,6 +148,12 @@ fn set_row(w: &[u8], other: Row) -> Row
     r = named(w, b"once", once, r);
     let every = of_set(SetCommand::Every, 4, [15, 3, TOP, TOP, 0]);
     r = named(w, b"every", every, r);
+    let version = of_set(SetCommand::Version, 1, [TOP, 0, 0, 0, 0]);
+    r = named(w, b"version", version, r);
+    let stages = of_set(SetCommand::Stages, 2, [15, TOP, 0, 0, 0]);
+    r = named(w, b"stages", stages, r);
+    let stage = of_set(SetCommand::Stage, 4, [15, 3, TOP, TOP, 0]);
+    r = named(w, b"stage", stage, r);
     r
 }
 
@@ -165,6 +175,8 @@ fn state_row(w: &[u8], other: Row) -> Row
     r = named(w, b"unit", unit, r);
     let done = of_state(StateCommand::Done, 0, [0; NUMBERS]);
     r = named(w, b"done", done, r);
+    let staged = of_state(StateCommand::Staged, 2, [63, TOP, 0, 0, 0]);
+    r = named(w, b"staged", staged, r);
     r
 }
 

@@ -1,17 +1,16 @@
 -- What a command leaves of the set, from what the functions that it calls give.
 -- Assumes nothing.
-use Prim.Native.Nat.{ℕ, _≤_, _<_}
+use Prim.Native.Nat.{ℕ, _≤_}
 use native.Mathlib.Omega.{arith}
 use mathlib.Core.Path.{_≡_, refl, ap, _∙_}
 use mathlib.Core.List.{List}
-use lib.ListN.{length, getD, set}
+use lib.ListN.{length}
 use lib.Seq.{set-out}
-use Rattle.laws.proofs.Parts.{getD-any}
 use Rattle.rules.specs.declared.Tuple.{Tuple}
 use Rattle.rules.specs.declared.Stream.{Stream}
 use Rattle.rules.specs.declared.Set.{Set}
 use Rattle.rules.specs.declared.ReadResult.{ReadResult}
-use Rattle.rules.specs.Streams.{noStream}
+use Rattle.rules.specs.Streams.{streamAt}
 use Rattle.rules.specs.Sheet.{readOf}
 use Rattle.ascii.specs.Decimal.{letters}
 use Rattle.line.specs.declared.Line.{Line}
@@ -19,35 +18,31 @@ use Rattle.line.specs.Line.{lineRoom, holding}
 use Rattle.answer_words.specs.Words.{readWords, lineOf}
 use Rattle.answer_words.proofs.Lengths.{read-short, line-short}
 use Rattle.console_names.specs.declared.SetCommand.{SetCommand}
-use Rattle.console_names.specs.declared.SetCommand.the-variants.{Read, Streams, Stream as OneStream, Once, Every}
+use Rattle.console_names.specs.declared.SetCommand.the-variants.{Read, Streams, Stream as OneStream, Once, Every, Version, Stages, Stage}
 use Rattle.console_set.specs.declared.SetAfter.{SetAfter}
-use Rattle.console_set.specs.SetCommands.{streamPut, placePut, tuplePut, setRead, setLine}
+use Rattle.console_set.specs.SetCommands.{withStream, stagePut, tuplePut, depthOf, streamPut, setRead, setLine}
 
--- ---- a place that there is is the one that is read; one that there is not stays out
+-- ---- a place that there is not stays out
 
-pub stream-in : (x : Set) (i task cost deadline tuples : ℕ) (e : Stream) → i < length (x .streams)
-    → _≡_ {A = Set}
-    (record {
-      count = x .count;
-      streams =
-          set (x .streams) i
-          (record { task = task; cost = cost; deadline = deadline; count = tuples; tuples = getD (x .streams) i e .tuples });
-    })
-    (streamPut x i task cost deadline tuples)
-stream-in x i task cost deadline tuples e h = rw (getD-any (x .streams) i e noStream h)
+pub stage-out : (s : Stream) (j task cost : ℕ) → length (s .stages) ≤ j → s ≡ stagePut s j task cost
+stage-out s j task cost h = rw (set-out (s .stages) j _ h)
 
-pub stream-out : (x : Set) (i task cost deadline tuples : ℕ) → length (x .streams) ≤ i → x ≡ streamPut x i task cost deadline tuples
-stream-out x i task cost deadline tuples h = rw (set-out (x .streams) i _ h)
+pub tuple-out : (s : Stream) (j : ℕ) (t : Tuple) → length (s .tuples) ≤ j → s ≡ tuplePut s j t
+tuple-out s j t h = rw (set-out (s .tuples) j _ h)
 
-pub place-out : (s : Stream) (j : ℕ) (t : Tuple) → length (s .tuples) ≤ j → s ≡ placePut s j t
-place-out s j t h = rw (set-out (s .tuples) j _ h)
+pub stream-out : (x : Set) (i : ℕ) (s : Stream) → length (x .streams) ≤ i → x ≡ withStream x i s
+unfolding withStream
+stream-out x i s h = rw (set-out (x .streams) i s h)
 
-pub tuple-in : (x : Set) (i j : ℕ) (t : Tuple) (e r : Stream) → i < length (x .streams) → r ≡ placePut (getD (x .streams) i e) j t
-    → _≡_ {A = Set} (record { count = x .count; streams = set (x .streams) i r }) (tuplePut x i j t)
-tuple-in x i j t e r h f = rw (f, getD-any (x .streams) i e noStream h)
+-- ---- a stream, and where it is put
 
-pub tuple-out : (x : Set) (i j : ℕ) (t : Tuple) → length (x .streams) ≤ i → x ≡ tuplePut x i j t
-tuple-out x i j t h = rw (set-out (x .streams) i _ h)
+pub stream-is : (s r : Stream) (d task cost deadline tuples : ℕ) → r ≡ stagePut s 0 task cost → d ≡ depthOf task cost deadline tuples
+    → _≡_ {A = Stream} (record { depth = d; stages = r .stages; deadline = deadline; count = tuples; tuples = r .tuples })
+    (streamPut s task cost deadline tuples)
+stream-is s r d task cost deadline tuples e f = rw (f, e)
+
+pub at-is : (x r : Set) (i : ℕ) (s t : Stream) → r ≡ withStream x i s → s ≡ t → r ≡ withStream x i t
+at-is x r i s t e f = e ∙ ap (λ (u : Stream). withStream x i u) f
 
 -- ---- every command
 
@@ -67,3 +62,6 @@ set-short Streams sheet = omega arith
 set-short OneStream sheet = omega arith
 set-short Once sheet = omega arith
 set-short Every sheet = omega arith
+set-short Version sheet = omega arith
+set-short Stages sheet = omega arith
+set-short Stage sheet = omega arith

@@ -7,14 +7,14 @@ use lib.ListN.{set}
 use Rattle.rules.specs.declared.Set.{Set}
 use Rattle.rules.specs.declared.State.{State}
 use Rattle.rules.specs.States.{withClock, withMessages}
-use Rattle.rules.specs.Steps.{startOf, postOf, unitOf}
+use Rattle.rules.specs.Steps.{startOf, postOf, unitOf, messageAt}
 use Rattle.rules.specs.Numbers.{startSays, postSays, unitSays}
 use Rattle.ascii.specs.Decimal.{letters}
 use Rattle.line.specs.Line.{holding}
 use Rattle.answer_words.specs.Words.{says, lineOf, stepLine}
 use Rattle.console_names.specs.Rows.{nth}
 use Rattle.console_names.specs.declared.StateCommand.{StateCommand}
-use Rattle.console_names.specs.declared.StateCommand.the-variants.{Start, Clock, Pending, Message, Post, Unit, Done}
+use Rattle.console_names.specs.declared.StateCommand.the-variants.{Start, Clock, Pending, Message, Post, Unit, Done, Staged}
 use Rattle.console_state.specs.declared.StateAfter.{StateAfter}
 
 -- "put these numbers into the state's clock, count and message place I"
@@ -24,8 +24,16 @@ clockPut s n = withClock s n
 abbrev pub pendingPut : State → ℕ → State
 pendingPut s n = withMessages s n (s .messages)
 
+-- "`message` puts 0 there": the stage
 abbrev pub messagePut : State → ℕ → ℕ → ℕ → ℕ → State
-messagePut s i stream deadline used = withMessages s (s .count) (set (s .messages) i (record { stream = stream; deadline = deadline; used = used }))
+messagePut s i stream deadline used =
+    withMessages s (s .count) (set (s .messages) i (record { stream = stream; deadline = deadline; used = used; stage = 0 }))
+
+-- "puts the stage, from 0, of message place I"
+abbrev pub stagedPut : State → ℕ → ℕ → State
+stagedPut s i n =
+    let m = messageAt s i in
+    withMessages s (s .count) (set (s .messages) i (record { stream = m .stream; deadline = m .deadline; used = m .used; stage = n }))
 
 -- The state after a command with these numbers, where the console holds the set x.
 abbrev pub stateAfter : StateCommand → List ℕ → Set → State → State
@@ -39,6 +47,8 @@ stateAfter Message ns x s = messagePut s (nth ns 0) (nth ns 1) (nth ns 2) (nth n
 stateAfter Post ns x s = postOf s (nth ns 0) .state
 stateAfter Unit ns x s = unitOf s false .state
 stateAfter Done ns x s = unitOf s true .state
+-- "`staged I N`"
+stateAfter Staged ns x s = stagedPut s (nth ns 0) (nth ns 1)
 
 -- What it prints.
 abbrev pub stateLine : StateCommand → List ℕ → Set → State → List ℕ
@@ -52,6 +62,7 @@ stateLine Message ns x s = lineOf (letters "put")
 stateLine Post ns x s = stepLine (s .clock) (postSays (postOf s (nth ns 0) .answer))
 stateLine Unit ns x s = stepLine (s .clock) (unitSays (unitOf s false .answer))
 stateLine Done ns x s = stepLine (s .clock) (unitSays (unitOf s true .answer))
+stateLine Staged ns x s = lineOf (letters "put")
 
 -- the steps, by what they look at
 unfoldable pub started : Set → StateAfter

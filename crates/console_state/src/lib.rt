@@ -3,7 +3,7 @@ ghost use mathlib.Core.Path.{_≡_};
 ghost use Rattle.ascii.specs.Decimal.{letters};
 ghost use Rattle.line.specs.Line.{holding};
 ghost use Rattle.answer_words.specs.Words.{lineOf};
-ghost use Rattle.console_state.specs.StateCommands.{clockPut, pendingPut, messagePut, started, posted, ran, stateAfter, stateLine};
+ghost use Rattle.console_state.specs.StateCommands.{clockPut, pendingPut, messagePut, stagedPut, started, posted, ran, stateAfter, stateLine};
 use console_names::NUMBERS;
 use console_names::StateCommand;
 use line::Line;
@@ -44,7 +44,20 @@ fn put_message(s: State, i: usize, stream: usize, deadline: u32, used: u32) -> S
             stream,
             deadline,
             used,
+            stage: 0,
         };
+    }
+    next
+}
+
+fn put_staged(s: State, i: usize, n: usize) -> State
+    ensures { λ r. ⌜ r ≡ stagedPut s i n ⌝ }
+{
+    let mut next = s;
+    if i < 64 {
+        let mut m = next.messages[i];
+        m.stage = n;
+        next.messages[i] = m;
     }
     next
 }
@@ -112,5 +125,6 @@ pub fn after(x: Set, s: State, k: StateCommand, n: [u32; NUMBERS]) -> StateAfter
         StateCommand::Post => post(s, n[0]),
         StateCommand::Unit => unit(s, false),
         StateCommand::Done => unit(s, true),
+        StateCommand::Staged => put(put_staged(s, i, j)),
     }
 }

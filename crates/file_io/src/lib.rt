@@ -24,7 +24,7 @@ pub fn warn(l: Line) -> bool {
     write_line(STDERR_FILENO, l)
 }
 
-// The sheet in the file set.bin; a missing file is read as no bytes. No sheet has more than 378 bytes, so of a longer file 379
+// The sheet in the file set.bin; a missing file is read as no bytes. No sheet has more than 502 bytes, so of a longer file 503
 // tell all: `long-sheet` of crates/sheet_write.
 pub fn read_sheet() -> ReadResult {
     let mut bytes = [0u8; rules::LONGEST_SHEET + 1];

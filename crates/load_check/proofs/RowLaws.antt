@@ -17,8 +17,7 @@ use Rattle.rules.specs.declared.Tuple.the-variants.{Once, Every}
 use Rattle.rules.specs.declared.TuplePlace.{TuplePlace}
 use Rattle.rules.specs.declared.Stream.{Stream}
 use Rattle.rules.specs.Streams.{tuplesOf, events, limit}
-use Rattle.rules.specs.Load.{due}
-use Rattle.rules.proofs.Stages.{due-by-cost}
+use Rattle.rules.specs.Load.{costIn, due}
 use Rattle.load_check.specs.declared.Rows.{Rows}
 use Rattle.load_check.specs.Dues.{rowDue, dueAt, duesBelow, rowsDue, tupleDue, streamDue, RowsFit, Grows, RowsOf}
 
@@ -72,13 +71,13 @@ module _ (t : Rows) (c f z : ℕ) (costs : length (t .costs) ≡ 64) (firsts : l
             (all-below _ (t .count) (same-row i)),
       )
 
-  pub grows-row : RowsFit (t .costs) (t .cycles) (t .count) → c ≤ 65535 → 0 < z → Grows t 1 (rowDue c f z) (withRow t c f z)
+  pub grows-row : RowsFit (t .costs) (t .cycles) (t .count) → c ≤ 262140 → 0 < z → Grows t 1 (rowDue c f z) (withRow t c f z)
   grows-row s hc hz =
       record {
         few = omega arith;
         fit = record {
           room = omega arith;
-          cost = put-more (λ n. n ≤ 65535) (t .costs) (t .count) c (omega arith) (s .cost) hc;
+          cost = put-more (λ n. n ≤ 262140) (t .costs) (t .count) c (omega arith) (s .cost) hc;
           cycle = put-more (λ n. 0 < n) (t .cycles) (t .count) z (omega arith) (s .cycle) hz;
         };
         adds = λ i h. row-adds i;
@@ -154,28 +153,35 @@ place-before : (c d i : ℕ) (p : TuplePlace) → i < d → placeDue c d i p ≡
 unfolding tupleDue
 place-before c d i p y = simp (lt-leb d i y)
 
-due-sum : (s : Stream) (i : ℕ) → frontDue (s .cost) (s .deadline) (tuplesOf s) i ≡ due i s
-unfolding frontDue limit
-due-sum s i = rw (due-by-cost i s) (elim (decLe (s .deadline) i) [ yes y ↦ on y | no f ↦ before (omega arith) ])
+due-sum : (s : Stream) (i : ℕ) → frontDue (costIn s) (s .deadline) (tuplesOf s) i ≡ due i s
+unfolding frontDue limit due
+due-sum s i = elim (decLe (s .deadline) i) [ yes y ↦ on y | no f ↦ before (omega arith) ]
   where
-    on : s .deadline ≤ i → sum (placeDue (s .cost) (s .deadline) i) (tuplesOf s) ≡ cond (leb (s .deadline) i) (s .cost * sum (events (i - s .deadline)) (tuplesOf s)) 0
+    on : s .deadline ≤ i → sum (placeDue (costIn s) (s .deadline) i) (tuplesOf s) ≡ cond (leb (s .deadline) i) (costIn s * sum (events (i - s .deadline)) (tuplesOf s)) 0
     on y =
         simp (le-leb (s .deadline) i y)
-        (sym (sum-mul (s .cost) (events (i - s .deadline)) (tuplesOf s)
-        ∙ sum-eq (λ p. s .cost * events (i - s .deadline) p) (placeDue (s .cost) (s .deadline) i) (tuplesOf s)
-        (all-each _ (tuplesOf s) (λ p. place-on (s .cost) (s .deadline) i p y))))
+        (sym (sum-mul (costIn s) (events (i - s .deadline)) (tuplesOf s)
+        ∙ sum-eq (λ p. costIn s * events (i - s .deadline) p) (placeDue (costIn s) (s .deadline) i) (tuplesOf s)
+        (all-each _ (tuplesOf s) (λ p. place-on (costIn s) (s .deadline) i p y))))
 
-    before : i < s .deadline → sum (placeDue (s .cost) (s .deadline) i) (tuplesOf s) ≡ cond (leb (s .deadline) i) (s .cost * sum (events (i - s .deadline)) (tuplesOf s)) 0
+    before : i < s .deadline → sum (placeDue (costIn s) (s .deadline) i) (tuplesOf s) ≡ cond (leb (s .deadline) i) (costIn s * sum (events (i - s .deadline)) (tuplesOf s)) 0
     before y =
         simp (lt-leb (s .deadline) i y)
-        (sum-zero (placeDue (s .cost) (s .deadline) i) (tuplesOf s) (all-each _ (tuplesOf s) (λ p. place-before (s .cost) (s .deadline) i p y)))
+        (sum-zero (placeDue (costIn s) (s .deadline) i) (tuplesOf s) (all-each _ (tuplesOf s) (λ p. place-before (costIn s) (s .deadline) i p y)))
 
-pub front-end : (t r : Rows) (s : Stream) (j : ℕ) → j ≡ s .count → j ≤ 4 → Grows t j (frontDue (s .cost) (s .deadline) (take j (s .tuples))) r → Grows t 4 (streamDue s) r
-front-end t r s j e h a =
+pub front-end : (t r : Rows) (s : Stream) (c j : ℕ) → c ≡ costIn s → j ≡ s .count → j ≤ 4 → Grows t j (frontDue c (s .deadline) (take j (s .tuples))) r → Grows t 4 (streamDue s) r
+front-end t r s c j q e h a =
     record {
       few = omega (arith, a .few);
       fit = a .fit;
-      adds = λ i k. omega (arith, a .adds i k, due-sum s i, ap (λ (n : ℕ). frontDue (s .cost) (s .deadline) (take n (s .tuples)) i) e);
+      adds = λ i k.
+          omega (
+            arith,
+            a .adds i k,
+            due-sum s i,
+            ap (λ (n : ℕ). frontDue c (s .deadline) (take n (s .tuples)) i) e,
+            ap (λ (n : ℕ). frontDue n (s .deadline) (tuplesOf s) i) q,
+          );
     }
 
 -- ---- the streams of a set

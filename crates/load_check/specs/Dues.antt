@@ -35,10 +35,10 @@ tupleDue c d t i = cond (leb d i) (c * eventsOf t (i - d)) 0
 abbrev pub streamDue : Stream → ℕ → ℕ
 streamDue s i = due i s
 
--- the first n rows hold costs and cycles
+-- the first n rows hold costs, of up to four stages, and cycles
 pub record RowsFit (costs cycles : List ℕ) (n : ℕ) : Type 0 where
   pub room : n ≤ 64
-  pub cost : (k : ℕ) → k < n → getD costs k 0 ≤ 65535
+  pub cost : (k : ℕ) → k < n → getD costs k 0 ≤ 262140
   pub cycle : (k : ℕ) → k < n → 0 < getD cycles k 0
 
 -- r has at most n rows more than t, which add f by every length of 32 bits

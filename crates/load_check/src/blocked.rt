@@ -3,32 +3,80 @@ ghost use mathlib.Core.Path.{_≡_};
 ghost use Prim.Native.Nat.{_+_, _≤_, _<_};
 ghost use Rattle.rules.specs.Valid.{ValidSet};
 ghost use Rattle.rules.specs.Streams.{streamsOf};
-ghost use Rattle.rules.specs.Load.{urgent, blocks, blocking};
+ghost use Rattle.rules.specs.Load.{has, urgent, lessOne, blocksFor, blocks, blocking};
 ghost use Rattle.load_check.specs.Blocked.{blockingsOf, Nearer, NextDeadline};
 use crate::larger;
 use crate::wide;
 use rules::Set;
+use rules::Stage;
 use rules::Stream;
+
+// ---- a stream and a task
+
+// Is a stage of the stream on the task?
+fn has_task(s: Stream, t: usize) -> bool
+    ensures { λ r. ⌜ r ≡ has t s ⌝ }
+{
+    let n = s.depth;
+    let mut any = false;
+    let mut j: usize = 0;
+    while j < 4 {
+        if n <= j {
+            return any;
+        }
+        let g = s.stages[j];
+        any = any | (g.task == t);
+        j = j + 1;
+    }
+    any
+}
 
 fn is_urgent(s: Stream, i: u32, t: usize) -> bool
     ensures { λ r. ⌜ r ≡ urgent t i s ⌝ }
 {
-    (s.task == t) & (s.deadline <= i)
+    if s.deadline <= i {
+        has_task(s, t)
+    } else {
+        false
+    }
+}
+
+// c - 1 of a stage on the task, 0 of any other.
+fn less_one(g: Stage, t: usize) -> u32
+    ensures { λ r. ⌜ r ≡ lessOne t g ⌝ }
+{
+    if g.task == t {
+        stream_valid::less(g.cost, 1)
+    } else {
+        0
+    }
+}
+
+// The largest c - 1 among the stream's stages on the task, 0 where there is none.
+fn blocks_for(s: Stream, t: usize) -> u32
+    ensures { λ r. ⌜ r ≡ blocksFor t s ⌝ }
+{
+    let n = s.depth;
+    let mut most: u32 = 0;
+    let mut j: usize = 0;
+    while j < 4 {
+        if n <= j {
+            return most;
+        }
+        let g = s.stages[j];
+        most = larger(most, less_one(g, t));
+        j = j + 1;
+    }
+    most
 }
 
 fn blocks_of(s: Stream, i: u32, t: usize) -> u32
     ensures { λ r. ⌜ r ≡ blocks t i s ⌝ }
 {
-    if s.deadline <= i {
-        0
-    } else {
-        if s.task == t {
-            stream_valid::less(s.cost, 1)
-        } else {
-            0
-        }
-    }
+    if s.deadline <= i { 0 } else { blocks_for(s, t) }
 }
+
+// ---- the streams of a set
 
 fn task_blocking(x: Set, i: u32, t: usize) -> u32
     requires { ⌜ ValidSet x ⌝ }

@@ -27,7 +27,7 @@ fn no_rows() -> Rows
 }
 
 fn put_row(t: Rows, cost: u32, first: u32, cycle: u32) -> Rows
-    requires { ⌜ (t .count < 64) × (RowsFit (t .costs) (t .cycles) (t .count)) × (cost ≤ 65535) × (0 < cycle) ⌝ }
+    requires { ⌜ (t .count < 64) × (RowsFit (t .costs) (t .cycles) (t .count)) × (cost ≤ 262140) × (0 < cycle) ⌝ }
     ensures { λ r. ⌜ Grows t 1 (rowDue cost first cycle) r ⌝ }
 {
     let k = t.count;
@@ -41,7 +41,7 @@ fn put_row(t: Rows, cost: u32, first: u32, cycle: u32) -> Rows
 
 // A tuple of a stream is first due at deadline plus offset. Once is a cycle that no length of 32 bits completes.
 fn put_tuple(t: Rows, cost: u32, deadline: u32, tuple: Tuple) -> Rows
-    requires { ⌜ (t .count < 64) × (RowsFit (t .costs) (t .cycles) (t .count)) × (cost ≤ 65535) × (Between 1 deadline 200000) × (offset tuple ≤ 100000) × (ValidCycle tuple) ⌝ }
+    requires { ⌜ (t .count < 64) × (RowsFit (t .costs) (t .cycles) (t .count)) × (cost ≤ 262140) × (Between 1 deadline 200000) × (offset tuple ≤ 100000) × (ValidCycle tuple) ⌝ }
     ensures { λ r. ⌜ Grows t 1 (tupleDue cost deadline tuple) r ⌝ }
 {
     match tuple {
@@ -55,7 +55,7 @@ fn put_stream(t: Rows, s: Stream) -> Rows
     ensures { λ r. ⌜ Grows t 4 (streamDue s) r ⌝ }
 {
     let n = s.count;
-    let cost = s.cost;
+    let cost = load_cycles::stream_cost(s) as u32;
     let deadline = s.deadline;
     let mut r = t;
     let mut j: usize = 0;

@@ -13,13 +13,13 @@ use Rattle.rules.specs.declared.Tuple.the-variants.{Once, Every}
 use Rattle.rules.specs.declared.TuplePlace.{TuplePlace}
 use Rattle.rules.specs.declared.Stream.{Stream}
 use Rattle.rules.specs.Streams.{tuplesOf, offsetAt}
-use Rattle.rules.specs.Load.{rateOf, rate, streamLoad, deadlineOf, greatestDeadline, streamOffset, greatestOffset}
-use Rattle.rules.proofs.Stages.{load-by-cost}
+use Rattle.rules.specs.Load.{costIn, rateOf, rate, streamLoad, deadlineOf, greatestDeadline, streamOffset, greatestOffset}
+use Rattle.rules.proofs.Stages.{cost-fits}
 use Rattle.rules.specs.Valid.{ValidPlace, ValidStream}
 
 -- what stands at a place past the end of the streams
 abbrev pub blank : Stream
-blank = record { task = 0; cost = 0; deadline = 0; count = 0; tuples = [] }
+blank = record { depth = 0; stages = []; deadline = 0; count = 0; tuples = [] }
 
 -- a product of two numbers of 32 bits, one of them counted up by 1
 pub product-fits : (a b : ℕ) → a ≤ 4294967295 → b ≤ 4294967296 → a * b ≤ 18446744069414584320
@@ -31,17 +31,17 @@ rate-le : (h : ℕ) (t : Tuple) → rateOf h t ≤ h
 rate-le h (Once a) = omega arith
 rate-le h (Every z a) = div-le-self h z
 
-pub rate-fits : (c h : ℕ) (p : TuplePlace) → c ≤ 65535 → h ≤ 1000000 → rate h c p ≤ 65535000000
-rate-fits c h p x y = le-trans (mul-le-mul {n₂ = 65535} {m₂ = 1000000} x (le-trans (rate-le h (p .tuple)) y)) (lit≤ tt)
+pub rate-fits : (c h : ℕ) (p : TuplePlace) → c ≤ 262140 → h ≤ 1000000 → rate h c p ≤ 262140000000
+rate-fits c h p x y = le-trans (mul-le-mul {n₂ = 262140} {m₂ = 1000000} x (le-trans (rate-le h (p .tuple)) y)) (lit≤ tt)
 
-pub stream-load-fits : (s : Stream) (h : ℕ) → ValidStream s → h ≤ 1000000 → streamLoad h s ≤ 262140000000
+pub stream-load-fits : (s : Stream) (h : ℕ) → ValidStream s → h ≤ 1000000 → streamLoad h s ≤ 1048560000000
+unfolding streamLoad
 stream-load-fits s h v y =
     omega (
       arith,
-      load-by-cost h s,
       v .count,
       length-take (s .count) (s .tuples),
-      sum-le (rate h (s .cost)) 65535000000 (tuplesOf s) (all-each (λ p. rate h (s .cost) p ≤ 65535000000) (tuplesOf s) (λ p. rate-fits (s .cost) h p (v .cost .high) y)),
+      sum-le (rate h (costIn s)) 262140000000 (tuplesOf s) (all-each (λ p. rate h (costIn s) p ≤ 262140000000) (tuplesOf s) (λ p. rate-fits (costIn s) h p (cost-fits s v) y)),
     )
 
 -- ---- the greatest deadline and offset

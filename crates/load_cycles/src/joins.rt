@@ -7,6 +7,7 @@ ghost use Rattle.rules.specs.Load.{rateOf, streamLoad, load};
 ghost use Rattle.load_cycles.specs.Cycles.{CycleOf, CyclesOf, CommonOf, JoinedBy};
 use crate::Joined;
 use crate::gcd;
+use crate::stream_cost;
 use crate::wide;
 use rules::Set;
 use rules::Stream;
@@ -102,7 +103,7 @@ fn stream_load(s: Stream, h: u32) -> u64
     ensures { λ r. ⌜ r ≡ streamLoad h s ⌝ }
 {
     let n = s.count;
-    let cost = s.cost;
+    let cost = stream_cost(s) as u32;
     let mut acc: u64 = 0;
     let mut j: usize = 0;
     while j < n {

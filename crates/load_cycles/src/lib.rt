@@ -1,17 +1,19 @@
-// The cycles of a set: their least common multiple H, the long-run load, and how a check begins.
+// The cycles of a set: their least common multiple H, a stream's cost, the long-run load, and how a check begins.
 mod ends; // ends.rt: the greatest deadline and offset, and the end of the lengths to test
 mod joins; // joins.rt: the least common multiple of the cycles, and the long-run load
 
 ghost use mathlib.Core.Path.{_≡_};
 ghost use mathlib.Core.Bool.{true};
-ghost use Prim.Native.Nat.{max};
+ghost use Prim.Native.Nat.{_+_, _≤_, max};
 ghost use Rattle.laws.specs.Multiples.{IsGcd};
 ghost use Rattle.rules.specs.Streams.{valid};
+ghost use Rattle.rules.specs.Load.{costIn};
 ghost use Rattle.load_cycles.specs.Cycles.{HOf};
 ghost use Rattle.load_cycles.specs.Openings.{OpeningOf};
 use rules::CountAnswer;
 use rules::Refusal;
 use rules::Set;
+use rules::Stream;
 use rules::Verdict;
 
 // H so far, or that it is above 1,000,000.
@@ -43,6 +45,32 @@ pub fn gcd(a: u32, b: u32) -> u32
     ensures { λ r. ⌜ IsGcd a b r ⌝ }
 {
     if b == 0 { a } else { gcd(b, a % b) }
+}
+
+// The cost of one stage more.
+fn with_stage(acc: u64, cost: u32) -> u64
+    requires { ⌜ acc ≤ 17179869180 ⌝ }
+    ensures { λ r. ⌜ (r ≡ acc + cost) × (r ≤ acc + 4294967295) ⌝ }
+{
+    acc + wide(cost)
+}
+
+// The cost of a stream: the sum of its stages' costs.
+pub fn stream_cost(s: Stream) -> u64
+    ensures { λ r. ⌜ r ≡ costIn s ⌝ }
+{
+    let n = s.depth;
+    let mut acc: u64 = 0;
+    let mut j: usize = 0;
+    while j < 4 {
+        if n <= j {
+            return acc;
+        }
+        let g = s.stages[j];
+        acc = with_stage(acc, g.cost);
+        j = j + 1;
+    }
+    acc
 }
 
 // H of a set: 7 for an invalid one, 8 where H is above 1,000,000.

@@ -19,7 +19,7 @@ use Rattle.rules.specs.Runs.{finished, cut, Run, accepted, departures, afterMov
 use Rattle.promise_deadlines.specs.Model.{idle, Reaches}
 use Rattle.promise_deadlines.specs.Machine.{Moment, outset, Reached, Following, Lawful}
 use Rattle.promise_steps.specs.Formed.{Formed, StartGives, PostKeeps, UnitKeeps}
-use Rattle.promise_steps.proofs.Cases.{post-case, UnitCase, unit-case, stops, idles, finishes, cuts, runs}
+use Rattle.promise_steps.proofs.Cases.{post-case, UnitCase, unit-case, stops, idles, finishes, passes, cuts, runs}
 use Rattle.promise_steps.proofs.Kept.{post-keeps, unit-keeps}
 use Rattle.promise_steps.proofs.Runs.{start-gives, begin-time}
 use Rattle.promise_demand3.specs.Kind.{Named, paired, pendingOf}
@@ -27,7 +27,7 @@ use Rattle.promise_demand3.proofs.Pairing.{paired-none}
 use Rattle.promise_demand3.proofs.Base.{base}
 use Rattle.promise_demand3.proofs.Moments.{Good, momentOf, Reachable, Stepped, no-post}
 use Rattle.promise_demand3.proofs.Posting.{post-step}
-use Rattle.promise_demand3.proofs.Serving.{leave-step, cut-cost, not-cut, stay-step}
+use Rattle.promise_demand3.proofs.Serving.{leave-step, last-stage, cut-cost, gain-step, pass-step}
 
 module _ (S : Set) (placed : Placed S) (ok : valid S ≡ true) where
   -- ---- a unit
@@ -44,9 +44,10 @@ module _ (S : Set) (placed : Placed S) (ok : valid S ≡ true) where
   unit-step : (r : Run) (done : Bool) → Good S placed ok r → Reachable S placed ok r → (u : UnitResult) → Formed (u .state) → UnitCase (r .state) done u → Stepped S placed ok r (afterUnit r (u .state) (u .answer))
   unit-step r done g run u f (stops why) = no-post S placed ok r r refl g run
   unit-step r done g run u f (idles e h) = idle-step r g run e f
-  unit-step r done g run u f (finishes v) = leave-step S placed ok r g run v finished _ tt f
+  unit-step r done g run u f (finishes v e) = leave-step S placed ok r g run v finished _ (last-stage S placed ok r g run v e) f
+  unit-step r done g run u f (passes v e) = pass-step S placed ok r g run v e f
   unit-step r done g run u f (cuts v e) = leave-step S placed ok r g run v cut _ (cut-cost S placed ok r g run v e) f
-  unit-step r done g run u f (runs v e) = stay-step S placed ok r g run v (not-cut S placed ok r g run v e) f
+  unit-step r done g run u f (runs v e) = gain-step S placed ok r g run v e f
 
   -- ---- every call
 

@@ -7,3 +7,4 @@ pub mod Serving
 pub mod Following
 pub mod Promise
 pub mod SetB
+pub mod Boom

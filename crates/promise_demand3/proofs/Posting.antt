@@ -11,15 +11,14 @@ use Rattle.rules.specs.Streams.{Placed, streamAt, valid}
 use Rattle.rules.specs.States.{pending}
 use Rattle.rules.specs.Steps.{newMessage, added}
 use Rattle.rules.specs.Runs.{Run, accepted, departures, newPost, afterPost}
-use Rattle.rules.proofs.Stages.{cost-in}
 use Rattle.rules.proofs.Events.{accepted-more, departures-same}
 use Rattle.promise_deadlines.specs.Model.{New, post}
 use Rattle.promise_steps.specs.Formed.{Formed}
-use Rattle.promise_steps.proofs.Valid.{stream-valid}
+use Rattle.promise_steps.proofs.Valid.{stream-valid, stage-cost}
 use Rattle.promise_steps.proofs.Cases.{PostCase, refuses, accepts, pending-added}
 use Rattle.promise_demand3.specs.Kind.{Named, paired, pendingOf}
 use Rattle.promise_demand3.proofs.Pairing.{name, paired-last}
-use Rattle.promise_demand3.proofs.Base.{base, hold-unstarted}
+use Rattle.promise_demand3.proofs.Base.{base, cost-first, hold-unstarted}
 use Rattle.promise_demand3.proofs.Moments.{Good, all-numbered, Reachable, Stepped, no-post}
 
 -- the message of the post, with its number
@@ -35,9 +34,13 @@ module _ (S : Set) (placed : Placed S) (ok : valid S ≡ true) (r : Run) (k : �
         now = refl;
         stream-in = inside;
         message = record { named = refl; to = refl; until = omega (arith, g .timed, ap (λ (x : Set). streamAt x k .deadline) (g .set-is)) };
-        whole = omega (arith, cost-in (streamAt S k));
+        whole = omega (arith, cost-first S placed ok (message r k));
         unstarted = hold-unstarted S (message r k) refl;
-        fine = record { stream-in = inside; used-in = stream-valid S placed ok k inside .cost .low };
+        fine = record {
+          stream-in = inside;
+          stage-in = stream-valid S placed ok k inside .depth .low;
+          used-in = stage-cost S placed ok k inside 0 (stream-valid S placed ok k inside .depth .low);
+        };
       }
 
   -- the pending messages with the new one last

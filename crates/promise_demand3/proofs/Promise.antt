@@ -29,7 +29,7 @@ use Rattle.promise_deadlines.proofs.Identity.{once, named, gone}
 use Rattle.promise_deadlines.proofs.Machines.{moment, later, never-due as never-due-at, all-left}
 use Rattle.promise_demand3.specs.Kind.{paired, pendingOf}
 use Rattle.promise_demand3.specs.Statements.{NeverDue, NeverMissed, NotLate, NoLateAnswer, EachOnce, leftAs, waitsAs}
-use Rattle.promise_steps.proofs.Cases.{Serving, chosenOf, UnitCase, stops, idles, finishes, cuts, runs as stays, unit-case}
+use Rattle.promise_steps.proofs.Cases.{Serving, chosenOf, UnitCase, stops, idles, finishes, passes, cuts, runs as stays, unit-case}
 use Rattle.promise_demand3.proofs.Pairing.{name, pair-in, Has}
 use Rattle.promise_demand3.proofs.Base.{base, base-fits, base-keeps}
 use Rattle.promise_demand3.proofs.Moments.{Good, all-numbered, momentOf}
@@ -108,7 +108,7 @@ module _ (S : Set) (placed : Placed S) (ok : valid S ≡ true) where
       omega (arith, run-none-due fits before more keeps (name (h .number) m) (h .here), kept before .timed)
 
 -- ---- DEMAND 3. A late message already started by a task that an urgent one also needs is covered by the blocking that demand counts:
--- `account-blocked` of deadlines/proofs/Account.antt charges its units to the task.
+-- `account-blocked` of promise_deadlines/proofs/Account.antt charges its units to the task.
 
 pub demand-3 : Demand3
 unfolding Demand3
@@ -173,7 +173,8 @@ laxity-left d (suc c) h = go (ltb d (suc c)) (ltb→lt d (suc c))
 not-late : (s : State) (done : Bool) → (Serving s → s .clock + 1 ≤ chosenOf s .deadline) → (u : UnitResult) → UnitCase s done u → NotLate (u .answer)
 not-late s done h u (stops why) = tt
 not-late s done h u (idles e c) = tt
-not-late s done h u (finishes v) = laxity-left (chosenOf s .deadline) (s .clock + 1) (h v)
+not-late s done h u (finishes v e) = laxity-left (chosenOf s .deadline) (s .clock + 1) (h v)
+not-late s done h u (passes v e) = tt
 not-late s done h u (cuts v e) = laxity-left (chosenOf s .deadline) (s .clock + 1) (h v)
 not-late s done h u (stays v e) = tt
 

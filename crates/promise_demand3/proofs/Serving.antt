@@ -1,8 +1,9 @@
--- A unit with a message pending is one of the deadline argument: the chosen message leaves, named by its number, or stays with a unit more. Assumes nothing.
+-- A unit with a message pending is one of the deadline argument: the chosen message leaves, named by its number, stays with a unit more, or passes on to its next stage.
+-- Assumes nothing.
 use Prim.Native.Nat.{ℕ, suc, _+_, _-_, _≤_, _<_}
 use mathlib.Core.Bool.{true}
 use mathlib.Core.List.{List, [], _∷_, _++_, List·Memᴰ, append-nil}
-use mathlib.Core.Logic.{inr, _≢_, ⊎-elim}
+use mathlib.Core.Logic.{inl, inr, _≢_, ⊎-elim}
 use mathlib.Core.Path.{_≡_, refl, sym, ap, subst, _∙_}
 use native.Mathlib.Numerals.{add-one}
 use native.Mathlib.Omega.{arith}
@@ -13,8 +14,8 @@ use Rattle.laws.proofs.Gates.{le-or-lt, Each, mem-here}
 use Rattle.rules.specs.declared.Set.{Set}
 use Rattle.rules.specs.declared.Message.{Message}
 use Rattle.rules.specs.Streams.{Placed, streamAt, valid}
-use Rattle.rules.specs.States.{noMessage, pending, costOf}
-use Rattle.rules.specs.Steps.{never, placeOf, turnOf, gained, stayed, departed}
+use Rattle.rules.specs.States.{noMessage, pending, stagesIn, costOf}
+use Rattle.rules.specs.Steps.{never, placeOf, turnOf, gained, passedOn, stayed, departed}
 use Rattle.rules.specs.Runs.{How, Departure, Run, accepted, departures, newDeparture, afterLeaving, afterMoving, AtCost}
 use Rattle.rules.proofs.Events.{accepted-same, departures-more}
 use Rattle.state_formed.proofs.WellFormed.{well-formed}
@@ -23,12 +24,12 @@ use Rattle.state_choosing.proofs.Choice.{choice}
 use Rattle.promise_deadlines.specs.Model.{Choice, Stays, leaves, stays, After, unit, Reaches}
 use Rattle.promise_deadlines.proofs.Formed.{formed}
 use Rattle.promise_steps.specs.Formed.{Formed}
-use Rattle.promise_steps.proofs.Valid.{stream-valid}
+use Rattle.promise_steps.proofs.Valid.{stream-valid, stage-cost}
 use Rattle.promise_steps.proofs.Cases.{Serving, chosenOf, message-is, pending-stayed, pending-departed}
-use Rattle.promise_demand3.specs.Kind.{Named, paired, pendingOf, Fine}
+use Rattle.promise_demand3.specs.Kind.{Named, paired, pendingOf, Fine, costFrom}
 use Rattle.promise_demand3.proofs.Choosing.{Chosen, chosen-of}
 use Rattle.promise_demand3.proofs.Pairing.{name, message-in, Has, pair-in, before, behind, pairs-split, pairs-without, pairs-with}
-use Rattle.promise_demand3.proofs.Base.{base, hold-started, hold-unstarted, started-hold}
+use Rattle.promise_demand3.proofs.Base.{base, from-stream, cost-split, hold-started, hold-unstarted, started-hold}
 use Rattle.promise_demand3.proofs.Moments.{Good, few, all-numbered, Reachable, Stepped, no-post}
 
 module _ (S : Set) (placed : Placed S) (ok : valid S ≡ true) (r : Run) (g : Good S placed ok r) (run : Reachable S placed ok r) (v : Serving (r .state)) where
@@ -148,38 +149,77 @@ module _ (S : Set) (placed : Placed S) (ok : valid S ≡ true) (r : Run) (g : Go
         told = record { stream = ap (λ (m : Message). m .stream) chosen-is; used = ap (λ (m : Message). m .used + 1) chosen-is; cost = cost };
       }))))
 
-  -- a cut has used the cost of its stream
+  -- a finished one was in the last stage of its stream, a cut has used the cost of its stage
+  pub last-stage : chosenOf (r .state) .stage + 1 ≡ stagesIn (r .state .set) (chosenOf (r .state)) → suc (chosenOf (r .state) .stage) ≡ stagesIn S (chosenOf (r .state))
+  last-stage e = sym (add-one (chosenOf (r .state) .stage)) ∙ cc (g .set-is, e)
+
   pub cut-cost : chosenOf (r .state) .used + 1 ≡ costOf (r .state .set) (chosenOf (r .state)) → chosenOf (r .state) .used + 1 ≡ costOf S (chosenOf (r .state))
   cut-cost e = cc (g .set-is, e)
 
-  -- ---- it stays
+  -- ---- it stays, as m
 
-  abbrev y : Named
-  y = name (getD (r .names) i 0) (gained chosen)
+  abbrev y : Message → Named
+  y m = name (getD (r .names) i 0) m
 
-  pub not-cut : chosenOf (r .state) .used + 1 ≢ costOf (r .state .set) (chosenOf (r .state)) → chosen .used + 1 ≢ costOf S chosen
-  not-cut short e = short (cc (chosen-is, g .set-is, e))
+  put-back : (m : Message) → paired (r .names) (pending (stayed (r .state) i m)) ≡ front ++ (y m ∷ rear)
+  put-back m = ap (paired (r .names)) (pending-stayed (r .state) places i m small low) ∙ pairs-with (r .names) l same i (words .inside) m
 
-  gains : chosen .used + 1 ≢ costOf S chosen → Stays (base S placed ok) x y
+  stay-step : (m : Message) → Stays (base S placed ok) x (y m) → Formed (stayed (r .state) i m) → Stepped S placed ok r (afterMoving r (stayed (r .state) i m))
+  stay-step m st f = no-post S placed ok r (afterMoving r (stayed (r .state) i m)) refl
+      (record { set-is = g .set-is; formed = f; numbered = g .numbered; timed = omega (arith, g .timed) })
+      (subst (λ (q : List Named). Reaches (base S placed ok) (r .time + 1) q (accepted r) (departures r)) (sym (put-back m))
+      (subst (λ (ds : List Departure). Reaches (base S placed ok) (r .time + 1) (front ++ (y m ∷ rear)) (accepted r) ds) (append-nil (departures r))
+      (served (y m ∷ []) [] (stays st))))
+
+  whole : costFrom S x (chosen .stage) ≡ costOf S chosen + costFrom S x (suc (chosen .stage))
+  whole = cost-split S placed ok x (x-fine .stream-in) (x-fine .stage-in)
+
+  -- ---- with a unit more
+
+  gains : chosen .used + 1 ≢ costOf S chosen → Stays (base S placed ok) x (y (gained chosen))
   gains short = record {
     same-number = refl;
     same-stream = refl;
     same-deadline = refl;
-    less-rest = omega (arith, x-fine .used-in);
+    less-rest = omega (arith, x-fine .used-in, whole, from-gained);
     same-task = inr refl;
     less-hold = λ p. ⊎-elim
-        (λ (q : 1 ≤ chosen .used). omega (arith, x-fine .used-in, hold-started S x q, hold-started S y (omega arith)))
+        (λ (q : 1 ≤ chosen .used). omega (arith, x-fine .used-in, hold-started S x q, hold-started S (y (gained chosen)) (omega arith)))
         (λ (q : chosen .used < 1). absurd (omega (arith, hold-unstarted S x (omega arith))))
         (le-or-lt 1 (chosen .used));
-    still-fine = record { stream-in = x-fine .stream-in; used-in = omega (arith, x-fine .used-in) };
+    still-fine = record { stream-in = x-fine .stream-in; stage-in = x-fine .stage-in; used-in = omega (arith, x-fine .used-in) };
   }
+    where
+      from-gained : costFrom S (y (gained chosen)) (chosen .stage) ≡ costFrom S x (chosen .stage)
+      from-gained = from-stream S (y (gained chosen)) x refl (chosen .stage)
 
-  put-back : paired (r .names) (pending (stayed (r .state) i)) ≡ front ++ (y ∷ rear)
-  put-back = ap (paired (r .names)) (pending-stayed (r .state) places i small low) ∙ pairs-with (r .names) l same i (words .inside) (gained chosen)
+  pub gain-step : chosenOf (r .state) .used + 1 ≢ costOf (r .state .set) (chosenOf (r .state)) → Formed (stayed (r .state) i (gained (chosenOf (r .state))))
+      → Stepped S placed ok r (afterMoving r (stayed (r .state) i (gained (chosenOf (r .state)))))
+  gain-step short f =
+      subst (λ (m : Message). Stepped S placed ok r (afterMoving r (stayed (r .state) i (gained m)))) (sym chosen-is)
+      (stay-step (gained chosen) (gains (λ e. short (cc (chosen-is, g .set-is, e)))) (subst (λ (m : Message). Formed (stayed (r .state) i (gained m))) chosen-is f))
 
-  pub stay-step : chosen .used + 1 ≢ costOf S chosen → Formed (stayed (r .state) i) → Stepped S placed ok r (afterMoving r (stayed (r .state) i))
-  stay-step short f = no-post S placed ok r (afterMoving r (stayed (r .state) i)) refl
-      (record { set-is = g .set-is; formed = f; numbered = g .numbered; timed = omega (arith, g .timed) })
-      (subst (λ (q : List Named). Reaches (base S placed ok) (r .time + 1) q (accepted r) (departures r)) (sym put-back)
-      (subst (λ (ds : List Departure). Reaches (base S placed ok) (r .time + 1) (front ++ (y ∷ rear)) (accepted r) ds) (append-nil (departures r))
-      (served (y ∷ []) [] (stays (gains short)))))
+  -- ---- in its next stage: it waits there with no unit used
+
+  passes : chosen .stage + 1 ≢ stagesIn S chosen → Stays (base S placed ok) x (y (passedOn chosen))
+  passes more = record {
+    same-number = refl;
+    same-stream = refl;
+    same-deadline = refl;
+    less-rest = omega (arith, x-fine .used-in, whole, from-passed);
+    same-task = inl (hold-unstarted S (y (passedOn chosen)) refl);
+    less-hold = λ p. omega (arith, hold-unstarted S (y (passedOn chosen)) refl);
+    still-fine = record { stream-in = x-fine .stream-in; stage-in = next; used-in = stage-cost S placed ok (chosen .stream) (x-fine .stream-in) (chosen .stage + 1) next };
+  }
+    where
+      next : chosen .stage + 1 < stagesIn S chosen
+      next = omega (arith, x-fine .stage-in)
+
+      from-passed : costFrom S (y (passedOn chosen)) (chosen .stage + 1) ≡ costFrom S x (suc (chosen .stage))
+      from-passed = ap (costFrom S (y (passedOn chosen))) (add-one (chosen .stage)) ∙ from-stream S (y (passedOn chosen)) x refl (suc (chosen .stage))
+
+  pub pass-step : chosenOf (r .state) .stage + 1 ≢ stagesIn (r .state .set) (chosenOf (r .state)) → Formed (stayed (r .state) i (passedOn (chosenOf (r .state))))
+      → Stepped S placed ok r (afterMoving r (stayed (r .state) i (passedOn (chosenOf (r .state)))))
+  pass-step more f =
+      subst (λ (m : Message). Stepped S placed ok r (afterMoving r (stayed (r .state) i (passedOn m)))) (sym chosen-is)
+      (stay-step (passedOn chosen) (passes (λ e. more (cc (chosen-is, g .set-is, e)))) (subst (λ (m : Message). Formed (stayed (r .state) i (passedOn m))) chosen-is f))

@@ -7,11 +7,13 @@ use mathlib.Core.List.{List·Memᴰ}
 use mathlib.Core.Path.{_≡_, refl, subst}
 use native.Mathlib.Omega.{arith}
 use lib.Dec.{leb, le→leb}
+use lib.ListN.{length}
 use Rattle.laws.specs.Lists.{within, sum, count}
 use Rattle.laws.proofs.Gates.{cond-yes}
+use Rattle.rules.specs.declared.Stream.{Stream}
 use Rattle.rules.specs.declared.Verdict.{Verdict}
 use Rattle.rules.specs.declared.Verdict.the-variants.{Accept, Late, Overload, Refused}
-use Rattle.rules.specs.Streams.{Placed, FourTuples, noStream, streamAt, events, limit}
+use Rattle.rules.specs.Streams.{Placed, FourPlaces, noStream, streamAt, events, limit}
 use Rattle.rules.specs.Load.{VerdictOf}
 use Rattle.rules.specs.Numbers.{verdictSays, accept}
 use Rattle.rules.specs.Runs.{Accepted, Departure, Run, accepted, departures, acceptedOf, inWindow, KeepsLimits, dueAt, LeftInTime, Demand3}
@@ -22,7 +24,7 @@ use Rattle.promise_steps.proofs.Runs.{all-same}
 use Rattle.promise_demand3.proofs.Promise.{demand-3}
 
 -- set B is accepted, by the yard's table
-accept-is : (v : Verdict) → verdictSays v ≡ accept → v ≡ Accept
+pub accept-is : (v : Verdict) → verdictSays v ≡ accept → v ≡ Accept
 accept-is Accept e = refl
 accept-is (Late i w) e = absurd (let z : _≡_ {A = ℕ} 0 1 = cc in omega arith)
 accept-is Overload e = absurd (let z : _≡_ {A = ℕ} 0 1 = cc in omega arith)
@@ -31,11 +33,14 @@ accept-is (Refused why) e = absurd (let z : _≡_ {A = ℕ} 0 1 = cc in omega ar
 verdict-B : VerdictOf setB Accept
 verdict-B = let j : Judges setB accept = yard-true .1 .1 .0 in subst (VerdictOf setB) (accept-is (j .given) (j .in-words)) (j .is-verdict)
 
+pub places : {s : Stream} → length (s .stages) ≡ 4 → length (s .tuples) ≡ 4 → FourPlaces s
+places a b = record { stages = a; tuples = b }
+
 placed-B : Placed setB
-placed-B = record { sixteen = refl; four = (refl, (refl, (refl, all-same FourTuples noStream refl 13))) }
+placed-B = record { sixteen = refl; four = (places refl refl, (places refl refl, (places refl refl, all-same FourPlaces noStream (places refl refl) 13))) }
 
 -- each stream has one post, and every limit is at least 1
-small : (b : Bool) → cond b 1 0 ≤ 1
+pub small : (b : Bool) → cond b 1 0 ≤ 1
 small true = omega arith
 small false = omega arith
 

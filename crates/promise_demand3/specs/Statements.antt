@@ -13,7 +13,7 @@ use Rattle.rules.specs.declared.Set.{Set}
 use Rattle.rules.specs.declared.Message.{Message}
 use Rattle.rules.specs.declared.Call.{Call}
 use Rattle.rules.specs.declared.UnitAnswer.{UnitAnswer}
-use Rattle.rules.specs.declared.UnitAnswer.the-variants.{Ran, Finished, Cut, Idle, Refused}
+use Rattle.rules.specs.declared.UnitAnswer.the-variants.{Ran, Passed, Finished, Cut, Idle, Refused}
 use Rattle.rules.specs.declared.Verdict.the-variants.{Accept}
 use Rattle.rules.specs.Streams.{Placed, valid}
 use Rattle.rules.specs.States.{pending}
@@ -36,6 +36,7 @@ abbrev pub NotLate : UnitAnswer → Type 0
 NotLate (Finished t k l) = pos 0 ≤ℤ l
 NotLate (Cut t k l) = pos 0 ≤ℤ l
 NotLate (Ran t k) = Unit {0}
+NotLate (Passed t k) = Unit {0}
 NotLate Idle = Unit {0}
 NotLate (Refused why) = Unit {0}
 

@@ -19,9 +19,9 @@ use Rattle.rules.specs.declared.Refusal.the-variants.{NoStream, Full, LastClock
 use Rattle.rules.specs.declared.PostResult.{PostResult}
 use Rattle.rules.specs.declared.PostAnswer.the-variants.{Posted}
 use Rattle.rules.specs.declared.UnitResult.{UnitResult}
-use Rattle.rules.specs.declared.UnitAnswer.the-variants.{Ran, Finished, Cut, Idle, Refused as UnitRefused}
-use Rattle.rules.specs.States.{noMessage, pending, taskOf, costOf, lastClock, wellFormed}
-use Rattle.rules.specs.Steps.{newMessage, added, postRefused, postOf, placeOf, messageAt, ticked, gained, stayed, departed, laxityOf, answered, servedOf, emptyUnit, unitOf}
+use Rattle.rules.specs.declared.UnitAnswer.the-variants.{Ran, Passed, Finished, Cut, Idle, Refused as UnitRefused}
+use Rattle.rules.specs.States.{noMessage, pending, stagesIn, taskOf, costOf, lastClock, wellFormed}
+use Rattle.rules.specs.Steps.{newMessage, added, postRefused, postOf, placeOf, messageAt, ticked, gained, stayed, passedOn, departed, laxityOf, answered, servedOf, emptyUnit, unitOf}
 
 -- ---- the cases
 
@@ -65,26 +65,36 @@ chosenLaxity s = laxityOf (chosenOf s .deadline) (s .clock + 1)
 pub data UnitCase (s : State) (done : Bool) : UnitResult → Type 0 where
   stops : (why : Refusal) → UnitCase s done (answered s (UnitRefused why))
   idles : s .count ≡ 0 → s .clock < lastClock → UnitCase s done (answered (ticked s) Idle)
-  finishes : Serving s → UnitCase s done (answered (departed s (placeOf s)) (Finished (chosenTask s) (chosenOf s .stream) (chosenLaxity s)))
+  finishes : Serving s → chosenOf s .stage + 1 ≡ stagesIn (s .set) (chosenOf s) → UnitCase s done (answered (departed s (placeOf s)) (Finished (chosenTask s) (chosenOf s .stream) (chosenLaxity s)))
+  passes : Serving s → chosenOf s .stage + 1 ≢ stagesIn (s .set) (chosenOf s) → UnitCase s done (answered (stayed s (placeOf s) (passedOn (chosenOf s))) (Passed (chosenTask s) (chosenOf s .stream)))
   cuts : Serving s → chosenOf s .used + 1 ≡ costOf (s .set) (chosenOf s) → UnitCase s done (answered (departed s (placeOf s)) (Cut (chosenTask s) (chosenOf s .stream) (chosenLaxity s)))
-  runs : Serving s → chosenOf s .used + 1 ≢ costOf (s .set) (chosenOf s) → UnitCase s done (answered (stayed s (placeOf s)) (Ran (chosenTask s) (chosenOf s .stream)))
+  runs : Serving s → chosenOf s .used + 1 ≢ costOf (s .set) (chosenOf s) → UnitCase s done (answered (stayed s (placeOf s) (gained (chosenOf s))) (Ran (chosenTask s) (chosenOf s .stream)))
 
 served-case : (s : State) (done : Bool) → Serving s → UnitCase s done (servedOf s (placeOf s) done)
 unfolding servedOf
-served-case s done v = go done (eqb (chosenOf s .used + 1) (costOf (s .set) (chosenOf s)))
+served-case s done v = go done (eqb (chosenOf s .stage + 1) (stagesIn (s .set) (chosenOf s))) (eqb (chosenOf s .used + 1) (costOf (s .set) (chosenOf s)))
+    (eqb→eq (chosenOf s .stage + 1) (stagesIn (s .set) (chosenOf s)))
+    (apart (chosenOf s .stage + 1) (stagesIn (s .set) (chosenOf s)))
     (eqb→eq (chosenOf s .used + 1) (costOf (s .set) (chosenOf s)))
-    (λ f e. T-not (eqb (chosenOf s .used + 1) (costOf (s .set) (chosenOf s))) f (same-pass (chosenOf s .used + 1) (costOf (s .set) (chosenOf s)) e))
+    (apart (chosenOf s .used + 1) (costOf (s .set) (chosenOf s)))
   where
-    go : (a b : Bool) → (T b → chosenOf s .used + 1 ≡ costOf (s .set) (chosenOf s)) → (T (not b) → chosenOf s .used + 1 ≢ costOf (s .set) (chosenOf s)) → UnitCase s done (
+    apart : (a b : ℕ) → T (not (eqb a b)) → a ≢ b
+    apart a b f e = T-not (eqb a b) f (same-pass a b e)
+
+    go : (a l b : Bool) → (T l → chosenOf s .stage + 1 ≡ stagesIn (s .set) (chosenOf s)) → (T (not l) → chosenOf s .stage + 1 ≢ stagesIn (s .set) (chosenOf s))
+        → (T b → chosenOf s .used + 1 ≡ costOf (s .set) (chosenOf s)) → (T (not b) → chosenOf s .used + 1 ≢ costOf (s .set) (chosenOf s)) → UnitCase s done (
         cond a
+        (cond l
         (answered (departed s (placeOf s)) (Finished (chosenTask s) (chosenOf s .stream) (chosenLaxity s)))
+        (answered (stayed s (placeOf s) (passedOn (chosenOf s))) (Passed (chosenTask s) (chosenOf s .stream))))
         (cond b
         (answered (departed s (placeOf s)) (Cut (chosenTask s) (chosenOf s .stream) (chosenLaxity s)))
-        (answered (stayed s (placeOf s)) (Ran (chosenTask s) (chosenOf s .stream))))
+        (answered (stayed s (placeOf s) (gained (chosenOf s))) (Ran (chosenTask s) (chosenOf s .stream))))
         )
-    go true b f g = finishes v
-    go false true f g = cuts v (f tt)
-    go false false f g = runs v (g tt)
+    go true true b p q f g = finishes v (p tt)
+    go true false b p q f g = passes v (q tt)
+    go false l true p q f g = cuts v (f tt)
+    go false l false p q f g = runs v (g tt)
 
 empty-case : (s : State) (done : Bool) → s .count ≡ 0 → s .clock < lastClock → UnitCase s done (emptyUnit s done)
 unfolding emptyUnit
@@ -119,11 +129,10 @@ module _ (s : State) (places : length (s .messages) ≡ 64) where
   pub message-is : (i : ℕ) → i < s .count → messageAt s i ≡ getD (pending s) i noMessage
   message-is i h = sym (getD-take (s .count) (s .messages) i noMessage h)
 
-  pub pending-stayed : (i : ℕ) → s .count ≤ 64 → i < s .count → pending (stayed s i) ≡ take i (pending s) ++ (gained (getD (pending s) i noMessage) ∷ drop (suc i) (pending s))
-  pending-stayed i few h =
-      take-set-lt (s .count) (s .messages) i (gained (messageAt s i)) h
-      ∙ set-split (pending s) i (gained (messageAt s i)) (omega (arith, pending-length few))
-      ∙ ap (λ (m : Message). take i (pending s) ++ (gained m ∷ drop (suc i) (pending s))) (message-is i h)
+  pub pending-stayed : (i : ℕ) (m : Message) → s .count ≤ 64 → i < s .count → pending (stayed s i m) ≡ take i (pending s) ++ (m ∷ drop (suc i) (pending s))
+  pending-stayed i m few h =
+      take-set-lt (s .count) (s .messages) i m h
+      ∙ set-split (pending s) i m (omega (arith, pending-length few))
 
   pub pending-departed : (i : ℕ) → s .count ≤ 64 → i < s .count → pending (departed s i) ≡ take i (pending s) ++ drop (suc i) (pending s)
   pending-departed i few h =

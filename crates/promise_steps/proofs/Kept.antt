@@ -17,17 +17,17 @@ use Rattle.rules.specs.declared.State.{State}
 use Rattle.rules.specs.declared.PostResult.{PostResult}
 use Rattle.rules.specs.declared.UnitResult.{UnitResult}
 use Rattle.rules.specs.Streams.{Placed}
-use Rattle.rules.specs.States.{noMessage, pending, taskOf, costOf, messageUnused, lastClock, Housed}
-use Rattle.rules.specs.Steps.{newMessage, added, postOf, placeOf, messageAt, turnOf, ticked, gained, stayed, departed, unitOf}
+use Rattle.rules.specs.States.{noMessage, pending, stagesIn, taskOf, costOf, messageUnused, lastClock, Housed}
+use Rattle.rules.specs.Steps.{newMessage, added, postOf, placeOf, messageAt, turnOf, ticked, gained, passedOn, stayed, departed, unitOf}
 use Rattle.state_formed.proofs.Standing.{Standing}
 use Rattle.state_formed.proofs.WellFormed.{WellFormed, well-formed, well-formed-back}
 use Rattle.state_choosing.specs.Words.{at, Served}
 use Rattle.state_choosing.proofs.Choice.{choice, place-in}
 use Rattle.promise_steps.specs.Formed.{Formed, PostKeeps, UnitKeeps}
-use Rattle.promise_steps.proofs.Valid.{stream-valid}
-use Rattle.promise_steps.proofs.Cases.{PostCase, refuses, accepts, post-case, Serving, chosenOf, UnitCase, stops, idles, finishes, cuts, runs, unit-case, pending-added, message-is, pending-stayed, pending-departed}
-use Rattle.promise_steps.proofs.Rows.{Rows, rows, rows-ok, rows-last, rows-later, rows-gain, rows-leave, row-at}
-use Rattle.promise_steps.proofs.Started.{Once, once, once-ok, once-last, once-gain, once-leave}
+use Rattle.promise_steps.proofs.Valid.{stream-valid, stage-cost}
+use Rattle.promise_steps.proofs.Cases.{PostCase, refuses, accepts, post-case, Serving, chosenOf, UnitCase, stops, idles, finishes, passes, cuts, runs, unit-case, pending-added, message-is, pending-stayed, pending-departed}
+use Rattle.promise_steps.proofs.Rows.{Rows, rows, rows-ok, rows-last, rows-later, Instead, rows-put, rows-leave, row-at}
+use Rattle.promise_steps.proofs.Started.{Once, once, once-ok, once-last, once-unstarted, once-gain, once-leave}
 
 module _ (s : State) (f : Formed s) where
   w : WellFormed s
@@ -41,7 +41,8 @@ module _ (s : State) (f : Formed s) where
   new-stands : (k : ℕ) → k < s .set .count → (c : ℕ) → c ≤ s .clock → Standing (s .set) (s .clock) c (newMessage s k)
   new-stands k h c q = record {
     stream = h;
-    used = stream-valid (s .set) (f .housed .set) (w .set) k h .cost .low;
+    stage = stream-valid (s .set) (f .housed .set) (w .set) k h .depth .low;
+    used = stage-cost (s .set) (f .housed .set) (w .set) k h 0 (stream-valid (s .set) (f .housed .set) (w .set) k h .depth .low);
     early = omega arith;
     late = omega arith;
     order = omega arith;
@@ -119,26 +120,50 @@ module _ (s : State) (f : Formed s) where
             )))
             (eq-or-ne (y .used) 0)
 
-    stays-short : chosenOf s .used + 1 ≢ costOf (s .set) (chosenOf s) → x .used + 1 < costOf (s .set) x
+    chosen-is : chosenOf s ≡ x
     unfolding x
-    stays-short short =
-        let q : x .used + 1 ≢ costOf (s .set) x = λ e. short (cc (message-is s (f .housed .places) (placeOf s) low, e)) in
-        omega (arith, row-at (s .set) (s .clock + 1) 0 front x rear rows-now .1)
+    chosen-is = message-is s (f .housed .places) (placeOf s) low
 
-    stay-formed : chosenOf s .used + 1 ≢ costOf (s .set) (chosenOf s) → Formed (stayed s (placeOf s))
-    unfolding front rear x
-    stay-formed short = record {
-      formed = well-formed-back (stayed s (placeOf s)) (record {
+    x-stands : (c : ℕ) × Standing (s .set) (s .clock + 1) c x
+    x-stands = row-at (s .set) (s .clock + 1) 0 front x rear rows-now
+
+    -- what stays in its place, of the same stream and deadline
+    stay-formed : (n : Message) → Instead (s .set) x n → Once (s .set) (front ++ (n ∷ rear)) → Formed (stayed s (placeOf s) n)
+    unfolding front rear
+    stay-formed n h o = record {
+      formed = well-formed-back (stayed s (placeOf s) n) (record {
         set = w .set;
         few = w .few;
         clock = omega (arith, v .early);
-        each = rw (pending-stayed s (f .housed .places) (placeOf s) (w .few) low) (rows-ok (s .set) (s .clock + 1) (front ++ (gained x ∷ rear))
-            (rows-gain (s .set) (s .clock + 1) 0 front x rear (stays-short short) rows-now));
-        once = rw (pending-stayed s (f .housed .places) (placeOf s) (w .few) low) (once-ok (s .set) (front ++ (gained x ∷ rear)) (once-gain (s .set) front x rear none-started once-now));
-        unused = rw (drop-set-lt (s .count) (s .messages) (placeOf s) (gained (messageAt s (placeOf s))) low) (w .unused);
+        each = rw (pending-stayed s (f .housed .places) (placeOf s) n (w .few) low) (rows-ok (s .set) (s .clock + 1) (front ++ (n ∷ rear))
+            (rows-put (s .set) (s .clock + 1) 0 front x n rear h rows-now));
+        once = rw (pending-stayed s (f .housed .places) (placeOf s) n (w .few) low) (once-ok (s .set) (front ++ (n ∷ rear)) o);
+        unused = rw (drop-set-lt (s .count) (s .messages) (placeOf s) n low) (w .unused);
       });
-      housed = housed-as (stayed s (placeOf s)) refl (length-set (s .messages) (placeOf s) (gained (messageAt s (placeOf s))) ∙ f .housed .places);
+      housed = housed-as (stayed s (placeOf s) n) refl (length-set (s .messages) (placeOf s) n ∙ f .housed .places);
     }
+
+    -- with a unit more, and less than its cost used
+    gain-formed : chosenOf s .used + 1 ≢ costOf (s .set) (chosenOf s) → Formed (stayed s (placeOf s) (gained (chosenOf s)))
+    gain-formed short = rw chosen-is
+        (stay-formed (gained x)
+        (record { stream = refl; deadline = refl; stage = x-stands .1 .stage; used = let q : x .used + 1 ≢ costOf (s .set) x = rw chosen-is at short in omega (arith, x-stands .1 .used) })
+        (once-gain (s .set) front x rear none-started once-now))
+
+    -- in its next stage, with no unit used
+    next-stage : x .stage + 1 ≢ stagesIn (s .set) x → x .stage + 1 < stagesIn (s .set) x
+    next-stage e = omega (arith, x-stands .1 .stage)
+
+    pass-formed : chosenOf s .stage + 1 ≢ stagesIn (s .set) (chosenOf s) → Formed (stayed s (placeOf s) (passedOn (chosenOf s)))
+    pass-formed more = rw chosen-is
+        (stay-formed (passedOn x)
+        (record {
+          stream = refl;
+          deadline = refl;
+          stage = next-stage (rw chosen-is at more);
+          used = stage-cost (s .set) (f .housed .set) (w .set) (x .stream) (x-stands .1 .stream) (x .stage + 1) (next-stage (rw chosen-is at more));
+        })
+        (once-unstarted (s .set) front x (passedOn x) rear refl once-now))
 
     unused-left : all messageUnused (drop (s .count - 1) (remove noMessage (placeOf s) (s .messages))) ≡ true
     unfolding messageUnused
@@ -174,9 +199,10 @@ post-keeps s k f = post-by s k f (postOf s k) (post-case s k)
 unit-by : (s : State) (done : Bool) → Formed s → (u : UnitResult) → UnitCase s done u → Formed (u .state)
 unit-by s done f u (stops why) = f
 unit-by s done f u (idles e early) = idle-formed s f early
-unit-by s done f u (finishes v) = leave-formed s f v
+unit-by s done f u (finishes v e) = leave-formed s f v
+unit-by s done f u (passes v e) = pass-formed s f v e
 unit-by s done f u (cuts v e) = leave-formed s f v
-unit-by s done f u (runs v e) = stay-formed s f v e
+unit-by s done f u (runs v e) = gain-formed s f v e
 
 pub unit-keeps : UnitKeeps
 unfolding UnitKeeps

@@ -11,9 +11,9 @@ use Rattle.rules.specs.declared.State.{State}
 use Rattle.rules.specs.declared.Call.{Call}
 use Rattle.rules.specs.declared.Call.the-variants.{Posts, Units}
 use Rattle.rules.specs.declared.PostAnswer.the-variants.{Posted}
-use Rattle.rules.specs.States.{wellFormed, taskOf, costOf, mostPending, lastClock}
+use Rattle.rules.specs.States.{wellFormed, stagesIn, taskOf, costOf, mostPending, lastClock}
 use Rattle.rules.specs.Steps.{newMessage, added, postOf, messageAt, placeOf, chooseOf, laxityOf, servedOf, emptyUnit, unitOf, callOf}
-use Rattle.rules.specs.Numbers.{Says, refused, refused-with-0, started, posted, none, runs, ran, done as finishes, cut, idle, gives, tuples, accept, late, overload, read, wrote, ended, recorded, postSays, chooseSays, unitSays, callSays}
+use Rattle.rules.specs.Numbers.{Says, refused, refused-with-0, started, posted, none, runs, ran, passed, done as finishes, cut, idle, gives, tuples, accept, late, overload, read, wrote, ended, recorded, postSays, chooseSays, unitSays, callSays}
 use Rattle.promise_steps.specs.Refusals.{saysToPost, saysToUnit, Twelve, One, NotInSet, Two, AllPlacesTaken, Three, AtLastClock, Four, DoneWithNothing, RefusedSame}
 
 -- the number of a refusal, 0 of any other answer: two that say the same have the same
@@ -25,6 +25,7 @@ no-of (posted k d) = 0
 no-of none = 0
 no-of (runs t k) = 0
 no-of (ran t k) = 0
+no-of (passed t k) = 0
 no-of (finishes t k l) = 0
 no-of (cut t k l) = 0
 no-of idle = 0
@@ -124,12 +125,15 @@ module _ (s : State) where
 -- a unit that serves a message is never refused
 served-says : (s : State) (i : ℕ) (done : Bool) → no-of (unitSays (servedOf s i done .answer)) ≡ 0
 unfolding servedOf no-of
-served-says s i true = refl
+served-says s i true = by-test (eqb (messageAt s i .stage + 1) (stagesIn (s .set) (messageAt s i))) (λ z. rw z) (λ z. rw z)
 served-says s i false = by-test (eqb (messageAt s i .used + 1) (costOf (s .set) (messageAt s i))) (λ z. rw z) (λ z. rw z)
 
 served-not : (s : State) (i : ℕ) (done : Bool) (number : ℕ) → unitSays (servedOf s i done .answer) ≡ refused number → ⊥
 unfolding servedOf
-served-not s i true number e = let z : _≡_ {A = ℕ} 0 1 = cc in omega arith
+served-not s i true number e =
+    by-test (eqb (messageAt s i .stage + 1) (stagesIn (s .set) (messageAt s i)))
+    (λ z. let q : finishes (taskOf (s .set) (messageAt s i)) (messageAt s i .stream) (laxityOf (messageAt s i .deadline) (s .clock + 1)) ≡ refused number = rw z at e in let z : _≡_ {A = ℕ} 0 1 = cc in omega arith)
+    (λ z. let q : passed (taskOf (s .set) (messageAt s i)) (messageAt s i .stream) ≡ refused number = rw z at e in let z : _≡_ {A = ℕ} 0 1 = cc in omega arith)
 served-not s i false number e =
     by-test (eqb (messageAt s i .used + 1) (costOf (s .set) (messageAt s i)))
     (λ z. let q : cut (taskOf (s .set) (messageAt s i)) (messageAt s i .stream) (laxityOf (messageAt s i .deadline) (s .clock + 1)) ≡ refused number = rw z at e in let z : _≡_ {A = ℕ} 0 1 = cc in omega arith)

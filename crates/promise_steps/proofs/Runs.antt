@@ -9,7 +9,7 @@ use Rattle.laws.specs.Lists.{All, all, sum, count, scan}
 use Rattle.laws.proofs.Sums.{by-test}
 use Rattle.rules.specs.declared.Set.{Set}
 use Rattle.rules.specs.declared.State.{State}
-use Rattle.rules.specs.Streams.{Placed, FourTuples, noStream, emptySet, tupleUnused, streamUnused, valid}
+use Rattle.rules.specs.Streams.{Placed, FourPlaces, noStream, emptySet, stageUnused, tupleUnused, streamUnused, versionOk, valid}
 use Rattle.rules.specs.States.{messagesOk, startedOnce, messageUnused}
 use Rattle.rules.specs.Steps.{fresh, startOf, postOf, unitOf, callOf}
 use Rattle.rules.specs.declared.Call.{Call}
@@ -20,7 +20,7 @@ use Rattle.rules.specs.Runs.{Run, afterPost, afterUnit, stepOf, begin, runFrom,
 use Rattle.rules.proofs.Events.{step-state}
 use Rattle.state_formed.proofs.WellFormed.{well-formed-back}
 use Rattle.promise_steps.specs.Formed.{Formed, StartGives, PostKeeps, UnitKeeps, RunKeeps, TimeIsClock}
-use Rattle.promise_steps.proofs.Cases.{PostCase, refuses, accepts, post-case, UnitCase, stops, idles, finishes, cuts, runs, unit-case}
+use Rattle.promise_steps.proofs.Cases.{PostCase, refuses, accepts, post-case, UnitCase, stops, idles, finishes, passes, cuts, runs, unit-case}
 use Rattle.promise_steps.proofs.Kept.{post-keeps, unit-keeps}
 
 -- ---- the start
@@ -37,10 +37,10 @@ all-same P a p zero = tt
 all-same P a p (suc n) = (p, all-same P a p n)
 
 empty-placed : Placed emptySet
-empty-placed = record { sixteen = refl; four = all-same FourTuples noStream refl 16 }
+empty-placed = record { sixteen = refl; four = all-same FourPlaces noStream (record { stages = refl; tuples = refl }) 16 }
 
 empty-valid : valid emptySet ≡ true
-unfolding valid all streamUnused tupleUnused
+unfolding valid all streamUnused stageUnused tupleUnused versionOk
 empty-valid = refl
 
 pub start-gives : StartGives
@@ -74,7 +74,8 @@ post-time r k e q (accepts h room) = e
 unit-time : (r : Run) (done : Bool) → r .time ≡ r .state .clock → (u : UnitResult) → UnitCase (r .state) done u → afterUnit r (u .state) (u .answer) .time ≡ afterUnit r (u .state) (u .answer) .state .clock
 unit-time r done e u (stops why) = e
 unit-time r done e u (idles z h) = omega (arith, e)
-unit-time r done e u (finishes v) = omega (arith, e)
+unit-time r done e u (finishes v z) = omega (arith, e)
+unit-time r done e u (passes v z) = omega (arith, e)
 unit-time r done e u (cuts v z) = omega (arith, e)
 unit-time r done e u (runs v z) = omega (arith, e)
 

@@ -58,6 +58,11 @@ module _ (x : Set) where
   unfolding count
   once-leave xs m ys o t h = omega (arith, o t h, sum-at (one t) xs m ys, sum-append (one t) xs ys)
 
+  -- a message passes on: what is in its place has no unit used
+  pub once-unstarted : (xs : List Message) (m n : Message) (ys : List Message) → n .used ≡ 0 → Once (xs ++ (m ∷ ys)) → Once (xs ++ (n ∷ ys))
+  unfolding count
+  once-unstarted xs m n ys e o t h = omega (arith, o t h, sum-at (one t) xs m ys, sum-at (one t) xs n ys, unstarted t n e)
+
   -- a message gains a unit: it had started, or no message of its task had
   pub once-gain : (xs : List Message) (m : Message) (ys : List Message) → (m .used ≡ 0 → Each (λ y. taskOf x y ≡ taskOf x m → y .used ≡ 0) (xs ++ (m ∷ ys))) → Once (xs ++ (m ∷ ys)) → Once (xs ++ (gained m ∷ ys))
   unfolding count

@@ -1,5 +1,5 @@
 -- The streams of a valid set, by their numbers. Assumes nothing.
-use Prim.Native.Nat.{ℕ, _<_}
+use Prim.Native.Nat.{ℕ, _≤_, _<_}
 use mathlib.Core.Bool.{true}
 use mathlib.Core.List.{List·Memᴰ}
 use mathlib.Core.Path.{_≡_, subst}
@@ -7,12 +7,13 @@ use native.Mathlib.Omega.{arith}
 use lib.ListN.{length, getD}
 use lib.Seq.{getD-take, length-take-le}
 use Rattle.laws.proofs.Gates.{mem-getD}
-use Rattle.laws.proofs.Sums.{all-take-at}
+use Rattle.laws.proofs.Sums.{all-at, all-take-at}
 use Rattle.rules.specs.declared.Set.{Set}
 use Rattle.rules.specs.declared.Stream.{Stream}
-use Rattle.rules.specs.Streams.{Placed, noStream, streamsOf, streamAt, valid}
-use Rattle.rules.specs.Valid.{ValidStream}
+use Rattle.rules.specs.Streams.{Placed, FourPlaces, noStream, streamsOf, streamAt, stageAt, valid}
+use Rattle.rules.specs.Valid.{ValidStage, ValidStream}
 use Rattle.rules.proofs.Valid.{valid-set}
+use Rattle.rules.proofs.Stages.{stage-valid}
 
 module _ (S : Set) (placed : Placed S) (ok : valid S ≡ true) where
   pub streams-length : length (streamsOf S) ≡ S .count
@@ -26,3 +27,14 @@ module _ (S : Set) (placed : Placed S) (ok : valid S ≡ true) where
 
   pub stream-valid : (k : ℕ) → k < S .count → ValidStream (streamAt S k)
   stream-valid k h = all-take-at ValidStream (S .streams) (S .count) k noStream h (omega (arith, valid-set S ok .count, placed .sixteen)) (valid-set S ok .streams)
+
+  pub four-stages : (k : ℕ) → k < S .count → length (streamAt S k .stages) ≡ 4
+  four-stages k h = all-at FourPlaces (S .streams) k noStream (omega (arith, valid-set S ok .count, placed .sixteen)) (placed .four) .stages
+
+  -- the stage j of a stream that has it
+  pub stage-fine : (k : ℕ) → k < S .count → (j : ℕ) → j < streamAt S k .depth → ValidStage (stageAt (streamAt S k) j)
+  stage-fine k h j q = stage-valid (streamAt S k) (four-stages k h) (stream-valid k h) j q
+
+  -- it has a cost
+  pub stage-cost : (k : ℕ) → k < S .count → (j : ℕ) → j < streamAt S k .depth → 0 < stageAt (streamAt S k) j .cost
+  stage-cost k h j q = stage-fine k h j q .cost .low

@@ -1,4 +1,4 @@
--- A stream's own line is tidy, and holds no newline.
+-- A stream's own line, and the line for the version, are tidy and hold no newline.
 -- Assumes nothing.
 use Prim.Native.Nat.{ℕ, zero, suc, _+_, _≤_, _<_}
 use native.Mathlib.Omega.{arith}
@@ -13,10 +13,11 @@ use Rattle.laws.proofs.Sums.{by-test, and-parts}
 use Rattle.rules.specs.declared.Tuple.{Tuple}
 use Rattle.rules.specs.declared.Tuple.the-variants.{Once, Every}
 use Rattle.rules.specs.declared.TuplePlace.{TuplePlace}
+use Rattle.rules.specs.declared.Stage.{Stage}
 use Rattle.rules.specs.declared.Stream.{Stream}
-use Rattle.rules.specs.Streams.{tuplesOf}
+use Rattle.rules.specs.Streams.{stagesOf, tuplesOf}
 use Rattle.ascii.specs.Decimal.{letters, decimalOf, isDigit}
-use Rattle.text_line.specs.Lines.{tupleText, placeText, streamText}
+use Rattle.text_line.specs.Lines.{stageText, tupleText, placeText, stagesText, limitText, streamText, versionText}
 use Rattle.text_tidy.specs.Tidied.{isBlank, uncommented, squeezed, tidied}
 use Rattle.text_read.specs.Texts.{isNewline, firstLine, moreLines}
 use Rattle.promise_texts.proofs.Fields.{all-digits, some-digits}
@@ -132,19 +133,37 @@ unfolding neat flat
 tuples-neat [] = refl
 tuples-neat (p ∷ ts) = tuple-neat (p .tuple) (flat placeText ts) ∙ tuples-neat ts
 
-line-neat : (s : Stream) → neat true (streamText s) ≡ true
-unfolding neat streamText
-line-neat s =
-    let A : List ℕ = letters "task " ++ decimalOf (s .task) in
-    let B : List ℕ = letters " cost " ++ decimalOf (s .cost) in
-    let C : List ℕ = letters " deadline " ++ decimalOf (s .deadline) in
-    let D : List ℕ = flat placeText (tuplesOf s) in
-    let back : streamText s ≡ A ++ (B ++ (C ++ D)) = append-assoc (A ++ B) C D ∙ append-assoc A B (C ++ D) in
-    ap (neat true) back
-    ∙ number (s .task) true (B ++ (C ++ D))
-    ∙ number (s .cost) true (C ++ D)
-    ∙ number (s .deadline) true D
+-- a stage ends with a space
+stage-neat : (g : Stage) (l : List ℕ) → neat true (stageText g ++ l) ≡ neat true l
+unfolding neat
+stage-neat g l =
+    let T : List ℕ = decimalOf (g .task) in
+    let C : List ℕ = decimalOf (g .cost) in
+    let again : stageText g ++ l ≡ letters "task " ++ (T ++ (letters " cost " ++ (C ++ (letters " " ++ l)))) = simp append-assoc in
+    ap (neat true) again
+    ∙ number (g .task) true (letters " cost " ++ (C ++ (letters " " ++ l)))
+    ∙ number (g .cost) true (letters " " ++ l)
+
+stages-neat : (gs : List Stage) (l : List ℕ) → neat true (flat stageText gs ++ l) ≡ neat true l
+unfolding flat
+stages-neat [] l = refl
+stages-neat (g ∷ gs) l =
+    ap (neat true) (append-assoc (stageText g) (flat stageText gs) l) ∙ stage-neat g (flat stageText gs ++ l) ∙ stages-neat gs l
+
+limit-neat : (s : Stream) → neat true (limitText s) ≡ true
+unfolding neat limitText
+limit-neat s =
+    ap (neat true) (append-assoc (letters "deadline ") (decimalOf (s .deadline)) (flat placeText (tuplesOf s)))
+    ∙ number (s .deadline) true (flat placeText (tuplesOf s))
     ∙ tuples-neat (tuplesOf s)
+
+line-neat : (s : Stream) → neat true (streamText s) ≡ true
+unfolding stagesText
+line-neat s = stages-neat (stagesOf s) (limitText s) ∙ limit-neat s
+
+version-neat : neat true versionText ≡ true
+unfolding neat
+version-neat = refl
 
 -- ---- what the others cite
 
@@ -157,3 +176,12 @@ module _ (s : Stream) where
 
   pub line-more : (l : List ℕ) → moreLines (streamText s ++ (10 ∷ l)) ≡ firstLine l ∷ moreLines l
   line-more l = neat-lines true (streamText s) l (line-neat s)
+
+pub version-tidy : tidied versionText ≡ versionText
+version-tidy = neat-tidy versionText version-neat
+
+pub version-first : (l : List ℕ) → firstLine (versionText ++ (10 ∷ l)) ≡ versionText
+version-first l = neat-line true versionText l version-neat
+
+pub version-more : (l : List ℕ) → moreLines (versionText ++ (10 ∷ l)) ≡ firstLine l ∷ moreLines l
+version-more l = neat-lines true versionText l version-neat

@@ -1,5 +1,5 @@
 -- What the replay program prints, in whole and byte for byte, computed from the definitions: the recording of document 01's set B, with its end, cut
--- before it, and with a padding bit set; and a sheet that is refused.
+-- before it, and with a padding bit set; a sheet that is refused; and a message that passes on to its next stage.
 -- Assumes nothing.
 use Prim.Native.Nat.{ℕ}
 use mathlib.Core.List.{List, [], _∷_}
@@ -9,6 +9,7 @@ use Rattle.rules.specs.declared.Verdict.the-variants.{Accept, Refused}
 use Rattle.rules.specs.Load.{lastLength, greatestDeadline, streamOffset, greatestOffset}
 use Rattle.rules.specs.Sheet.{sheetOf}
 use Rattle.rules.proofs.Examples.{setB, computed}
+use Rattle.rules.proofs.Staged.{boom}
 use Rattle.rules.proofs.Cycles.{hOf}
 use Rattle.rules.proofs.Judge.{judgeFrom, judgeBy, judge, judge-right}
 use Rattle.ascii.specs.Decimal.{letters, digitsOf}
@@ -45,3 +46,10 @@ lengthened-replayed = record { verdict = Accept; is-verdict = judge-right setB; 
 pub refused-replayed : ReplayOf [] (0x05 ∷ 0xC0 ∷ []) (letters "refused 5\n")
 unfolding shown
 refused-replayed = record { verdict = Refused BitsMissing; is-verdict = refl; whole = refl }
+
+-- the recording of the trace `p1up0uduuud`
+pub passed-replayed :
+    ReplayOf (sheetOf boom) (0x05 ∷ 0x01 ∷ 0x95 ∷ 0xB0 ∷ [])
+    (letters "accept\n0 posted 1 30\n0 ran 4 1\n1 posted 0 13\n1 ran 1 0\n2 passed 1 0\n3 cut 4 1 26\n4 ran 4 0\n5 ran 4 0\n6 done 4 0 6\nend\n")
+unfolding shown
+passed-replayed = record { verdict = Accept; is-verdict = judge-right boom; whole = refl }

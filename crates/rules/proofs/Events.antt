@@ -9,7 +9,7 @@ use Rattle.rules.specs.declared.Call.the-variants.{Posts, Units}
 use Rattle.rules.specs.declared.PostAnswer.{PostAnswer}
 use Rattle.rules.specs.declared.PostAnswer.the-variants.{Posted, Refused as PostRefused}
 use Rattle.rules.specs.declared.UnitAnswer.{UnitAnswer}
-use Rattle.rules.specs.declared.UnitAnswer.the-variants.{Ran, Finished, Cut, Idle, Refused as UnitRefused}
+use Rattle.rules.specs.declared.UnitAnswer.the-variants.{Ran, Passed, Finished, Cut, Idle, Refused as UnitRefused}
 use Rattle.rules.specs.Steps.{postOf, unitOf, callOf}
 use Rattle.rules.specs.Runs.{Accepted, Departure, Event, accepts, leaves, acceptedOf, departuresOf, Run, afterPost, afterUnit, stepOf}
 
@@ -45,6 +45,7 @@ post-state r k s (PostRefused why) = refl
 
 unit-state : (r : Run) (s : State) (a : UnitAnswer) → afterUnit r s a .state ≡ s
 unit-state r s (Ran t k) = refl
+unit-state r s (Passed t k) = refl
 unit-state r s (Finished t k l) = refl
 unit-state r s (Cut t k l) = refl
 unit-state r s Idle = refl

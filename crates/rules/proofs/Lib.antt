@@ -8,6 +8,7 @@ pub mod Cycles
 pub mod Judge
 pub mod Verdicts
 pub mod Yard
+pub mod Staged
 pub mod Events
 pub mod Runs
 pub mod Refusals

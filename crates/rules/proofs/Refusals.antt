@@ -27,7 +27,7 @@ full = record { set = setB; clock = 0; count = 64; messages = replicate 64 (newM
 
 -- a cost of 0
 abbrev badSet : Set
-badSet = setOf (stream 0 0 5 (Once 0) ∷ [])
+badSet = setOf 1 (stream 0 0 5 (Once 0) ∷ [])
 
 abbrev steps : List Says
 steps =
@@ -49,12 +49,12 @@ abbrev sheets : List Says
 sheets =
     readSays (readOf [] .answer)
     ∷ readSays (readOf (0x10 ∷ []) .answer)
-    ∷ readSays (readOf (0x20 ∷ []) .answer)
-    ∷ readSays (readOf (0x20 ∷ 0x00 ∷ []) .answer)
+    ∷ readSays (readOf (0x30 ∷ []) .answer)
+    ∷ readSays (readOf (0x30 ∷ 0x00 ∷ []) .answer)
     ∷ readSays (readOf (0x18 ∷ 0x80 ∷ []) .answer)
     ∷ readSays (readOf (0x10 ∷ 0x01 ∷ []) .answer)
     ∷ readSays (readOf (0x10 ∷ 0x00 ∷ 0x00 ∷ []) .answer)
-    ∷ writeSays (writeOf badSet 378)
+    ∷ writeSays (writeOf badSet 502)
     ∷ writeSays (writeOf emptySet 1)
     ∷ []
 

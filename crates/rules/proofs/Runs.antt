@@ -35,9 +35,9 @@ eventsB =
     accepts (record { number = 0; stream = 1; at = 0 })
     ∷ accepts (record { number = 1; stream = 2; at = 1 })
     ∷ accepts (record { number = 2; stream = 0; at = 1 })
-    ∷ leaves (record { number = 0; stream = 1; how = finished; used = 4; laxity = pos 16; at = 4 })
-    ∷ leaves (record { number = 2; stream = 0; how = finished; used = 2; laxity = pos 0; at = 6 })
-    ∷ leaves (record { number = 1; stream = 2; how = finished; used = 2; laxity = pos 1; at = 8 })
+    ∷ leaves (record { number = 0; stream = 1; how = finished; used = 4; laxity = pos 16; at = 4; stage = 0 })
+    ∷ leaves (record { number = 2; stream = 0; how = finished; used = 2; laxity = pos 0; at = 6; stage = 0 })
+    ∷ leaves (record { number = 1; stream = 2; how = finished; used = 2; laxity = pos 1; at = 8; stage = 0 })
     ∷ []
 
 -- the run of set B at a time, all three messages gone

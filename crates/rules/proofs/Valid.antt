@@ -13,10 +13,11 @@ use Rattle.laws.proofs.Sums.{and-parts, every-all, Holds, all-All}
 use Rattle.rules.specs.declared.Tuple.{Tuple}
 use Rattle.rules.specs.declared.Tuple.the-variants.{Once, Every}
 use Rattle.rules.specs.declared.TuplePlace.{TuplePlace}
+use Rattle.rules.specs.declared.Stage.{Stage}
 use Rattle.rules.specs.declared.Stream.{Stream}
 use Rattle.rules.specs.declared.Set.{Set}
-use Rattle.rules.specs.Valid.{Between, ValidCycle, ValidPlace, FirstZero, ValidStream, ValidSet}
-use Rattle.rules.specs.Streams.{noTuple, tuplesOf, streamsOf, offset, offsetAt, cycleOk, tupleOk, tuplesOk, tupleUnused, streamTests, streamOk, streamUnused, setTests, valid}
+use Rattle.rules.specs.Valid.{Between, ValidCycle, ValidPlace, FirstZero, ValidStage, ValidStream, ValidSet}
+use Rattle.rules.specs.Streams.{noTuple, stagesOf, tuplesOf, streamsOf, offset, offsetAt, cycleOk, tupleOk, tuplesOk, tupleUnused, stageOk, streamTests, streamOk, streamUnused, setTests, valid}
 
 between : (a x b : ℕ) → within a x b ≡ true → Between a x b
 between a x b e =
@@ -49,19 +50,29 @@ first-zero zero ps e = tt
 first-zero (suc n) [] e = tt
 first-zero (suc n) (p ∷ ps) e = eqb-true (offsetAt p) 0 e
 
+abbrev stageTests : Stage → List Bool
+stageTests g = leb (g .task) 15 ∷ within 1 (g .cost) 65535 ∷ []
+
+pub valid-stage : (g : Stage) → stageOk g ≡ true → ValidStage g
+unfolding stageOk
+valid-stage g e =
+    let u : All Holds (stageTests g) = every-all (stageTests g) e in
+    record { task = leb-true (g .task) 15 (u .0); cost = between 1 (g .cost) 65535 (u .1 .0) }
+
 pub valid-stream : (s : Stream) → streamOk s ≡ true → ValidStream s
 unfolding streamOk tuplesOk
 valid-stream s e =
     let u : All Holds (streamTests s) = every-all (streamTests s) e in
     record {
-      task = leb-true (s .task) 15 (u .0);
-      cost = between 1 (s .cost) 65535 (u .1 .0);
-      deadline = between 1 (s .deadline) 200000 (u .1 .1 .0);
-      count = between 1 (s .count) 4 (u .1 .1 .1 .0);
-      tuples = valid-places 0 (tuplesOf s) (u .1 .1 .1 .1 .1 .0);
-      first = first-zero (s .count) (s .tuples) (u .1 .1 .1 .1 .0);
-      order = u .1 .1 .1 .1 .1 .0;
-      unused = u .1 .1 .1 .1 .1 .1 .0;
+      depth = between 1 (s .depth) 4 (u .0);
+      stages = all-All stageOk ValidStage valid-stage (stagesOf s) (u .1 .0);
+      unstaged = u .1 .1 .0;
+      deadline = between 1 (s .deadline) 200000 (u .1 .1 .1 .0);
+      count = between 1 (s .count) 4 (u .1 .1 .1 .1 .0);
+      tuples = valid-places 0 (tuplesOf s) (u .1 .1 .1 .1 .1 .1 .0);
+      first = first-zero (s .count) (s .tuples) (u .1 .1 .1 .1 .1 .0);
+      order = u .1 .1 .1 .1 .1 .1 .0;
+      unused = u .1 .1 .1 .1 .1 .1 .1 .0;
     }
 
 pub valid-set : (x : Set) → valid x ≡ true → ValidSet x
@@ -72,6 +83,7 @@ valid-set x e =
       count = leb-true (x .count) 16 (u .0);
       streams = all-All streamOk ValidStream valid-stream (streamsOf x) (u .1 .0);
       unused = u .1 .1 .0;
+      version = u .1 .1 .1 .0;
     }
 
 pub streams-few : (x : Set) → ValidSet x → length (streamsOf x) ≤ 16

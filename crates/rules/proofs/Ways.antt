@@ -32,7 +32,7 @@ runs-on = refl
 
 -- two tasks, two streams of task 5, all of one deadline
 abbrev ties : Set
-ties = setOf (stream 7 3 9 (Once 0) ∷ stream 5 2 9 (Once 0) ∷ stream 5 3 9 (Once 0) ∷ [])
+ties = setOf 1 (stream 7 3 9 (Once 0) ∷ stream 5 2 9 (Once 0) ∷ stream 5 3 9 (Once 0) ∷ [])
 
 -- "on a tie, the lowest task number"; "on a tie the earliest posted"
 pub tied : answersOf ties (Posts 0 ∷ Posts 2 ∷ Posts 1 ∷ Units true ∷ Units true ∷ Units true ∷ [])
@@ -42,7 +42,7 @@ tied = refl
 
 -- c 2, d 2: cut at its cost; done on the unit that reaches c is finished; a late one has a negative laxity
 abbrev short : Set
-short = setOf (stream 0 2 2 (each 2) ∷ [])
+short = setOf 1 (stream 0 2 2 (each 2) ∷ [])
 
 pub cut-at-cost : answersOf short (Posts 0 ∷ Posts 0 ∷ Units false ∷ Units false ∷ Units false ∷ Units true ∷ Units false ∷ Units true ∷ [])
     ≡ (posted 0 2 ∷ posted 0 2 ∷ ran 0 0 ∷ cut 0 0 (pos 0) ∷ ran 0 0 ∷ done 0 0 (negsuc 1) ∷ idle ∷ refused 4 ∷ [])
@@ -56,7 +56,7 @@ missed-late = refl
 
 -- "cut at its cost", in time: the first message of c 2, d 2
 abbrev shortCut : Departure
-shortCut = record { number = 0; stream = 0; how = left-cut; used = 2; laxity = pos 0; at = 2 }
+shortCut = record { number = 0; stream = 0; how = left-cut; used = 2; laxity = pos 0; at = 2; stage = 0 }
 
 pub cut-departs : departures (runOf short (Posts 0 ∷ Units false ∷ Units false ∷ [])) ≡ (shortCut ∷ [])
 unfolding computed
@@ -76,11 +76,11 @@ both-ends = refl
 
 -- "Counting only the largest blocking over all tasks. Every task can hold one started message."
 abbrev heldTwice : Set
-heldTwice = setOf (stream 0 1 9 (each 40) ∷ stream 0 5 30 (each 40) ∷ stream 1 1 9 (each 40) ∷ stream 1 4 30 (each 40) ∷ [])
+heldTwice = setOf 1 (stream 0 1 9 (each 40) ∷ stream 0 5 30 (each 40) ∷ stream 1 1 9 (each 40) ∷ stream 1 4 30 (each 40) ∷ [])
 
 -- 1 for each of the two urgent streams, 4 and 3 held. "0 unless it has a stream with d not above I": at 5 task 1 has none
 abbrev apart : Set
-apart = setOf (stream 0 2 5 (each 10) ∷ stream 1 6 20 (each 20) ∷ [])
+apart = setOf 1 (stream 0 2 5 (each 10) ∷ stream 1 6 20 (each 20) ∷ [])
 
 pub blocked : (demand (streamsOf heldTwice) 9 ∷ demand (streamsOf apart) 5 ∷ []) ≡ (9 ∷ 2 ∷ [])
 unfolding computed

@@ -15,11 +15,11 @@ use Rattle.rules.specs.declared.ReadAnswer.the-variants.{Read}
 use Rattle.rules.specs.declared.ReadResult.{ReadResult}
 use Rattle.rules.specs.declared.CountAnswer.the-variants.{Number}
 use Rattle.rules.specs.declared.Verdict.{Verdict}
-use Rattle.rules.specs.Streams.{noTuple, emptySet, streamsOf, jitterOf}
+use Rattle.rules.specs.Streams.{noTuple, noStage, emptySet, streamsOf, jitterOf}
 use Rattle.rules.specs.Load.{demand, demandOf, greatestDeadline, streamOffset, greatestOffset, lastLength, VerdictOf}
 use Rattle.rules.specs.Sheet.{setOf, sheetOf, readOf}
 use Rattle.rules.specs.Numbers.{Says, countSays, gives, verdictSays, readSays, jitterSays, accept, late, overload, refused, tuples}
-use Rattle.rules.proofs.Examples.{stream, each, setB, computed}
+use Rattle.rules.proofs.Examples.{stage, stream, each, setB, computed}
 use Rattle.rules.proofs.Valid.{valid-set}
 use Rattle.rules.proofs.Finite.{demand-more}
 use Rattle.rules.proofs.Cycles.{hOf}
@@ -33,22 +33,22 @@ cyclic k c d z = stream k c d (each z)
 
 -- W3 to W6: (c 2, d 5, every 10) on task 0, and (c, d 20, every 20) on a task
 abbrev pair : ℕ → ℕ → Set
-pair k c = setOf (cyclic 0 2 5 10 ∷ cyclic k c 20 20 ∷ [])
+pair k c = setOf 1 (cyclic 0 2 5 10 ∷ cyclic k c 20 20 ∷ [])
 
 abbrev unitEach : Set
-unitEach = setOf (cyclic 0 1 1 1 ∷ [])
+unitEach = setOf 1 (cyclic 0 1 1 1 ∷ [])
 
 abbrev unitTwice : Set
-unitTwice = setOf (cyclic 0 1 1 1 ∷ cyclic 1 1 1 1 ∷ [])
+unitTwice = setOf 1 (cyclic 0 1 1 1 ∷ cyclic 1 1 1 1 ∷ [])
 
 abbrev onceTwice : Set
-onceTwice = setOf (stream 0 3 3 (Once 0) ∷ stream 1 3 3 (Once 0) ∷ [])
+onceTwice = setOf 1 (stream 0 3 3 (Once 0) ∷ stream 1 3 3 (Once 0) ∷ [])
 
 abbrev longCycles : Set
-longCycles = setOf (cyclic 0 1 1 999999 ∷ cyclic 1 1 1 1000000 ∷ [])
+longCycles = setOf 1 (cyclic 0 1 1 999999 ∷ cyclic 1 1 1 1000000 ∷ [])
 
 abbrev taskThree : Set
-taskThree = setOf (cyclic 3 2 5 10 ∷ [])
+taskThree = setOf 1 (cyclic 3 2 5 10 ∷ [])
 
 -- ---- the table
 
@@ -108,21 +108,21 @@ yard =
 -- "Testing up to the longest deadline and calling that all lengths": 5 is the longest deadline, and 6 is late
 abbrev lateAfter : Set
 lateAfter =
-    setOf
+    setOf 1
     (record {
-      task = 0;
-      cost = 4;
+      depth = 1;
+      stages = stage 0 4 ∷ noStage ∷ noStage ∷ noStage ∷ [];
       deadline = 5;
       count = 3;
       tuples = record { tuple = Once 0 } ∷ record { tuple = Once 1 } ∷ record { tuple = Once 1 } ∷ noTuple ∷ [];
     }
     ∷ [])
 
--- the fifth of the "Ways a cab has gone wrong", and "no bytes (5); `10` (5); `20 00` (6); `10 01` (10); `10 00 00` (10)"
+-- the fifth of the "Ways a cab has gone wrong", and "no bytes (5); `10` (5); .. `10 01` (10); `10 00 00` (10)"; `20 00` is no longer 6, `30 00` is
 abbrev pub faults : List Row
 faults =
     demands lateAfter 5 4 ∷ judged lateAfter (late 6 12)
-    ∷ no-sheet [] 5 ∷ no-sheet (0x10 ∷ []) 5 ∷ no-sheet (0x20 ∷ 0x00 ∷ []) 6 ∷ no-sheet (0x10 ∷ 0x01 ∷ []) 10 ∷ no-sheet (0x10 ∷ 0x00 ∷ 0x00 ∷ []) 10
+    ∷ no-sheet [] 5 ∷ no-sheet (0x10 ∷ []) 5 ∷ no-sheet (0x30 ∷ 0x00 ∷ []) 6 ∷ no-sheet (0x10 ∷ 0x01 ∷ []) 10 ∷ no-sheet (0x10 ∷ 0x00 ∷ 0x00 ∷ []) 10
     ∷ []
 
 -- a cycle with jitter both ways: once at 0, and every z from the offset
@@ -141,11 +141,11 @@ jitters =
 
 -- one row more
 infixr 20 _and_
-abbrev _and_ : {P Q : Type 0} → P → Q → P × Q
+abbrev pub _and_ : {P Q : Type 0} → P → Q → P × Q
 p and q = (p, q)
 
 -- a verdict that antt computes
-worked : (x : Set) (says : Says) → verdictSays (judge x) ≡ says → Judges x says
+pub worked : (x : Set) (says : Says) → verdictSays (judge x) ≡ says → Judges x says
 worked x says e = record { given = judge x; is-verdict = judge-right x; in-words = e }
 
 -- W7: from 1 on, each unit of length adds the load of one unit

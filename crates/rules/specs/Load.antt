@@ -1,4 +1,4 @@
--- Document 01, "The load check".
+-- Document 01, "The load check", over the stages of document 02's request 4.
 -- Assumes nothing.
 use Prim.Native.Nat.{ℕ, _+_, _-_, _*_, _/_, _≤_, _<_, _∣_}
 use mathlib.Core.Bool.{Bool, true, false, cond, _&&_}
@@ -9,6 +9,7 @@ use Rattle.laws.specs.Lists.{below, any, sum, top, All}
 use Rattle.rules.specs.declared.Tuple.{Tuple}
 use Rattle.rules.specs.declared.Tuple.the-variants.{Once, Every}
 use Rattle.rules.specs.declared.TuplePlace.{TuplePlace}
+use Rattle.rules.specs.declared.Stage.{Stage}
 use Rattle.rules.specs.declared.Stream.{Stream}
 use Rattle.rules.specs.declared.Set.{Set}
 use Rattle.rules.specs.declared.Refusal.{Refusal}
@@ -17,12 +18,12 @@ use Rattle.rules.specs.declared.CountAnswer.{CountAnswer}
 use Rattle.rules.specs.declared.CountAnswer.the-variants.{Number, Refused as CountRefused}
 use Rattle.rules.specs.declared.Verdict.{Verdict}
 use Rattle.rules.specs.declared.Verdict.the-variants.{Accept, Late, Overload, Refused}
-use Rattle.rules.specs.Streams.{Stage, stagesOf, tuplesOf, streamsOf, offsetAt, limit, valid}
+use Rattle.rules.specs.Streams.{stagesOf, tuplesOf, streamsOf, offsetAt, limit, valid}
 use Rattle.rules.specs.Valid.{ValidStream}
 
 -- ---- demand
 
--- c, the cost of a stream: of all its stages
+-- "Demand and long-run load use the sum of a stream's costs": c, the cost of a stream
 abbrev pub stageCost : Stage → ℕ
 stageCost g = g .cost
 
@@ -33,7 +34,7 @@ costIn s = sum stageCost (stagesOf s)
 unfoldable pub due : ℕ → Stream → ℕ
 due i s = cond (leb (s .deadline) i) (costIn s * limit s (i - s .deadline)) 0
 
--- a stage on the task t; that a stream has one: the task has that stream
+-- a stage on the task t; "counts a stream as urgent if any of its stages is there": the task has that stream
 abbrev pub onTask : ℕ → Stage → Bool
 onTask t g = eqb (g .task) t
 
@@ -44,7 +45,7 @@ has t s = any (onTask t) (stagesOf s)
 abbrev pub urgent : ℕ → ℕ → Stream → Bool
 urgent t i s = has t s && leb (s .deadline) i
 
--- "c - 1" of a stage on the task t; the largest of a stream
+-- "a task's blocking uses each stage on it separately": c - 1 of a stage on the task t; the largest of a stream
 abbrev pub lessOne : ℕ → Stage → ℕ
 lessOne t g = cond (onTask t g) (g .cost - 1) 0
 

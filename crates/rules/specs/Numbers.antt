@@ -12,7 +12,7 @@ use Rattle.rules.specs.declared.PostAnswer.the-variants.{Posted, Refused
 use Rattle.rules.specs.declared.ChooseAnswer.{ChooseAnswer}
 use Rattle.rules.specs.declared.ChooseAnswer.the-variants.{Nothing, Runs, Refused as ChooseRefused}
 use Rattle.rules.specs.declared.UnitAnswer.{UnitAnswer}
-use Rattle.rules.specs.declared.UnitAnswer.the-variants.{Ran, Finished, Cut, Idle, Refused as UnitRefused}
+use Rattle.rules.specs.declared.UnitAnswer.the-variants.{Ran, Passed, Finished, Cut, Idle, Refused as UnitRefused}
 use Rattle.rules.specs.declared.CallAnswer.{CallAnswer}
 use Rattle.rules.specs.declared.CallAnswer.the-variants.{ToPost, ToUnit}
 use Rattle.rules.specs.declared.CountAnswer.{CountAnswer}
@@ -56,6 +56,7 @@ pub data Says : Type 0 where
   none : Says
   runs : (task stream : ℕ) → Says
   ran : (task stream : ℕ) → Says
+  passed : (task stream : ℕ) → Says
   done : (task stream : ℕ) (laxity : ℤ) → Says
   cut : (task stream : ℕ) (laxity : ℤ) → Says
   idle : Says
@@ -83,9 +84,10 @@ chooseSays Nothing = none
 chooseSays (Runs t k) = runs t k
 chooseSays (ChooseRefused why) = refused (number why)
 
--- "ran task stream; done or cut task stream laxity; idle; refused N"
+-- "ran task stream; done or cut task stream laxity; idle; refused N"; request 4: "passed with task and stream"
 abbrev pub unitSays : UnitAnswer → Says
 unitSays (Ran t k) = ran t k
+unitSays (Passed t k) = passed t k
 unitSays (Finished t k l) = done t k l
 unitSays (Cut t k l) = cut t k l
 unitSays Idle = idle

@@ -16,9 +16,9 @@ use Rattle.rules.specs.declared.Call.the-variants.{Posts, Units}
 use Rattle.rules.specs.declared.PostAnswer.{PostAnswer}
 use Rattle.rules.specs.declared.PostAnswer.the-variants.{Posted, Refused as PostRefused}
 use Rattle.rules.specs.declared.UnitAnswer.{UnitAnswer}
-use Rattle.rules.specs.declared.UnitAnswer.the-variants.{Ran, Finished, Cut, Idle, Refused as UnitRefused}
+use Rattle.rules.specs.declared.UnitAnswer.the-variants.{Ran, Passed, Finished, Cut, Idle, Refused as UnitRefused}
 use Rattle.rules.specs.declared.Verdict.the-variants.{Accept}
-use Rattle.rules.specs.Streams.{Placed, noStage, stagesOf, streamAt, limit}
+use Rattle.rules.specs.Streams.{Placed, streamAt, stageAt, limit}
 use Rattle.rules.specs.States.{pending}
 use Rattle.rules.specs.Steps.{sooner, startOf, postOf, placeOf, messageAt, unitOf, callOf}
 use Rattle.rules.specs.Load.{VerdictOf}
@@ -36,7 +36,8 @@ pub data How : Type 0 where
   finished : How
   cut : How
 
--- a departure: the number of the message that left, its stream, how it left, the units it had used, its laxity and the time after that unit
+-- a departure: the number of the message that left, its stream, how it left, the units it had used in its last stage, its laxity, the time after that unit,
+-- and that stage
 pub record Departure : Type 0 where
   pub number : ℕ
   pub stream : ℕ
@@ -44,6 +45,7 @@ pub record Departure : Type 0 where
   pub used : ℕ
   pub laxity : ℤ
   pub at : ℕ
+  pub stage : ℕ
 
 pub data Event : Type 0 where
   accepts : Accepted → Event
@@ -102,6 +104,7 @@ newDeparture r how laxity =
       used = messageAt (r .state) i .used + 1;
       laxity = laxity;
       at = r .time + 1;
+      stage = messageAt (r .state) i .stage;
     }
 
 abbrev pub afterLeaving : Run → State → How → ℤ → Run
@@ -114,13 +117,14 @@ afterLeaving r s how laxity =
       events = r .events ++ (leaves (newDeparture r how laxity) ∷ []);
     }
 
--- a post, and a unit
+-- a post, and a unit; a message that passes on is pending as before
 abbrev pub afterPost : Run → ℕ → State → PostAnswer → Run
 afterPost r k s (Posted stream deadline) = afterAccepting r k s
 afterPost r k s (PostRefused why) = afterRefusal r s
 
 abbrev pub afterUnit : Run → State → UnitAnswer → Run
 afterUnit r s (Ran t k) = afterMoving r s
+afterUnit r s (Passed t k) = afterMoving r s
 afterUnit r s (Finished t k l) = afterLeaving r s finished l
 afterUnit r s (Cut t k l) = afterLeaving r s cut l
 afterUnit r s Idle = afterMoving r s
@@ -183,10 +187,13 @@ KeepsLimits S ps = (k : ℕ) → k < S .count → (x i : ℕ) → count (inWindo
 abbrev pub dueAt : Set → Accepted → ℕ
 dueAt S p = p .at + streamAt S (p .stream) .deadline
 
--- "finished or cut at its cost": the departure is that of this message, in time
+-- "finished or cut at its cost", and "a message has left its last stage by its deadline": finished at the last stage of its stream, cut at the cost of the
+-- stage that it was in
 abbrev pub AtCost : Set → Departure → How → Type 0
-AtCost S d finished = Unit {0}
-AtCost S d cut = d .used ≡ getD (stagesOf (streamAt S (d .stream))) 0 noStage .cost
+AtCost S d finished = suc (d .stage) ≡ streamAt S (d .stream) .depth
+AtCost S d cut = d .used ≡ stageAt (streamAt S (d .stream)) (d .stage) .cost
+
+-- the departure is that of this message, in time
 
 pub record LeftInTime (S : Set) (p : Accepted) (d : Departure) : Type 0 where
   pub same : d .number ≡ p .number

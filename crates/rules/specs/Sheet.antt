@@ -1,4 +1,4 @@
--- Document 01, "The sheet".
+-- Document 01, "The sheet": version 1; document 02, request 4: version 2.
 -- Assumes nothing.
 use Prim.Native.Nat.{ℕ, zero, suc, _+_, _-_}
 use mathlib.Core.Bool.{Bool, true, false, cond, _&&_}
@@ -10,6 +10,7 @@ use Rattle.laws.specs.Bits.{toBits, value, bits, pack}
 use Rattle.rules.specs.declared.Tuple.{Tuple}
 use Rattle.rules.specs.declared.Tuple.the-variants.{Once, Every}
 use Rattle.rules.specs.declared.TuplePlace.{TuplePlace}
+use Rattle.rules.specs.declared.Stage.{Stage}
 use Rattle.rules.specs.declared.Stream.{Stream}
 use Rattle.rules.specs.declared.Set.{Set}
 use Rattle.rules.specs.declared.Refusal.{Refusal}
@@ -18,7 +19,7 @@ use Rattle.rules.specs.declared.ReadResult.{ReadResult}
 use Rattle.rules.specs.declared.ReadAnswer.the-variants.{Read, Refused}
 use Rattle.rules.specs.declared.WriteAnswer.{WriteAnswer}
 use Rattle.rules.specs.declared.WriteAnswer.the-variants.{Wrote, Refused as NotWritten}
-use Rattle.rules.specs.Streams.{noTuple, noStream, emptySet, tuplesOf, streamsOf, valid}
+use Rattle.rules.specs.Streams.{noTuple, noStage, noStream, emptySet, stagesOf, tuplesOf, streamsOf, valid}
 
 -- ---- what a set's sheet is
 
@@ -30,14 +31,25 @@ tupleBits (Every z a) = toBits 20 z ++ toBits 17 a
 abbrev pub placeBits : TuplePlace → List ℕ
 placeBits p = tupleBits (p .tuple)
 
--- "for each stream task (4), cost (16), deadline (18), tuples less one (2); for each tuple .."
-unfoldable pub streamBits : Stream → List ℕ
-streamBits s =
-    toBits 4 (s .task) ++ (toBits 16 (s .cost) ++ (toBits 18 (s .deadline) ++ (toBits 2 (s .count - 1) ++ flat placeBits (tuplesOf s))))
+-- "task (4), cost (16)"
+abbrev pub stageBits : Stage → List ℕ
+stageBits g = toBits 4 (g .task) ++ toBits 16 (g .cost)
+
+-- "for each stream task (4), cost (16), deadline (18)"; "Sheets of version 2 carry, after the deadline, 2 bits of stages less one and that many task and
+-- cost pairs in place of the single pair."
+unfoldable pub headBits : ℕ → Stream → List ℕ
+headBits version s =
+    cond (eqb version 1)
+    (flat stageBits (stagesOf s) ++ toBits 18 (s .deadline))
+    (toBits 18 (s .deadline) ++ (toBits 2 (s .depth - 1) ++ flat stageBits (stagesOf s)))
+
+-- "tuples less one (2); for each tuple .."
+unfoldable pub streamBits : ℕ → Stream → List ℕ
+streamBits version s = headBits version s ++ (toBits 2 (s .count - 1) ++ flat placeBits (tuplesOf s))
 
 -- "Bit fields, most significant first, no gaps: version (4 bits, 1), stream count (5); for each stream .."
 unfoldable pub sheetBits : Set → List ℕ
-sheetBits x = toBits 4 1 ++ (toBits 5 (x .count) ++ flat streamBits (streamsOf x))
+sheetBits x = toBits 4 (x .version) ++ (toBits 5 (x .count) ++ flat (streamBits (x .version)) (streamsOf x))
 
 -- "Then zero bits to the end of the byte and nothing more."
 unfoldable pub sheetOf : Set → List ℕ
@@ -62,19 +74,43 @@ abbrev pub tupleOf : ℕ → ℕ → TuplePlace
 tupleOf z a = record { tuple = cond (eqb z 0) (Once a) (Every z a) }
 
 -- a stream, and a set, of what was read; the places behind are unused
-abbrev pub streamOf : ℕ → ℕ → ℕ → List TuplePlace → Stream
-streamOf task cost deadline ts =
-    record { task = task; cost = cost; deadline = deadline; count = length ts; tuples = ts ++ replicate (4 - length ts) noTuple }
+abbrev pub streamOf : List Stage → ℕ → List TuplePlace → Stream
+streamOf gs deadline ts =
+    record {
+      depth = length gs;
+      stages = gs ++ replicate (4 - length gs) noStage;
+      deadline = deadline;
+      count = length ts;
+      tuples = ts ++ replicate (4 - length ts) noTuple;
+    }
 
-abbrev pub setOf : List Stream → Set
-setOf ss = record { count = length ss; streams = ss ++ replicate (16 - length ss) noStream }
+abbrev pub setOf : ℕ → List Stream → Set
+setOf version ss = record { count = length ss; streams = ss ++ replicate (16 - length ss) noStream; version = version }
 
 -- "After the last field, a set padding bit or a further byte gives 10."
 abbrev pub isZero : ℕ → Bool
 isZero b = eqb b 0
 
-unfoldable pub readEnd : List Stream → List ℕ → ReadResult
-readEnd ss bs = cond (ltb (length bs) 8 && all isZero bs) (record { answer = Read; set = setOf ss }) (noSet Leftover)
+unfoldable pub readEnd : ℕ → List Stream → List ℕ → ReadResult
+readEnd version ss bs = cond (ltb (length bs) 8 && all isZero bs) (record { answer = Read; set = setOf version ss }) (noSet Leftover)
+
+-- n more stages behind those in gs
+unfoldable pub readStages : ℕ → List Stage → List ℕ → (List Stage → List ℕ → ReadResult) → ReadResult
+readStages zero gs bs next = next gs bs
+readStages (suc n) gs bs next =
+    field 4 bs (λ task bs₁.
+    field 16 bs₁ (λ cost bs₂. inRule (within 1 cost 65535)
+    (readStages n (gs ++ (record { task = task; cost = cost } ∷ [])) bs₂ next)))
+
+unfoldable pub readDeadline : List ℕ → (ℕ → List ℕ → ReadResult) → ReadResult
+readDeadline bs next = field 18 bs (λ deadline bs₁. inRule (within 1 deadline 200000) (next deadline bs₁))
+
+-- version 1: one stage, then the deadline; version 2: the deadline, then stages less one, and the stages
+unfoldable pub readHead : ℕ → List ℕ → (List Stage → ℕ → List ℕ → ReadResult) → ReadResult
+readHead version bs next =
+    cond (eqb version 1)
+    (readStages 1 [] bs (λ gs bs₁. readDeadline bs₁ (λ deadline bs₂. next gs deadline bs₂)))
+    (readDeadline bs (λ deadline bs₁. field 2 bs₁ (λ n bs₂. readStages (suc n) [] bs₂ (λ gs bs₃. next gs deadline bs₃))))
 
 -- n more tuples behind those in ts, the next offset from low to high. "the first is 0 and they never fall"
 unfoldable pub readTuples : ℕ → ℕ → ℕ → List TuplePlace → List ℕ → (List TuplePlace → List ℕ → ReadResult) → ReadResult
@@ -84,22 +120,21 @@ readTuples (suc n) low high ts bs next =
     (field 17 bs₁ (λ a bs₂. inRule (within low a high)
     (readTuples n a 100000 (ts ++ (tupleOf z a ∷ [])) bs₂ next))))
 
-unfoldable pub readStream : List ℕ → (Stream → List ℕ → ReadResult) → ReadResult
-readStream bs next =
-    field 4 bs (λ task bs₁.
-    field 16 bs₁ (λ cost bs₂. inRule (within 1 cost 65535)
-    (field 18 bs₂ (λ deadline bs₃. inRule (within 1 deadline 200000)
-    (field 2 bs₃ (λ n bs₄. readTuples (suc n) 0 0 [] bs₄ (λ ts bs₅. next (streamOf task cost deadline ts) bs₅)))))))
+unfoldable pub readStream : ℕ → List ℕ → (Stream → List ℕ → ReadResult) → ReadResult
+readStream version bs next =
+    readHead version bs (λ gs deadline bs₁.
+    field 2 bs₁ (λ n bs₂. readTuples (suc n) 0 0 [] bs₂ (λ ts bs₃. next (streamOf gs deadline ts) bs₃)))
 
 -- n more streams behind those in ss
-unfoldable pub readStreams : ℕ → List Stream → List ℕ → ReadResult
-readStreams zero ss bs = readEnd ss bs
-readStreams (suc n) ss bs = readStream bs (λ s rest. readStreams n (ss ++ (s ∷ [])) rest)
+unfoldable pub readStreams : ℕ → ℕ → List Stream → List ℕ → ReadResult
+readStreams version zero ss bs = readEnd version ss bs
+readStreams version (suc n) ss bs = readStream version bs (λ s rest. readStreams version n (ss ++ (s ∷ [])) rest)
 
+-- "6 is no longer given for version 2"
 unfoldable pub readBits : List ℕ → ReadResult
 readBits bs =
-    field 4 bs (λ version bs₁. cond (eqb version 1)
-    (field 5 bs₁ (λ n bs₂. inRule (leb n 16) (readStreams n [] bs₂)))
+    field 4 bs (λ version bs₁. cond (within 1 version 2)
+    (field 5 bs₁ (λ n bs₂. inRule (leb n 16) (readStreams version n [] bs₂)))
     (noSet BadVersion))
 
 -- what a string of bytes reads as

@@ -1,4 +1,4 @@
--- Document 01, "State and steps": the state, and when it is well formed.
+-- Document 01, "State and steps": the state, and when it is well formed; document 02, request 4: the stage of a message.
 -- Assumes nothing.
 use Prim.Native.Nat.{ℕ, _+_, _-_, _≤_}
 use mathlib.Core.Bool.{Bool, true, false, cond, _&&_}
@@ -7,13 +7,14 @@ use mathlib.Core.Path.{_≡_}
 use lib.ListN.{length, getD, take, drop}
 use lib.Dec.{ltb, leb, eqb}
 use Rattle.laws.specs.Lists.{every, within, below, all, count, scan}
+use Rattle.rules.specs.declared.Stage.{Stage}
 use Rattle.rules.specs.declared.Set.{Set}
 use Rattle.rules.specs.declared.Message.{Message}
 use Rattle.rules.specs.declared.State.{State}
-use Rattle.rules.specs.Streams.{Placed, Stage, noStage, stagesOf, streamAt, valid}
+use Rattle.rules.specs.Streams.{Placed, streamAt, stageAt, valid}
 
 abbrev pub noMessage : Message
-noMessage = record { stream = 0; deadline = 0; used = 0 }
+noMessage = record { stream = 0; deadline = 0; used = 0; stage = 0 }
 
 -- "The state holds a set, the clock and up to 64 pending messages in posting order"
 abbrev pub pending : State → List Message
@@ -28,11 +29,14 @@ withMessages s n ms = record { set = s .set; clock = s .clock; count = n; messag
 
 -- the message with other used units
 abbrev pub withUsed : Message → ℕ → Message
-withUsed m used = record { stream = m .stream; deadline = m .deadline; used = used }
+withUsed m used = record { stream = m .stream; deadline = m .deadline; used = used; stage = m .stage }
 
--- the stage that a message is in: its stream has one
+-- how many stages a message goes through, and the one that it is in
+abbrev pub stagesIn : Set → Message → ℕ
+stagesIn x m = streamAt x (m .stream) .depth
+
 abbrev pub stageOf : Set → Message → Stage
-stageOf x m = getD (stagesOf (streamAt x (m .stream))) 0 noStage
+stageOf x m = stageAt (streamAt x (m .stream)) (m .stage)
 
 -- a message's task and its cost c are those of its stage, its relative deadline d is that of its stream
 abbrev pub taskOf : Set → Message → ℕ
@@ -49,10 +53,11 @@ abbrev pub postedAt : Set → Message → ℕ
 postedAt x m = m .deadline - spanOf x m
 
 -- "each message names a stream of the set, has used less than c, and has a deadline from d to clock + d;
--- deadline less d never falls along the order": a message behind one that was posted at `before`
+-- deadline less d never falls along the order": a message behind one that was posted at `before`. Its stage is one of its stream's, c that stage's cost
 abbrev pub messageTests : Set → ℕ → ℕ → Message → List Bool
 messageTests x clock before m =
     ltb (m .stream) (x .count)
+    ∷ ltb (m .stage) (stagesIn x m)
     ∷ ltb (m .used) (costOf x m)
     ∷ within (spanOf x m) (m .deadline) (clock + spanOf x m)
     ∷ leb before (postedAt x m)
@@ -64,7 +69,7 @@ messageOk x clock before m = every (messageTests x clock before m)
 unfoldable pub messagesOk : Set → ℕ → List Message → Bool
 messagesOk x clock l = scan (messageOk x clock) (postedAt x) 0 l
 
--- a message of the task t with a used unit: a started one
+-- a message in a stage of the task t with a used unit: a started one
 abbrev pub startedOf : Set → ℕ → Message → Bool
 startedOf x t m = ltb 0 (m .used) && eqb (taskOf x m) t
 
@@ -73,7 +78,7 @@ unfoldable pub startedOnce : Set → List Message → ℕ → Bool
 startedOnce x l t = leb (count (startedOf x t) l) 1
 
 unfoldable pub messageUnused : Message → Bool
-messageUnused m = every (eqb (m .stream) 0 ∷ eqb (m .deadline) 0 ∷ eqb (m .used) 0 ∷ [])
+messageUnused m = every (eqb (m .stream) 0 ∷ eqb (m .deadline) 0 ∷ eqb (m .used) 0 ∷ eqb (m .stage) 0 ∷ [])
 
 -- "up to 64 pending messages"
 abbrev pub mostPending : ℕ

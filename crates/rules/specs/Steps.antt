@@ -1,4 +1,4 @@
--- Document 01, "State and steps": start, post, choose and unit.
+-- Document 01, "State and steps": start, post, choose and unit; document 02, request 4: passing on.
 -- Assumes nothing.
 use Prim.Native.Nat.{ℕ, zero, suc, _+_, _-_}
 use mathlib.Core.Bool.{Bool, true, false, cond, not, _&&_, _||_}
@@ -20,13 +20,13 @@ use Rattle.rules.specs.declared.ChooseAnswer.{ChooseAnswer}
 use Rattle.rules.specs.declared.ChooseAnswer.the-variants.{Nothing, Runs, Refused as ChooseRefused}
 use Rattle.rules.specs.declared.UnitResult.{UnitResult}
 use Rattle.rules.specs.declared.UnitAnswer.{UnitAnswer}
-use Rattle.rules.specs.declared.UnitAnswer.the-variants.{Ran, Finished, Cut, Idle, Refused as UnitRefused}
+use Rattle.rules.specs.declared.UnitAnswer.the-variants.{Ran, Passed, Finished, Cut, Idle, Refused as UnitRefused}
 use Rattle.rules.specs.declared.Call.{Call}
 use Rattle.rules.specs.declared.Call.the-variants.{Posts, Units}
 use Rattle.rules.specs.declared.CallAnswer.the-variants.{ToPost, ToUnit}
 use Rattle.rules.specs.declared.CallResult.{CallResult}
 use Rattle.rules.specs.Streams.{emptySet, streamAt, valid}
-use Rattle.rules.specs.States.{noMessage, pending, withClock, withMessages, withUsed, taskOf, costOf, startedOf, mostPending, lastClock, wellFormed}
+use Rattle.rules.specs.States.{noMessage, pending, withClock, withMessages, withUsed, stagesIn, taskOf, costOf, startedOf, mostPending, lastClock, wellFormed}
 
 -- ---- Start
 
@@ -43,9 +43,9 @@ startOf x =
 
 -- ---- Post
 
--- "A message with deadline clock + d and 0 used"
+-- "A message with deadline clock + d and 0 used", in its first stage
 abbrev pub newMessage : State → ℕ → Message
-newMessage s k = record { stream = k; deadline = s .clock + streamAt (s .set) k .deadline; used = 0 }
+newMessage s k = record { stream = k; deadline = s .clock + streamAt (s .set) k .deadline; used = 0; stage = 0 }
 
 -- ".. goes last"
 abbrev pub added : State → Message → State
@@ -136,8 +136,13 @@ ticked s = withClock s (s .clock + 1)
 abbrev pub gained : Message → Message
 gained m = withUsed m (m .used + 1)
 
-abbrev pub stayed : State → ℕ → State
-stayed s i = withMessages (ticked s) (s .count) (set (s .messages) i (gained (messageAt s i)))
+-- the message at i stays in its place, as m
+abbrev pub stayed : State → ℕ → Message → State
+stayed s i m = withMessages (ticked s) (s .count) (set (s .messages) i m)
+
+-- "A message that finishes a stage stays in its place and order with its first deadline and waits, with no unit used, for the next stage's task"
+abbrev pub passedOn : Message → Message
+passedOn m = record { stream = m .stream; deadline = m .deadline; used = 0; stage = m .stage + 1 }
 
 -- "it leaves .. The order of the rest is kept."
 abbrev pub departed : State → ℕ → State
@@ -150,15 +155,25 @@ laxityOf deadline clock = pos deadline -ℤ pos clock
 abbrev pub answered : State → UnitAnswer → UnitResult
 answered s a = record { answer = a; state = s }
 
+-- is a message in its last stage?
+abbrev pub atLast : Set → Message → Bool
+atLast x m = eqb (m .stage + 1) (stagesIn x m)
+
 -- "If done, it leaves as finished. If not done and its used units now equal c, it leaves as cut. Otherwise it stays as ran.
--- .. Each answer names task and stream; a leaving one also has the laxity"
+-- .. Each answer names task and stream; a leaving one also has the laxity"; "Finished means the last; an earlier one answers passed.
+-- A cut at any stage leaves at once."
 unfoldable pub servedOf : State → ℕ → Bool → UnitResult
 servedOf s i done =
+    let m = messageAt s i in
+    let task = taskOf (s .set) m in
+    let laxity = laxityOf (m .deadline) (s .clock + 1) in
     cond done
-    (answered (departed s i) (Finished (taskOf (s .set) (messageAt s i)) (messageAt s i .stream) (laxityOf (messageAt s i .deadline) (s .clock + 1))))
-    (cond (eqb (messageAt s i .used + 1) (costOf (s .set) (messageAt s i)))
-    (answered (departed s i) (Cut (taskOf (s .set) (messageAt s i)) (messageAt s i .stream) (laxityOf (messageAt s i .deadline) (s .clock + 1))))
-    (answered (stayed s i) (Ran (taskOf (s .set) (messageAt s i)) (messageAt s i .stream))))
+    (cond (atLast (s .set) m)
+    (answered (departed s i) (Finished task (m .stream) laxity))
+    (answered (stayed s i (passedOn m)) (Passed task (m .stream))))
+    (cond (eqb (m .used + 1) (costOf (s .set) m))
+    (answered (departed s i) (Cut task (m .stream) laxity))
+    (answered (stayed s i (gained m)) (Ran task (m .stream))))
 
 -- "With nothing pending and not done, the answer is idle and only the clock moves."
 unfoldable pub emptyUnit : State → Bool → UnitResult

@@ -1,4 +1,4 @@
--- Document 01, "Streams and sets".
+-- Document 01, "Streams and sets"; document 02, request 4: stages and versions.
 -- Assumes nothing.
 use Prim.Native.Nat.{ℕ, _+_, _-_, _*_, _/_}
 use mathlib.Core.Bool.{Bool, true, false, cond, _&&_, _||_}
@@ -10,6 +10,7 @@ use Rattle.laws.specs.Lists.{every, within, all, sum, All, scan}
 use Rattle.rules.specs.declared.Tuple.{Tuple}
 use Rattle.rules.specs.declared.Tuple.the-variants.{Once, Every}
 use Rattle.rules.specs.declared.TuplePlace.{TuplePlace}
+use Rattle.rules.specs.declared.Stage.{Stage}
 use Rattle.rules.specs.declared.Stream.{Stream}
 use Rattle.rules.specs.declared.Set.{Set}
 use Rattle.rules.specs.declared.Refusal.the-variants.{OutOfRule}
@@ -22,13 +23,23 @@ use Rattle.rules.specs.declared.JitterAnswer.the-variants.{Tuples, Refus
 abbrev pub noTuple : TuplePlace
 noTuple = record { tuple = Once 0 }
 
+abbrev pub noStage : Stage
+noStage = record { task = 0; cost = 0 }
+
 abbrev pub noStream : Stream
-noStream = record { task = 0; cost = 0; deadline = 0; count = 0; tuples = replicate 4 noTuple }
+noStream = record { depth = 0; stages = replicate 4 noStage; deadline = 0; count = 0; tuples = replicate 4 noTuple }
+
+-- the set of a version with no stream; "a refusal's empty set is version 1"
+abbrev pub noStreams : ℕ → Set
+noStreams version = record { count = 0; streams = replicate 16 noStream; version = version }
 
 abbrev pub emptySet : Set
-emptySet = record { count = 0; streams = replicate 16 noStream }
+emptySet = noStreams 1
 
--- the tuples of a stream, the streams of a set: the places in use
+-- the stages and the tuples of a stream, the streams of a set: the places in use
+abbrev pub stagesOf : Stream → List Stage
+stagesOf s = take (s .depth) (s .stages)
+
 abbrev pub tuplesOf : Stream → List TuplePlace
 tuplesOf s = take (s .count) (s .tuples)
 
@@ -39,17 +50,9 @@ streamsOf x = take (x .count) (x .streams)
 abbrev pub streamAt : Set → ℕ → Stream
 streamAt x k = getD (x .streams) k noStream
 
--- a stage of a stream: a task and a cost c
-pub record Stage : Type 0 where
-  pub task : ℕ
-  pub cost : ℕ
-
-abbrev pub noStage : Stage
-noStage = record { task = 0; cost = 0 }
-
--- "A stream has a task .., a cost c": one stage
-abbrev pub stagesOf : Stream → List Stage
-stagesOf s = record { task = s .task; cost = s .cost } ∷ []
+-- the stage of a number, from 0
+abbrev pub stageAt : Stream → ℕ → Stage
+stageAt s j = getD (s .stages) j noStage
 
 abbrev pub offset : Tuple → ℕ
 offset (Once a) = a
@@ -78,11 +81,19 @@ isOnceAtZero (Every z a) = false
 unfoldable pub tupleUnused : TuplePlace → Bool
 tupleUnused p = isOnceAtZero (p .tuple)
 
--- "A stream has a task (0 to 15), a cost c (1 to 65,535), a relative deadline d (1 to 200,000) and 1 to 4 tuples."
+-- "a task (0 to 15), a cost c (1 to 65,535)"
+unfoldable pub stageOk : Stage → Bool
+stageOk g = every (leb (g .task) 15 ∷ within 1 (g .cost) 65535 ∷ [])
+
+unfoldable pub stageUnused : Stage → Bool
+stageUnused g = every (eqb (g .task) 0 ∷ eqb (g .cost) 0 ∷ [])
+
+-- "A stream gets 1 to 4 stages, each a task and a cost." "A stream has .. a relative deadline d (1 to 200,000) and 1 to 4 tuples."
 abbrev pub streamTests : Stream → List Bool
 streamTests s =
-    leb (s .task) 15
-    ∷ within 1 (s .cost) 65535
+    within 1 (s .depth) 4
+    ∷ all stageOk (stagesOf s)
+    ∷ all stageUnused (drop (s .depth) (s .stages))
     ∷ within 1 (s .deadline) 200000
     ∷ within 1 (s .count) 4
     ∷ eqb (offsetAt (getD (s .tuples) 0 noTuple)) 0
@@ -95,22 +106,32 @@ streamOk s = every (streamTests s)
 
 unfoldable pub streamUnused : Stream → Bool
 streamUnused s =
-    every (eqb (s .task) 0 ∷ eqb (s .cost) 0 ∷ eqb (s .deadline) 0 ∷ eqb (s .count) 0 ∷ all tupleUnused (s .tuples) ∷ [])
+    every
+    (eqb (s .depth) 0 ∷ all stageUnused (s .stages) ∷ eqb (s .deadline) 0 ∷ eqb (s .count) 0 ∷ all tupleUnused (s .tuples) ∷ [])
+
+abbrev pub oneStage : Stream → Bool
+oneStage s = eqb (s .depth) 1
+
+-- "A set records its version; a version 1 set has one stage everywhere"; there are sheets of version 1 and of version 2
+unfoldable pub versionOk : Set → Bool
+versionOk x = cond (eqb (x .version) 1) (all oneStage (streamsOf x)) (eqb (x .version) 2)
 
 -- "A set has 0 to 16 streams. .. Unused places are zero. .. Any other set is invalid."
 abbrev pub setTests : Set → List Bool
-setTests x = leb (x .count) 16 ∷ all streamOk (streamsOf x) ∷ all streamUnused (drop (x .count) (x .streams)) ∷ []
+setTests x =
+    leb (x .count) 16 ∷ all streamOk (streamsOf x) ∷ all streamUnused (drop (x .count) (x .streams)) ∷ versionOk x ∷ []
 
 unfoldable pub valid : Set → Bool
 valid x = every (setTests x)
 
--- What the types say of the arrays: 16 places for streams, each with 4 for tuples. Every set that a program holds is so.
-abbrev pub FourTuples : Stream → Type 0
-FourTuples s = length (s .tuples) ≡ 4
+-- What the types say of the arrays: 16 places for streams, each with 4 for stages and 4 for tuples. Every set that a program holds is so.
+pub record FourPlaces (s : Stream) : Type 0 where
+  pub stages : length (s .stages) ≡ 4
+  pub tuples : length (s .tuples) ≡ 4
 
 pub record Placed (x : Set) : Type 0 where
   pub sixteen : length (x .streams) ≡ 16
-  pub four : All FourTuples (x .streams)
+  pub four : All FourPlaces (x .streams)
 
 -- "the sum over tuples with offset a not above I of 1 (once) or floor((I - a) / z) + 1 (every)": what one tuple adds
 abbrev pub eventsOf : Tuple → ℕ → ℕ

@@ -1,4 +1,4 @@
-// The things that document 01 names, as the machine holds them. What they mean stands in specs/.
+// The things that documents 01 and 02 name, as the machine holds them. What they mean stands in specs/.
 
 // A tuple is either once at an offset, or every cycle z from an offset.
 // `Once` comes first: the zero of a place is then once at 0, document 01's unused tuple.
@@ -14,26 +14,34 @@ pub struct TuplePlace {
     pub tuple: Tuple,
 }
 
-// A stream: its task, cost c, relative deadline d, how many tuples it has, and 4 places for them.
-pub struct Stream {
+// A stage of a stream: a task and a cost c.
+pub struct Stage {
     pub task: usize,
     pub cost: u32,
+}
+
+// A stream: its depth, how many stages it has, and 4 places for them; its relative deadline d; how many tuples it has, and 4 places for them.
+pub struct Stream {
+    pub depth: usize,
+    pub stages: [Stage; 4],
     pub deadline: u32,
     pub count: usize,
     pub tuples: [TuplePlace; 4],
 }
 
-// A set: how many streams it has, and 16 places for them.
+// A set: how many streams it has, and 16 places for them; the version of its sheet.
 pub struct Set {
     pub count: usize,
     pub streams: [Stream; 16],
+    pub version: u32,
 }
 
-// A message: its stream, its absolute deadline and the units it has used.
+// A message: its stream, its absolute deadline, the units it has used in its stage, and its stage, from 0.
 pub struct Message {
     pub stream: usize,
     pub deadline: u32,
     pub used: u32,
+    pub stage: usize,
 }
 
 // The state: a set, the clock, how many messages are pending, and 64 places for them in posting order.
@@ -47,8 +55,8 @@ pub struct State {
 // "the clock is at most 4,000,000,000"
 pub const LAST_CLOCK: u32 = 4000000000;
 
-// "A full sheet is 378 bytes."
-pub const LONGEST_SHEET: usize = 378;
+// "A full sheet is 378 bytes" in version 1; in version 2 it has 502.
+pub const LONGEST_SHEET: usize = 502;
 
 // Why a call is refused. specs/Numbers.antt gives the number that the cab prints for each.
 pub enum Refusal {
@@ -99,6 +107,8 @@ pub enum ChooseAnswer {
 pub enum UnitAnswer {
     // task, stream
     Ran(usize, usize),
+    // task, stream
+    Passed(usize, usize),
     // task, stream, laxity
     Finished(usize, usize, i64),
     // task, stream, laxity

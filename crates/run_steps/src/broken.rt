@@ -53,10 +53,44 @@ fn together() {
     twelve(yard::with_message(sound(), 2, 0, 0, 1));
 }
 
+// Stream 0 in its second stage with two of its three units used, stream 1 not started, at clock 3.
+fn passed() -> State {
+    let s = yard::begin(yard::set_of_stages());
+    let s = yard::in_stage(yard::with_message(s, 0, 0, 9, 2), 0, 1);
+    let mut s = yard::with_message(s, 1, 1, 20, 0);
+    s.count = 2;
+    s.clock = 3;
+    s
+}
+
+// The set's version and the stages of the messages.
+fn stages() {
+    crate::say::words(b"version 3, two stages in version 1\n");
+    let mut s = passed();
+    let mut x = s.set;
+    x.version = 3;
+    s.set = x;
+    twelve(s);
+    let mut s = passed();
+    let mut x = s.set;
+    x.version = 1;
+    s.set = x;
+    twelve(s);
+    crate::say::words(
+        b"no such stage, used up in its stage, two started on one task, a stage in an unused place\n",
+    );
+    twelve(yard::in_stage(passed(), 0, 2));
+    twelve(yard::in_stage(passed(), 0, 0));
+    twelve(yard::with_message(passed(), 1, 1, 20, 1));
+    twelve(yard::in_stage(passed(), 2, 1));
+}
+
 pub fn each() {
     crate::say::words(b"well formed\n");
     crate::say::choose(scheduler::choose(sound()));
+    crate::say::choose(scheduler::choose(passed()));
     counts();
     messages();
     together();
+    stages();
 }

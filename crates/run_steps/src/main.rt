@@ -1,7 +1,8 @@
-// Runs the steps at their edges and prints what they answer: the places, states that are not well formed, and ways a cab has gone wrong.
+// Runs the steps at their edges and prints what they answer: the places, states that are not well formed, ways a cab has gone wrong, and stages.
 mod broken;
 mod places;
 mod say;
+mod stages;
 mod wrongs;
 mod yard;
 
@@ -11,4 +12,5 @@ fn main() {
     places::last_clock();
     broken::each();
     wrongs::each();
+    stages::each();
 }

@@ -63,6 +63,11 @@ pub fn unit(a: UnitAnswer) {
             value(t as u64);
             value(k as u64);
         }
+        UnitAnswer::Passed(t, k) => {
+            words(b"passed");
+            value(t as u64);
+            value(k as u64);
+        }
         UnitAnswer::Finished(t, k, l) => {
             words(b"done");
             left(t, k, l);

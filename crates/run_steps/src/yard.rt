@@ -1,6 +1,7 @@
 // Sets and states to run on.
 use rules::Message;
 use rules::Set;
+use rules::Stage;
 use rules::State;
 use rules::Stream;
 use rules::Tuple;
@@ -11,11 +12,19 @@ pub fn stream(task: usize, cost: u32, deadline: u32) -> Stream {
     let mut none = stream_valid::stream_at(stream_valid::empty_set(), 0);
     let t = Tuple::Every(20, 0);
     none.tuples[0] = TuplePlace { tuple: t };
-    none.task = task;
-    none.cost = cost;
+    none.stages[0] = Stage { task, cost };
+    none.depth = 1;
     none.deadline = deadline;
     none.count = 1;
     none
+}
+
+// The stream with a further stage, of which it has one.
+pub fn then(s: Stream, task: usize, cost: u32) -> Stream {
+    let mut next = s;
+    next.stages[1] = Stage { task, cost };
+    next.depth = 2;
+    next
 }
 
 pub fn one(a: Stream) -> Set {
@@ -32,6 +41,16 @@ pub fn set_b() -> Set {
     x.streams[1] = stream(0, 4, 20);
     x.streams[2] = stream(1, 2, 8);
     x.count = 3;
+    x
+}
+
+// Version 2: a stream on task 1 and then on task 0, and one on task 0.
+pub fn set_of_stages() -> Set {
+    let mut x = stream_valid::empty_set();
+    x.streams[0] = then(stream(1, 2, 9), 0, 3);
+    x.streams[1] = stream(0, 4, 20);
+    x.count = 2;
+    x.version = 2;
     x
 }
 
@@ -63,7 +82,18 @@ pub fn with_message(s: State, at: usize, stream: usize, deadline: u32, used: u32
             stream: stream,
             deadline: deadline,
             used: used,
+            stage: 0,
         };
+    }
+    next
+}
+
+pub fn in_stage(s: State, at: usize, stage: usize) -> State {
+    let mut next = s;
+    if at < 64 {
+        let mut m = next.messages[at];
+        m.stage = stage;
+        next.messages[at] = m;
     }
     next
 }

@@ -1,25 +1,21 @@
--- The ways out of post and choose, as the code goes.
+-- The ways out of post, as the code goes.
 -- Assumes nothing.
 use Prim.Native.Nat.{ℕ, _+_, _≤_, _<_}
 use mathlib.Core.Bool.{true, false}
 use mathlib.Core.Path.{_≡_}
 use native.Mathlib.Omega.{arith}
-use borrow.Author.Tests.{lt-ltb, le-ltb, eq-eqb, ne-eqb}
+use borrow.Author.Tests.{lt-ltb, le-ltb}
 use lib.ListN.{length, getD}
 use Rattle.laws.proofs.Parts.{getD-any}
 use Rattle.rules.specs.declared.State.{State}
 use Rattle.rules.specs.declared.Refusal.the-variants.{NoStream, Full, IllFormed}
 use Rattle.rules.specs.declared.PostResult.{PostResult}
 use Rattle.rules.specs.declared.PostAnswer.the-variants.{Posted}
-use Rattle.rules.specs.declared.ChooseAnswer.the-variants.{Nothing, Runs, Refused as ChooseRefused}
 use Rattle.rules.specs.Streams.{streamAt, noStream}
 use Rattle.rules.specs.States.{wellFormed}
-use Rattle.rules.specs.Steps.{added, postRefused, postOf, messageAt, chooseOf}
+use Rattle.rules.specs.Steps.{added, postRefused, postOf}
 use Rattle.rules.proofs.Valid.{valid-set}
 use Rattle.state_formed.proofs.WellFormed.{blank, well-formed, stream-valid}
-use Rattle.state_choosing.proofs.Looking.{Serves, Rests}
-
--- ---- post
 
 module _ (s : State) (k : ℕ) where
   pub post-12 : wellFormed s ≡ false → postRefused s IllFormed ≡ postOf s k
@@ -47,21 +43,6 @@ module _ (s : State) (k : ℕ) where
         post-fits = rw read (omega (arith, well-formed s w .clock, stream-valid (s .set) k (well-formed s w .set) ss h .deadline .high))
 
         pub posted : s .count < 64
-            → _≡_ {A = PostResult} (record { answer = Posted k (s .clock + getD (s .set .streams) k blank .deadline); state = added s (record { stream = k; deadline = s .clock + getD (s .set .streams) k blank .deadline; used = 0 }) }) (postOf s k)
+            → _≡_ {A = PostResult} (record { answer = Posted k (s .clock + getD (s .set .streams) k blank .deadline); state = added s (record { stream = k; deadline = s .clock + getD (s .set .streams) k blank .deadline; used = 0; stage = 0 }) }) (postOf s k)
         unfolding postOf
         posted g = rw (read, w, lt-ltb _ _ h, lt-ltb _ _ g)
-
--- ---- choose
-
-module _ (s : State) where
-  pub choose-12 : wellFormed s ≡ false → ChooseRefused IllFormed ≡ chooseOf s
-  unfolding chooseOf
-  choose-12 e = rw e
-
-  pub choose-none : Rests s → Nothing ≡ chooseOf s
-  unfolding chooseOf
-  choose-none h = rw (h .formed, eq-eqb _ _ (h .none))
-
-  pub choose-one : (i t c : ℕ) → Serves s i t c → Runs t (messageAt s i .stream) ≡ chooseOf s
-  unfolding chooseOf
-  choose-one i t c h = rw (h .task, h .chosen .formed, ne-eqb _ _ (h .chosen .some), h .chosen .place)

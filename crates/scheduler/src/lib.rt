@@ -1,8 +1,8 @@
 // The steps of the scheduler: start, post, choose and unit.
 ghost use mathlib.Core.Path.{_≡_};
 ghost use Prim.Native.Nat.{_<_};
-ghost use Rattle.rules.specs.Steps.{fresh, startOf, postOf, messageAt, chooseOf, laxityOf, unitOf, callOf};
-ghost use Rattle.scheduler.specs.Serving.{workOf, servedAnswer};
+ghost use Rattle.rules.specs.Steps.{fresh, startOf, postOf, chooseOf, laxityOf, unitOf, callOf};
+ghost use Rattle.scheduler.specs.Serving.{workOf, servedAnswer, steppedOn};
 use rules::Call;
 use rules::CallAnswer;
 use rules::CallResult;
@@ -75,6 +75,7 @@ pub fn post(s: State, k: usize) -> PostResult
                     stream: k,
                     deadline: d,
                     used: 0,
+                    stage: 0,
                 };
                 next.count = at + 1;
                 a = PostAnswer::Posted(k, d);
@@ -89,35 +90,20 @@ pub fn post(s: State, k: usize) -> PostResult
 
 // ---- choose
 
-// The stream of the message at i. In a function of its own, so that the copy which an index reads takes no stack while looking.
-fn stream_of(s: State, i: usize) -> usize
-    requires { ⌜ i < 64 ⌝ }
-    ensures { λ r. ⌜ r ≡ messageAt s i .stream ⌝ }
-{
-    let messages = s.messages;
-    let m = messages[i];
-    m.stream
-}
-
 // The task that runs and the stream of the message that it serves, none, or 12.
 pub fn choose(s: State) -> ChooseAnswer
     ensures { λ r. ⌜ r ≡ chooseOf s ⌝ }
 {
-    let found = state_choosing::look(s);
-    match found {
-        ToServe::IllFormed => ChooseAnswer::Refused(Refusal::IllFormed),
-        ToServe::Nothing => ChooseAnswer::Nothing,
-        ToServe::At(i, task, _) => ChooseAnswer::Runs(task, stream_of(s, i)),
-    }
+    state_choosing::choose(s)
 }
 
 // ---- unit
 
-// What a unit is to do: it is refused, only the clock moves, or the message at a place is served, of a task and with a cost c.
+// What a unit is to do: it is refused, only the clock moves, or the message at a place is served, in a stage of a task and a cost c, its last or not.
 enum Work {
     Refused(Refusal),
     Idle,
-    Serve(usize, usize, u32),
+    Serve(usize, usize, u32, bool),
 }
 
 // In the order 12, 3, 4.
@@ -135,9 +121,9 @@ fn decide(found: ToServe, clock: u32, done: bool) -> Work
             }
             Work::Idle
         }
-        ToServe::At(i, task, cost) => {
+        ToServe::At(i, task, cost, last) => {
             if clock < rules::LAST_CLOCK {
-                return Work::Serve(i, task, cost);
+                return Work::Serve(i, task, cost, last);
             }
             Work::Refused(Refusal::LastClock)
         }
@@ -152,18 +138,37 @@ fn laxity(deadline: u32, clock: u32) -> i64
     d - c
 }
 
-// What is answered when the message m of the task was served: now is the clock after the unit, spent whether its used units equal c.
-fn served(task: usize, m: Message, now: u32, done: bool, spent: bool) -> UnitAnswer
-    ensures { λ r. ⌜ r ≡ servedAnswer task m now done spent ⌝ }
+// What is answered when the message m of the task was served: now is the clock after the unit, spent whether its used units equal c, last whether its stage
+// is its last.
+fn served(task: usize, m: Message, now: u32, done: bool, spent: bool, last: bool) -> UnitAnswer
+    ensures { λ r. ⌜ r ≡ servedAnswer task m now done spent last ⌝ }
 {
     let left = laxity(m.deadline, now);
     if done {
-        return UnitAnswer::Finished(task, m.stream, left);
+        if last {
+            return UnitAnswer::Finished(task, m.stream, left);
+        }
+        return UnitAnswer::Passed(task, m.stream);
     }
     if spent {
         return UnitAnswer::Cut(task, m.stream, left);
     }
     UnitAnswer::Ran(task, m.stream)
+}
+
+// A message that stays, after its unit: passed on to its next stage with no unit used, or with a unit more.
+fn stepped(m: Message, done: bool) -> Message
+    requires { ⌜ (m .used < 65535) × (m .stage < 4) ⌝ }
+    ensures { λ r. ⌜ r ≡ steppedOn m done ⌝ }
+{
+    let mut on = m;
+    if done {
+        on.used = 0;
+        on.stage = m.stage + 1;
+    } else {
+        on.used = m.used + 1;
+    }
+    on
 }
 
 // A unit of running. Where the message leaves, those behind it move up, in their order, and the place of the last is zero.
@@ -181,12 +186,12 @@ pub fn unit(s: State, done: bool) -> UnitResult
         Work::Idle => {
             next.clock = next.clock + 1;
         }
-        Work::Serve(i, task, cost) => {
-            let mut m = next.messages[i];
+        Work::Serve(i, task, cost, last) => {
+            let m = next.messages[i];
             let spent = m.used + 1 == cost;
             next.clock = next.clock + 1;
-            a = served(task, m, next.clock, done, spent);
-            if done | spent {
+            a = served(task, m, next.clock, done, spent, last);
+            if (done & last) | (!done & spent) {
                 let end = next.count - 1;
                 let mut k = i;
                 while k < end {
@@ -194,11 +199,12 @@ pub fn unit(s: State, done: bool) -> UnitResult
                     next.messages[k] = behind;
                     k = k + 1;
                 }
-                next.messages[end] = state_formed::no_message();
+                let zero = state_formed::no_message();
+                next.messages[end] = zero;
                 next.count = end;
             } else {
-                m.used = m.used + 1;
-                next.messages[i] = m;
+                let on = stepped(m, done);
+                next.messages[i] = on;
             }
         }
     }

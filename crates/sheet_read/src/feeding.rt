@@ -1,21 +1,22 @@
 // Bits come, field after field.
 ghost use mathlib.Core.Path.{_≡_};
-ghost use Prim.Native.Nat.{_<_, _≤_};
+ghost use Prim.Native.Nat.{_+_, _<_, _≤_};
 ghost use Rattle.laws.specs.Bits.{bits};
 ghost use Rattle.rules.specs.Streams.{emptySet, noStream};
 ghost use Rattle.rules.specs.Sheet.{tupleOf};
-ghost use Rattle.sheet_read.specs.Reader.{frontOf, joinedOf, noTuples, refusedOf, run, startOf, streamIn};
+ghost use Rattle.sheet_read.specs.Reader.{frontOf, joinedOf, noStages, noTuples, refusedOf, run, stageIn, startOf, streamIn};
 ghost use Rattle.sheet_read.specs.Kept.{Holds, Kept};
 use crate::Carried;
 use crate::Point;
 use crate::table;
 use bits::Gathered;
 use rules::Set;
+use rules::Stage;
 use rules::Stream;
 use rules::Tuple;
 use rules::TuplePlace;
 
-// ---- tuples and streams
+// ---- stages, tuples and streams
 
 fn tuple_of(cycle: u32, offset: u32) -> TuplePlace
     ensures { λ r. ⌜ r ≡ tupleOf cycle offset ⌝ }
@@ -45,19 +46,53 @@ fn wide(v: u32) -> usize
     v as usize
 }
 
-fn stream_in(values: [u32; 8], n: usize, tuples: [TuplePlace; 4]) -> Stream
-    ensures { λ r. ⌜ r ≡ streamIn values n tuples ⌝ }
+fn stage_in(task: u32, cost: u32) -> Stage
+    ensures { λ r. ⌜ r ≡ stageIn task cost ⌝ }
+{
+    Stage {
+        task: wide(task),
+        cost,
+    }
+}
+
+fn no_stages() -> [Stage; 4]
+    ensures { λ r. ⌜ r ≡ noStages ⌝ }
+{
+    [Stage { task: 0, cost: 0 }; 4]
+}
+
+// "stages less one": how many there are.
+fn depth(less: u32) -> usize
+    ensures { λ r. ⌜ r ≡ less + 1 ⌝ }
+{
+    less as usize + 1
+}
+
+fn stream_in(values: [u32; 9], stages: [Stage; 4], n: usize, tuples: [TuplePlace; 4]) -> Stream
+    ensures { λ r. ⌜ r ≡ streamIn values stages n tuples ⌝ }
 {
     Stream {
-        task: wide(values[table::TASK]),
-        cost: values[table::COST],
+        depth: depth(values[table::STAGES]),
+        stages,
         deadline: values[table::DEADLINE],
         count: n,
         tuples,
     }
 }
 
-// The streams in use are taken out of a set.
+fn no_stream() -> Stream
+    ensures { λ r. ⌜ r ≡ noStream ⌝ }
+{
+    Stream {
+        depth: 0,
+        stages: no_stages(),
+        deadline: 0,
+        count: 0,
+        tuples: no_tuples(),
+    }
+}
+
+// The streams in use are taken out of a set, and it is of version 1.
 pub(crate) fn cleared(x: Set) -> Set
     requires { ⌜ (x .count ≤ 16) × Holds 16 noStream (x .count) (x .streams) ⌝ }
     ensures { λ r. ⌜ r ≡ emptySet ⌝ }
@@ -66,27 +101,19 @@ pub(crate) fn cleared(x: Set) -> Set
     let n = x.count;
     let mut k: usize = 0;
     while k < n {
-        set.streams[k] = stream_in([0; 8], 0, no_tuples());
+        set.streams[k] = no_stream();
         k += 1;
     }
     set.count = 0;
+    set.version = 1;
     set
 }
 
-// A stream is whole: of the values that were read the version and the count stay.
-fn front(values: [u32; 8]) -> [u32; 8]
+// A stream is whole: of the values that were read the count stays.
+fn front(values: [u32; 9]) -> [u32; 9]
     ensures { λ r. ⌜ r ≡ frontOf values ⌝ }
 {
-    [
-        values[table::VERSION],
-        values[table::COUNT],
-        0,
-        0,
-        0,
-        0,
-        0,
-        0,
-    ]
+    [0, values[table::COUNT], 0, 0, 0, 0, 0, 0, 0]
 }
 
 // ---- bits come
@@ -96,7 +123,8 @@ pub(crate) fn start() -> Carried
 {
     Carried {
         point: table::begun(table::VERSION, 0),
-        values: [0; 8],
+        values: [0; 9],
+        stages: no_stages(),
         places: no_tuples(),
         set: stream_valid::empty_set(),
     }
@@ -109,7 +137,8 @@ fn refused(f: usize, x: Set) -> Carried
 {
     Carried {
         point: table::begun(f, 0),
-        values: [0; 8],
+        values: [0; 9],
+        stages: no_stages(),
         places: no_tuples(),
         set: cleared(x),
     }
@@ -123,7 +152,7 @@ fn joined(p: Point, g: Gathered) -> Point
     let got = g.got;
     Point {
         row: p.row,
-        tuples: p.tuples,
+        whole: p.whole,
         acc: (p.acc << got) + g.value,
         left: p.left - got,
     }
@@ -136,6 +165,7 @@ pub(crate) fn feed(s: Carried, piece: &[u8]) -> Carried
 {
     let mut point = s.point;
     let mut values = s.values;
+    let mut stages = s.stages;
     let mut places = s.places;
     let mut set = s.set;
     let mut rule = table::rule(point, values);
@@ -152,7 +182,7 @@ pub(crate) fn feed(s: Carried, piece: &[u8]) -> Carried
         } else {
             point = joined(point, g);
             let f = point.row;
-            let n = point.tuples;
+            let n = point.whole;
             let v = point.acc as u32;
             if !table::in_rule(rule, v) {
                 return refused(table::refusal(f), set);
@@ -166,25 +196,43 @@ pub(crate) fn feed(s: Carried, piece: &[u8]) -> Carried
                     rule = table::rule(point, values);
                 } else {
                     let k = set.count;
-                    set.streams[k] = stream_in(values, n + 1, places);
+                    set.streams[k] = stream_in(values, stages, n + 1, places);
                     set.count = k + 1;
-                    point = table::begun(table::opened(k + 1, wide(values[table::COUNT])), 0);
+                    point = table::begun(
+                        table::opened(set.version, k + 1, wide(values[table::COUNT])),
+                        0,
+                    );
                     values = front(values);
+                    stages = no_stages();
                     places = no_tuples();
                     rule = table::rule(point, values);
                 }
             } else if f == table::CYCLE {
-                // as any row below, its numbers named: most fields are cycles and offsets
+                // as any row below, its numbers named: most fields are cycles and offsets, then tasks and costs
                 values[table::CYCLE] = v;
                 point = table::begun(table::OFFSET, n);
                 rule = table::rule(point, values);
-            } else if f == table::COUNT {
-                values[table::COUNT] = v;
-                point = table::begun(table::opened(0, wide(v)), n);
+            } else if f == table::TASK {
+                values[table::TASK] = v;
+                point = table::begun(table::COST, n);
+                rule = table::rule(point, values);
+            } else if f == table::COST {
+                stages[n] = stage_in(values[table::TASK], v);
+                values[table::TASK] = 0;
+                if n < wide(values[table::STAGES]) {
+                    point = table::begun(table::TASK, n + 1);
+                    rule = table::rule(point, values);
+                } else {
+                    point = table::begun(table::behind(set.version, table::COST), 0);
+                    rule = table::rule(point, values);
+                }
+            } else if f == table::VERSION {
+                set.version = v;
+                point = table::begun(table::COUNT, n);
                 rule = table::rule(point, values);
             } else if f < table::PADDING {
                 values[f] = v;
-                point = table::begun(f + 1, n);
+                point = table::begun(table::following(set.version, f, v), n);
                 rule = table::rule(point, values);
             } else {
                 point = table::begun(f + 1, n);
@@ -195,6 +243,7 @@ pub(crate) fn feed(s: Carried, piece: &[u8]) -> Carried
     Carried {
         point,
         values,
+        stages,
         places,
         set,
     }

@@ -1,4 +1,4 @@
-// A sheet is read.
+// A sheet is read, of either version.
 // The reader takes bits: it keeps the whole fields that it has read, and the bits that have come of the next one.
 mod closing; // closing.rt: what the sheet reads as when no bit comes any more
 mod feeding; // feeding.rt: bits come, field after field
@@ -6,6 +6,7 @@ mod table; // table.rt: the fields of a sheet as data
 
 use rules::ReadResult;
 use rules::Set;
+use rules::Stage;
 use rules::TuplePlace;
 ghost use mathlib.Core.Path.{_≡_};
 ghost use Rattle.rules.specs.Sheet.{readOf};
@@ -19,20 +20,23 @@ pub struct SheetField {
     pub greatest: u32,
 }
 
-// The field that comes, by its row in the table; behind how many whole tuples of the stream that is being read; the bits that have
-// come of it as a number, and how many have not.
+// The field that comes, by its row in the table; how many whole stages (before a task or a cost) or whole tuples (before a cycle or an
+// offset) of the stream that is being read stand before it, and 0 before any other field; the bits that have come of it as a number,
+// and how many have not.
 pub struct Point {
     pub row: usize,
-    pub tuples: usize,
+    pub whole: usize,
     pub acc: u64,
     pub left: u32,
 }
 
-// What is kept between two pieces: a point, the values that have been read, each in its field's place, the whole tuples of the stream
-// that is being read, and the streams that are whole. What has not been read is zero.
+// What is kept between two pieces: a point; the values that have been read, each in its field's place; the whole stages and the whole
+// tuples of the stream that is being read; the streams that are whole, in a set of the version that was read. The version stands in
+// the set alone and a cost in its stage alone. What has not been read is zero, and the version of a set 1.
 pub struct Carried {
     pub point: Point,
-    pub values: [u32; 8],
+    pub values: [u32; 9],
+    pub stages: [Stage; 4],
     pub places: [TuplePlace; 4],
     pub set: Set,
 }

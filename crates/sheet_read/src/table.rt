@@ -1,7 +1,8 @@
-// The fields of a sheet as data: a row for each, in document 01's order.
+// The fields of a sheet as data: a row for each, and for each version the order in which they come.
 ghost use mathlib.Core.Path.{_≡_};
+ghost use Prim.Native.Nat.{_<_};
 ghost use Rattle.laws.specs.Lists.{within};
-ghost use Rattle.sheet_read.specs.Table.{row, rowOf, greatestOf, refusalOf, openedOf};
+ghost use Rattle.sheet_read.specs.Table.{row, rowOf, greatestOf, refusalOf, behindOf, openedOf, followingOf};
 ghost use Rattle.sheet_read.specs.Reader.{pointAt, ruleOf};
 use crate::Point;
 use crate::SheetField;
@@ -11,21 +12,25 @@ pub(crate) const VERSION: usize = 0;
 
 pub(crate) const COUNT: usize = 1;
 
-pub(crate) const TASK: usize = 2;
+pub(crate) const DEADLINE: usize = 2;
 
-pub(crate) const COST: usize = 3;
+pub(crate) const STAGES: usize = 3;
 
-pub(crate) const DEADLINE: usize = 4;
+pub(crate) const TASK: usize = 4;
 
-pub(crate) const TUPLES: usize = 5;
+pub(crate) const COST: usize = 5;
 
-pub(crate) const CYCLE: usize = 6;
+pub(crate) const TUPLES: usize = 6;
 
-pub(crate) const OFFSET: usize = 7;
+pub(crate) const CYCLE: usize = 7;
+
+pub(crate) const OFFSET: usize = 8;
 // seven padding bits, and a bit of a further byte
-pub(crate) const PADDING: usize = 8;
+pub(crate) const PADDING: usize = 9;
 // refused with 6, 7 and 10
-pub(crate) const REFUSED: usize = 16;
+pub(crate) const REFUSED: usize = 17;
+
+// ---- rows
 
 fn field(width: u32, least: u32, greatest: u32) -> SheetField
     ensures { λ r. ⌜ r ≡ row width least greatest ⌝ }
@@ -43,13 +48,14 @@ fn row(f: usize) -> SheetField
 {
     if f < PADDING {
         return match f {
-            0 => field(4, 1, 1),
+            0 => field(4, 1, 2),
             1 => field(5, 0, 16),
-            2 => field(4, 0, 15),
-            3 => field(16, 1, 65535),
-            4 => field(18, 1, 200000),
-            5 => field(2, 0, 3),
-            6 => field(20, 0, 1000000),
+            2 => field(18, 1, 200000),
+            3 => field(2, 0, 3),
+            4 => field(4, 0, 15),
+            5 => field(16, 1, 65535),
+            6 => field(2, 0, 3),
+            7 => field(20, 0, 1000000),
             _ => field(17, 0, 100000),
         };
     }
@@ -65,19 +71,19 @@ fn row(f: usize) -> SheetField
 
 // "the first is 0 and they never fall": how large an offset behind `n` tuples may be.
 fn greatest_offset(n: usize) -> u32
-    ensures { λ r. ⌜ r ≡ greatestOf 7 n ⌝ }
+    ensures { λ r. ⌜ r ≡ greatestOf 8 n ⌝ }
 {
     if n == 0 { 0 } else { 100000 }
 }
 
 // The row of the field that comes, with an offset's own bounds: it is looked up once for a field.
-pub(crate) fn rule(p: Point, values: [u32; 8]) -> SheetField
+pub(crate) fn rule(p: Point, values: [u32; 9]) -> SheetField
     ensures { λ r. ⌜ r ≡ ruleOf p values ⌝ }
 {
     let r = row(p.row);
     if p.row == OFFSET {
         let low = values[OFFSET];
-        return field(r.width, low, greatest_offset(p.tuples));
+        return field(r.width, low, greatest_offset(p.whole));
     }
     r
 }
@@ -103,21 +109,54 @@ pub(crate) fn refusal(f: usize) -> usize
     }
 }
 
-// What comes behind `k` whole streams of `n`.
-pub(crate) fn opened(k: usize, n: usize) -> usize
-    ensures { λ r. ⌜ r ≡ openedOf k n ⌝ }
+// ---- what comes next
+
+// A version's order: what comes behind a field, where no further stage or tuple of its stream does. In version 2 it is the table's own.
+pub(crate) fn behind(version: u32, f: usize) -> usize
+    requires { ⌜ f < 9 ⌝ }
+    ensures { λ r. ⌜ r ≡ behindOf version f ⌝ }
 {
-    if k < n { TASK } else { PADDING }
+    if version == 1 {
+        return match f {
+            1 => TASK,
+            2 => TUPLES,
+            5 => DEADLINE,
+            _ => f + 1,
+        };
+    }
+    f + 1
 }
 
-// Before the field `f`, of which no bit has come, behind `n` tuples.
+// What comes behind `k` whole streams of `n`.
+pub(crate) fn opened(version: u32, k: usize, n: usize) -> usize
+    ensures { λ r. ⌜ r ≡ openedOf version k n ⌝ }
+{
+    if k < n {
+        behind(version, COUNT)
+    } else {
+        PADDING
+    }
+}
+
+// What comes behind a field with the value `v`.
+pub(crate) fn following(version: u32, f: usize, v: u32) -> usize
+    requires { ⌜ f < 9 ⌝ }
+    ensures { λ r. ⌜ r ≡ followingOf version f v ⌝ }
+{
+    if f == COUNT {
+        return opened(version, 0, v as usize);
+    }
+    behind(version, f)
+}
+
+// Before the field `f`, of which no bit has come, behind `n` stages or tuples.
 pub(crate) fn begun(f: usize, n: usize) -> Point
     ensures { λ r. ⌜ r ≡ pointAt f n ⌝ }
 {
     let r = row(f);
     Point {
         row: f,
-        tuples: n,
+        whole: n,
         acc: 0,
         left: r.width,
     }

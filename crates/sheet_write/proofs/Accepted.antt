@@ -1,32 +1,33 @@
 -- What reading says of the bits that it was given: what is accepted is valid and is the set's sheet, and what each refusal that is
 -- given after the last field, or at the version, stands for.
 -- Assumes nothing.
-use Prim.Native.Nat.{ℕ, zero, suc, _+_, _-_, _*_, _^_, _≤_, _<_}
+use Prim.Native.Nat.{ℕ, zero, suc, _-_, _≤_, _<_}
 use mathlib.Core.List.{List, [], _∷_, _++_, append-assoc, append-nil}
 use mathlib.Core.Path.{_≡_, refl, sym, ap, ap₂, _∙_, subst}
-use mathlib.Core.Bool.{Bool, true, false, cond, _&&_}
+use mathlib.Core.Bool.{Bool, true, false, _&&_, false≢true}
 use native.Mathlib.Omega.{arith}
 use lib.ListN.{length, take, drop, getD, replicate, length-append, length-replicate}
 use lib.Seq.{append-snoc, take-append-seam, drop-append-seam}
-use lib.Dec.{eqb, leb, ltb}
-use borrow.Author.Tests.{eq-eqb, eqb-false, eqb-true, le-leb, leb-true, ltb-true}
+use lib.Dec.{eqb, leb}
+use borrow.Author.Tests.{eq-eqb, eqb-false, eqb-true, le-leb, leb-true}
 use Rattle.laws.specs.Lists.{All, all, every, flat, scan, within}
-use Rattle.laws.specs.Bits.{bits, toBits, value, zeros}
-use Rattle.laws.proofs.Sums.{Holds as Passes, and-parts}
+use Rattle.laws.specs.Bits.{toBits, value}
+use Rattle.laws.proofs.Sums.{Holds as Passes, all-map, and-parts}
 use Rattle.laws.proofs.Fields.{AreBits, IsBit, all-append, all-drop, all-replicate, taken-lt, taken-split}
 use Rattle.rules.specs.declared.Tuple.{Tuple}
 use Rattle.rules.specs.declared.Tuple.the-variants.{Once, Every}
 use Rattle.rules.specs.declared.TuplePlace.{TuplePlace}
+use Rattle.rules.specs.declared.Stage.{Stage}
 use Rattle.rules.specs.declared.Stream.{Stream}
 use Rattle.rules.specs.declared.Set.{Set}
-use Rattle.rules.specs.declared.Refusal.{Refusal}
 use Rattle.rules.specs.declared.Refusal.the-variants.{BitsMissing, OutOfRule}
 use Rattle.rules.specs.declared.ReadResult.{ReadResult}
-use Rattle.rules.specs.Streams.{FourTuples, Placed, cycleOk, noStream, noTuple, offset, offsetAt, streamOk, streamTests, streamUnused, streamsOf, tupleOk, tupleUnused, tuplesOk, valid}
-use Rattle.rules.specs.Sheet.{field, inRule, isZero, noSet, placeBits, readBits, readEnd, readStream, readStreams, readTuples, setOf, sheetBits, streamBits, streamOf, tupleBits, tupleOf}
-use Rattle.rules.specs.Valid.{ValidCycle, ValidPlace}
+use Rattle.rules.specs.Streams.{FourPlaces, Placed, cycleOk, noStage, noStream, noTuple, offset, offsetAt, oneStage, setTests, stageOk, stageUnused, streamOk, streamTests, streamUnused, streamsOf, tupleOk, tupleUnused, tuplesOk, valid, versionOk}
+use Rattle.rules.specs.Sheet.{field, headBits, inRule, noSet, placeBits, readDeadline, readEnd, readHead, readStages, readStream, readStreams, readTuples, setOf, stageBits, streamBits, streamOf, tupleBits, tupleOf}
+use Rattle.rules.specs.Valid.{Between, ValidCycle, ValidStage}
 use Rattle.sheet_read.proofs.Filled.{cond-elim}
-use Rattle.sheet_write.proofs.Back.{Chain, costNext, countNext, cycleNext, deadlineNext, offsetNext, taskNext, tuplesNext, versionNext}
+use Rattle.sheet_write.proofs.Whole.{Staged}
+use Rattle.sheet_write.proofs.Back.{Chain, costNext, countNext, cycleNext, deadlineNext, headBy, headNext, offsetNext, readHeadBy, taskNext, tuplesNext}
 
 -- ---- tests that pass, put together
 
@@ -57,9 +58,12 @@ cycle-of : (z a : ℕ) → z ≤ 1000000 → ValidCycle (tupleOf z a .tuple)
 cycle-of z a h =
     cond-elim ValidCycle (eqb z 0) (Once a) (Every z a) (λ e. tt) (λ e. record { low = omega (arith, eqb-false z 0 e); high = h })
 
+within-both : (a x b : ℕ) → Between a x b → within a x b ≡ true
+within-both a x b h = both (leb a x) (leb x b) (le-leb a x (h .low)) (le-leb x b (h .high))
+
 cycle-ok : (t : Tuple) → ValidCycle t → cycleOk t ≡ true
 cycle-ok (Once a) v = refl
-cycle-ok (Every z a) v = both (leb 1 z) (leb z 1000000) (le-leb 1 z (v .low)) (le-leb z 1000000 (v .high))
+cycle-ok (Every z a) v = within-both 1 z 1000000 v
 
 within-low : (a x b : ℕ) → within a x b ≡ true → a ≤ x
 within-low a x b e = leb-true a x (and-parts (leb a x) (leb x b) e .0)
@@ -89,26 +93,49 @@ no-tuple-unused : tupleUnused noTuple ≡ true
 unfolding tupleUnused
 no-tuple-unused = refl
 
-module _ (task cost deadline : ℕ) (ps : List TuplePlace) (few : length ps ≤ 4) where
-  pub stream-four : FourTuples (streamOf task cost deadline ps)
-  stream-four = omega (arith, length-append ps (replicate (4 - length ps) noTuple), length-replicate {A = TuplePlace} (4 - length ps) noTuple)
+stage-ok : (g : Stage) → ValidStage g → stageOk g ≡ true
+unfolding stageOk
+stage-ok g v = both (leb (g .task) 15) (within 1 (g .cost) 65535) (le-leb (g .task) 15 (v .task)) (within-both 1 (g .cost) 65535 (v .cost))
 
-  pub stream-ok : task < 16 → within 1 cost 65535 ≡ true → within 1 deadline 200000 ≡ true → 0 < length ps → Chain 0 0 ps → streamOk (streamOf task cost deadline ps) ≡ true
+stages-ok : (gs : List Stage) → All ValidStage gs → all stageOk gs ≡ true
+unfolding all
+stages-ok [] v = refl
+stages-ok (g ∷ gs) v = both (stageOk g) (all stageOk gs) (stage-ok g (v .0)) (stages-ok gs (v .1))
+
+no-stage-unused : stageUnused noStage ≡ true
+unfolding stageUnused
+no-stage-unused = refl
+
+-- places of which the first are in use
+places-length : {A : Type 0} (N : ℕ) (none : A) (l : List A) → length l ≤ N → length (l ++ replicate (N - length l) none) ≡ N
+places-length {A} N none l h = omega (arith, length-append l (replicate (N - length l) none), length-replicate {A = A} (N - length l) none)
+
+rest-unused : {A : Type 0} (p : A → Bool) (N : ℕ) (none : A) (l : List A) → p none ≡ true → all p (drop (length l) (l ++ replicate (N - length l) none)) ≡ true
+rest-unused p N none l h = ap (all p) (drop-append-seam l (replicate (N - length l) none)) ∙ all-same p (N - length l) none h
+
+module _ (gs : List Stage) (deadline : ℕ) (ps : List TuplePlace) (shallow : length gs ≤ 4) (few : length ps ≤ 4) where
+  pub stream-four : FourPlaces (streamOf gs deadline ps)
+  stream-four = record { stages = places-length 4 noStage gs shallow; tuples = places-length 4 noTuple ps few }
+
+  pub stream-ok : 0 < length gs → All ValidStage gs → within 1 deadline 200000 ≡ true → 0 < length ps → Chain 0 0 ps → streamOk (streamOf gs deadline ps) ≡ true
   unfolding streamOk tuplesOk
-  stream-ok t c d some h =
-      every-of (streamTests (streamOf task cost deadline ps)) (
-        le-leb task 15 (omega arith),
+  stream-ok deep v d some h =
+      every-of (streamTests (streamOf gs deadline ps)) (
+        both (leb 1 (length gs)) (leb (length gs) 4) (le-leb 1 (length gs) deep) (le-leb (length gs) 4 shallow),
         (
-          c,
+          ap (all stageOk) (take-append-seam gs (replicate (4 - length gs) noStage)) ∙ stages-ok gs v,
           (
-            d,
+            rest-unused stageUnused 4 noStage gs no-stage-unused,
             (
-              both (leb 1 (length ps)) (leb (length ps) 4) (le-leb 1 (length ps) some) (le-leb (length ps) 4 few),
+              d,
               (
-                first-ok ps (replicate (4 - length ps) noTuple) some h,
+                both (leb 1 (length ps)) (leb (length ps) 4) (le-leb 1 (length ps) some) (le-leb (length ps) 4 few),
                 (
-                  ap (scan tupleOk offsetAt 0) (take-append-seam ps (replicate (4 - length ps) noTuple)) ∙ scan-of 0 0 ps h,
-                  (ap (all tupleUnused) (drop-append-seam ps (replicate (4 - length ps) noTuple)) ∙ all-same tupleUnused (4 - length ps) noTuple no-tuple-unused, tt),
+                  first-ok ps (replicate (4 - length ps) noTuple) some h,
+                  (
+                    ap (scan tupleOk offsetAt 0) (take-append-seam ps (replicate (4 - length ps) noTuple)) ∙ scan-of 0 0 ps h,
+                    (rest-unused tupleUnused 4 noTuple ps no-tuple-unused, tt),
+                  ),
                 ),
               ),
             ),
@@ -116,51 +143,74 @@ module _ (task cost deadline : ℕ) (ps : List TuplePlace) (few : length ps ≤ 
         ),
       )
 
-  stream-is : (n : ℕ) → length ps ≡ suc n → streamBits (streamOf task cost deadline ps) ≡ toBits 4 task ++ (toBits 16 cost ++ (toBits 18 deadline ++ (toBits 2 n ++ flat placeBits ps)))
-  unfolding streamBits
-  stream-is n e =
-      ap₂ (λ (k : ℕ) (l : List TuplePlace). toBits 4 task ++ (toBits 16 cost ++ (toBits 18 deadline ++ (toBits 2 k ++ flat placeBits l)))) (let q : length ps - 1 ≡ n = omega arith in q)
+  stream-is : (version n : ℕ) → length ps ≡ suc n → streamBits version (streamOf gs deadline ps) ≡ headBy (eqb version 1) gs (length gs) deadline ++ (toBits 2 n ++ flat placeBits ps)
+  unfolding streamBits headBits
+  stream-is version n e =
+      ap (λ (hs : List Stage). headBy (eqb version 1) hs (length gs) deadline ++ (toBits 2 (length ps - 1) ++ flat placeBits (take (length ps) (ps ++ replicate (4 - length ps) noTuple)))) (take-append-seam gs (replicate (4 - length gs) noStage))
+      ∙ ap₂ (λ (k : ℕ) (l : List TuplePlace). headBy (eqb version 1) gs (length gs) deadline ++ (toBits 2 k ++ flat placeBits l)) (let q : length ps - 1 ≡ n = omega arith in q)
       (take-append-seam ps (replicate (4 - length ps) noTuple))
 
-pub record GoodStream (s : Stream) : Type 0 where
+-- a stream of a set of the version
+pub record GoodStream (version : ℕ) (s : Stream) : Type 0 where
   pub ok : streamOk s ≡ true
-  pub four : FourTuples s
+  pub four : FourPlaces s
+  pub staged : Staged version s
 
 -- ---- a set that was read
 
-streams-of : (qs : List Stream) → streamsOf (setOf qs) ≡ qs
-streams-of qs = take-append-seam qs (replicate (16 - length qs) noStream)
-
-good-ok : (qs : List Stream) → All GoodStream qs → all streamOk qs ≡ true
-unfolding all
-good-ok [] g = refl
-good-ok (q ∷ qs) g = both (streamOk q) (all streamOk qs) (g .0 .ok) (good-ok qs (g .1))
-
-good-four : (qs : List Stream) → All GoodStream qs → All FourTuples qs
-good-four [] g = tt
-good-four (q ∷ qs) g = (g .0 .four, good-four qs (g .1))
+streams-of : (version : ℕ) (qs : List Stream) → streamsOf (setOf version qs) ≡ qs
+streams-of version qs = take-append-seam qs (replicate (16 - length qs) noStream)
 
 no-stream-unused : streamUnused noStream ≡ true
-unfolding streamUnused all tupleUnused
+unfolding streamUnused all stageUnused tupleUnused
 no-stream-unused = refl
 
-pub set-ok : (qs : List Stream) → length qs ≤ 16 → All GoodStream qs → valid (setOf qs) ≡ true
-unfolding valid
-set-ok qs few g =
-    every-of (leb (length qs) 16 ∷ all streamOk (streamsOf (setOf qs)) ∷ all streamUnused (drop (length qs) (setOf qs .streams)) ∷ []) (
-      le-leb (length qs) 16 few,
-      (
-        ap (all streamOk) (streams-of qs) ∙ good-ok qs g,
-        (ap (all streamUnused) (drop-append-seam qs (replicate (16 - length qs) noStream)) ∙ all-same streamUnused (16 - length qs) noStream no-stream-unused, tt),
-      ),
-    )
+no-stream-four : FourPlaces noStream
+no-stream-four = record { stages = refl; tuples = refl }
 
-pub set-placed : (qs : List Stream) → length qs ≤ 16 → All GoodStream qs → Placed (setOf qs)
-set-placed qs few g =
-    record {
-      sixteen = omega (arith, length-append qs (replicate (16 - length qs) noStream), length-replicate {A = Stream} (16 - length qs) noStream);
-      four = all-append FourTuples qs (replicate (16 - length qs) noStream) (good-four qs g) (all-replicate FourTuples (16 - length qs) noStream refl);
-    }
+module _ (version : ℕ) where
+  good-ok : (qs : List Stream) → All (GoodStream version) qs → all streamOk qs ≡ true
+  unfolding all
+  good-ok [] g = refl
+  good-ok (q ∷ qs) g = both (streamOk q) (all streamOk qs) (g .0 .ok) (good-ok qs (g .1))
+
+  good-one : version ≡ 1 → (qs : List Stream) → All (GoodStream version) qs → all oneStage qs ≡ true
+  unfolding all
+  good-one e [] g = refl
+  good-one e (q ∷ qs) g = both (oneStage q) (all oneStage qs) (eq-eqb (q .depth) 1 (g .0 .staged e)) (good-one e qs (g .1))
+
+  good-version : (qs : List Stream) → within 1 version 2 ≡ true → All (GoodStream version) qs → versionOk (setOf version qs) ≡ true
+  unfolding versionOk
+  good-version qs w g =
+      cond-elim (λ (b : Bool). b ≡ true) (eqb version 1) (all oneStage (streamsOf (setOf version qs))) (eqb version 2)
+      (λ e. ap (all oneStage) (streams-of version qs) ∙ good-one (eqb-true version 1 e) qs g)
+      (λ e. eq-eqb version 2 (omega (arith, eqb-false version 1 e, within-low 1 version 2 w, within-high 1 version 2 w)))
+
+  pub set-ok : (qs : List Stream) → within 1 version 2 ≡ true → length qs ≤ 16 → All (GoodStream version) qs → valid (setOf version qs) ≡ true
+  unfolding valid
+  set-ok qs w few g =
+      every-of (setTests (setOf version qs)) (
+        le-leb (length qs) 16 few,
+        (
+          ap (all streamOk) (streams-of version qs) ∙ good-ok qs g,
+          (rest-unused streamUnused 16 noStream qs no-stream-unused, (good-version qs w g, tt)),
+        ),
+      )
+
+  pub set-placed : (qs : List Stream) → length qs ≤ 16 → All (GoodStream version) qs → Placed (setOf version qs)
+  set-placed qs few g =
+      record {
+        sixteen = places-length 16 noStream qs few;
+        four = all-append FourPlaces qs (replicate (16 - length qs) noStream) (all-map (GoodStream version) FourPlaces qs (λ q k. k .four) g) (all-replicate FourPlaces (16 - length qs) noStream no-stream-four);
+      }
+
+-- what was read before the number of a stream's tuples
+record HeadRead (first : Bool) (gs : List Stage) (d : ℕ) : Type 0 where
+  pub deep : 0 < length gs
+  pub shallow : length gs ≤ 4
+  pub one : first ≡ true → length gs ≡ 1
+  pub stages : All ValidStage gs
+  pub deadline : within 1 d 200000 ≡ true
 
 -- ---- a property of every way that reading can end
 
@@ -203,66 +253,117 @@ module _ (P : ReadResult → Type 0) (missing : P (noSet BitsMissing)) (wrong : 
       ∙ ap (λ (y : List ℕ). toBits 20 z ++ y) (taken-split 17 bs₁ b₁ w₂) ∙ taken-split 20 bs b w₁)
       r))))))
 
-  stream-ends : (bs : List ℕ) (next : Stream → List ℕ → ReadResult) → AreBits bs
-      → ((s : Stream) (rest : List ℕ) → GoodStream s → streamBits s ++ rest ≡ bs → AreBits rest → P (next s rest)) → P (readStream bs next)
-  unfolding readStream
-  stream-ends bs next b h =
+  stages-end : (n : ℕ) (gs : List Stage) (bs : List ℕ) (next : List Stage → List ℕ → ReadResult) → AreBits bs
+      → ((hs : List Stage) (rest : List ℕ) → length hs ≡ n → All ValidStage hs → flat stageBits hs ++ rest ≡ bs → AreBits rest → P (next (gs ++ hs) rest))
+      → P (readStages n gs bs next)
+  unfolding readStages flat
+  stages-end zero gs bs next b h = subst (λ (l : List Stage). P (next l bs)) (append-nil gs) (h [] bs refl tt refl b)
+  stages-end (suc n) gs bs next b h =
       let t : ℕ = value (take 4 bs) in
       let bs₁ : List ℕ = drop 4 bs in
       let b₁ : AreBits bs₁ = all-drop IsBit 4 bs b in
       let c : ℕ = value (take 16 bs₁) in
       let bs₂ : List ℕ = drop 16 bs₁ in
-      let b₂ : AreBits bs₂ = all-drop IsBit 16 bs₁ b₁ in
-      let d : ℕ = value (take 18 bs₂) in
-      let bs₃ : List ℕ = drop 18 bs₂ in
-      let b₃ : AreBits bs₃ = all-drop IsBit 18 bs₂ b₂ in
-      let n : ℕ = value (take 2 bs₃) in
-      let bs₄ : List ℕ = drop 2 bs₃ in
-      field-ends 4 bs (taskNext next)
-      (λ w₁. field-ends 16 bs₁ (costNext next t)
+      let g : Stage = record { task = t; cost = c } in
+      field-ends 4 bs (taskNext n gs next)
+      (λ w₁. field-ends 16 bs₁ (costNext n gs next t)
       (λ w₂. rule-ends (within 1 c 65535) _
-      (λ e₂. field-ends 18 bs₂ (deadlineNext next t c)
-      (λ w₃. rule-ends (within 1 d 200000) _
-      (λ e₃. field-ends 2 bs₃ (tuplesNext next t c d)
-      (λ w₄. tuples-end (suc n) 0 0 [] bs₄ (λ ts rest. next (streamOf t c d ts) rest) (all-drop IsBit 2 bs₃ b₃) (omega arith)
-      (λ ps rest e k s r.
-      let few : length ps ≤ 4 = omega (arith, taken-lt 2 bs₃ b₃ w₄) in
-      h (streamOf t c d ps) rest
-      (record { ok = stream-ok t c d ps few (taken-lt 4 bs b w₁) e₂ e₃ (omega arith) k; four = stream-four t c d ps few })
-      (ap (λ (x : List ℕ). x ++ rest) (stream-is t c d ps few n e)
-      ∙ (let q : (toBits 4 t ++ (toBits 16 c ++ (toBits 18 d ++ (toBits 2 n ++ flat placeBits ps)))) ++ rest
-      ≡ toBits 4 t ++ (toBits 16 c ++ (toBits 18 d ++ (toBits 2 n ++ (flat placeBits ps ++ rest)))) = simp append-assoc in q)
-      ∙ ap (λ (x : List ℕ). toBits 4 t ++ (toBits 16 c ++ (toBits 18 d ++ (toBits 2 n ++ x)))) s
-      ∙ ap (λ (x : List ℕ). toBits 4 t ++ (toBits 16 c ++ (toBits 18 d ++ x))) (taken-split 2 bs₃ b₃ w₄)
-      ∙ ap (λ (x : List ℕ). toBits 4 t ++ (toBits 16 c ++ x)) (taken-split 18 bs₂ b₂ w₃)
-      ∙ ap (λ (x : List ℕ). toBits 4 t ++ x) (taken-split 16 bs₁ b₁ w₂) ∙ taken-split 4 bs b w₁)
-      r)))))))
+      (λ e. stages-end n (gs ++ (g ∷ [])) bs₂ next (all-drop IsBit 16 bs₁ b₁)
+      (λ hs rest k v s r.
+      subst (λ (l : List Stage). P (next l rest)) (sym (append-snoc gs g hs))
+      (h (g ∷ hs) rest (ap suc k) (record { task = omega (arith, taken-lt 4 bs b w₁); cost = record { low = within-low 1 c 65535 e; high = within-high 1 c 65535 e } }, v)
+      (append-assoc (stageBits g) (flat stageBits hs) rest
+      ∙ ap (λ (y : List ℕ). stageBits g ++ y) s
+      ∙ append-assoc (toBits 4 t) (toBits 16 c) bs₂
+      ∙ ap (λ (y : List ℕ). toBits 4 t ++ y) (taken-split 16 bs₁ b₁ w₂) ∙ taken-split 4 bs b w₁)
+      r)))))
 
-  streams-end : (n : ℕ) (ss : List Stream) (bs : List ℕ) → AreBits bs
-      → ((qs : List Stream) (rest : List ℕ) → length qs ≡ n → All GoodStream qs → flat streamBits qs ++ rest ≡ bs → AreBits rest → P (readEnd (ss ++ qs) rest))
-      → P (readStreams n ss bs)
-  unfolding readStreams flat
-  streams-end zero ss bs b h = subst (λ (l : List Stream). P (readEnd l bs)) (append-nil ss) (h [] bs refl tt refl b)
-  streams-end (suc n) ss bs b h =
-      stream-ends bs (λ s rest. readStreams n (ss ++ (s ∷ [])) rest) b
-      (λ s rest g e r. streams-end n (ss ++ (s ∷ [])) rest r
-      (λ qs more k a q m.
-      subst (λ (l : List Stream). P (readEnd l more)) (sym (append-snoc ss s qs))
-      (h (s ∷ qs) more (ap suc k) (g, a)
-      (append-assoc (streamBits s) (flat streamBits qs) more ∙ ap (λ (x : List ℕ). streamBits s ++ x) q ∙ e) m)))
+  deadline-ends : (bs : List ℕ) (next : ℕ → List ℕ → ReadResult) → AreBits bs
+      → ((d : ℕ) (rest : List ℕ) → within 1 d 200000 ≡ true → toBits 18 d ++ rest ≡ bs → AreBits rest → P (next d rest)) → P (readDeadline bs next)
+  unfolding readDeadline
+  deadline-ends bs next b h =
+      let d : ℕ = value (take 18 bs) in
+      field-ends 18 bs (deadlineNext next)
+      (λ w. rule-ends (within 1 d 200000) _ (λ e. h d (drop 18 bs) e (taken-split 18 bs b w) (all-drop IsBit 18 bs b)))
 
-  -- a set's fields were there, and bits behind them; or the count of the streams, or what comes behind it, was refused
-  pub count-ends : (bs : List ℕ) → AreBits bs
-      → ((x : Set) (rest : List ℕ) → valid x ≡ true → Placed x → toBits 5 (x .count) ++ (flat streamBits (streamsOf x) ++ rest) ≡ bs → P (readEnd (streamsOf x) rest))
-      → P (field 5 bs countNext)
-  count-ends bs b h =
-      let n : ℕ = value (take 5 bs) in
-      field-ends 5 bs countNext
-      (λ w. rule-ends (leb n 16) _
-      (λ e. streams-end n [] (drop 5 bs) (all-drop IsBit 5 bs b)
-      (λ qs rest k g s r.
-      let few : length qs ≤ 16 = omega (arith, leb-true n 16 e) in
-      subst (λ (l : List Stream). P (readEnd l rest)) (streams-of qs)
-      (h (setOf qs) rest (set-ok qs few g) (set-placed qs few g)
-      (ap₂ (λ (j : ℕ) (l : List Stream). toBits 5 j ++ (flat streamBits l ++ rest)) k (streams-of qs)
-      ∙ ap (λ (x : List ℕ). toBits 5 n ++ x) s ∙ taken-split 5 bs b w)))))
+  -- the head of version 1, and the other
+  head-by-ends : (first : Bool) (bs : List ℕ) (next : List Stage → ℕ → List ℕ → ReadResult) → AreBits bs
+      → ((gs : List Stage) (d : ℕ) (rest : List ℕ) → HeadRead first gs d → headBy first gs (length gs) d ++ rest ≡ bs → AreBits rest → P (next gs d rest)) → P (readHeadBy first bs next)
+  head-by-ends true bs next b h =
+      stages-end 1 [] bs (λ gs bs₁. readDeadline bs₁ (λ d bs₂. next gs d bs₂)) b
+      (λ gs rest k v s r. deadline-ends rest (λ d bs₂. next gs d bs₂) r
+      (λ d more e q m. h gs d more (record { deep = omega (arith, k); shallow = omega (arith, k); one = λ _. k; stages = v; deadline = e })
+      (append-assoc (flat stageBits gs) (toBits 18 d) more ∙ ap (λ (y : List ℕ). flat stageBits gs ++ y) q ∙ s) m))
+  head-by-ends false bs next b h =
+      deadline-ends bs (λ d bs₁. field 2 bs₁ (λ n bs₂. readStages (suc n) [] bs₂ (λ gs bs₃. next gs d bs₃))) b
+      (λ d bs₁ e q b₁.
+      let n : ℕ = value (take 2 bs₁) in
+      field-ends 2 bs₁ (λ n bs₂. readStages (suc n) [] bs₂ (λ gs bs₃. next gs d bs₃))
+      (λ w. stages-end (suc n) [] (drop 2 bs₁) (λ gs bs₃. next gs d bs₃) (all-drop IsBit 2 bs₁ b₁)
+      (λ gs rest k v s r. h gs d rest
+      (record { deep = omega (arith, k); shallow = omega (arith, k, taken-lt 2 bs₁ b₁ w); one = λ x. absurd (false≢true x); stages = v; deadline = e })
+      ((let u : (toBits 18 d ++ (toBits 2 (length gs - 1) ++ flat stageBits gs)) ++ rest ≡ toBits 18 d ++ (toBits 2 (length gs - 1) ++ (flat stageBits gs ++ rest)) = simp append-assoc in u)
+      ∙ ap₂ (λ (j : ℕ) (y : List ℕ). toBits 18 d ++ (toBits 2 j ++ y)) (let u : length gs - 1 ≡ n = omega (arith, k) in u) s
+      ∙ ap (λ (y : List ℕ). toBits 18 d ++ y) (taken-split 2 bs₁ b₁ w) ∙ q)
+      r)))
+
+  head-ends : (version : ℕ) (bs : List ℕ) (next : List Stage → ℕ → List ℕ → ReadResult) → AreBits bs
+      → ((gs : List Stage) (d : ℕ) (rest : List ℕ) → HeadRead (eqb version 1) gs d → headBy (eqb version 1) gs (length gs) d ++ rest ≡ bs → AreBits rest → P (next gs d rest))
+      → P (readHead version bs next)
+  unfolding readHead
+  head-ends version bs next b h = head-by-ends (eqb version 1) bs next b h
+
+  module _ (version : ℕ) where
+    stream-ends : (bs : List ℕ) (next : Stream → List ℕ → ReadResult) → AreBits bs
+        → ((s : Stream) (rest : List ℕ) → GoodStream version s → streamBits version s ++ rest ≡ bs → AreBits rest → P (next s rest)) → P (readStream version bs next)
+    unfolding readStream
+    stream-ends bs next b h =
+        head-ends version bs (headNext next) b
+        (λ gs d bs₁ k q b₁.
+        let n : ℕ = value (take 2 bs₁) in
+        let bs₂ : List ℕ = drop 2 bs₁ in
+        field-ends 2 bs₁ (tuplesNext next gs d)
+        (λ w. tuples-end (suc n) 0 0 [] bs₂ (λ ts rest. next (streamOf gs d ts) rest) (all-drop IsBit 2 bs₁ b₁) (omega arith)
+        (λ ps rest e c s r.
+        let few : length ps ≤ 4 = omega (arith, taken-lt 2 bs₁ b₁ w) in
+        let front : List ℕ = headBy (eqb version 1) gs (length gs) d in
+        h (streamOf gs d ps) rest
+        (record {
+          ok = stream-ok gs d ps (k .shallow) few (k .deep) (k .stages) (k .deadline) (omega arith) c;
+          four = stream-four gs d ps (k .shallow) few;
+          staged = λ x. k .one (eq-eqb version 1 x);
+        })
+        (ap (λ (x : List ℕ). x ++ rest) (stream-is gs d ps (k .shallow) few version n e)
+        ∙ (let u : (front ++ (toBits 2 n ++ flat placeBits ps)) ++ rest ≡ front ++ (toBits 2 n ++ (flat placeBits ps ++ rest)) = simp append-assoc in u)
+        ∙ ap (λ (x : List ℕ). front ++ (toBits 2 n ++ x)) s
+        ∙ ap (λ (x : List ℕ). front ++ x) (taken-split 2 bs₁ b₁ w) ∙ q)
+        r)))
+
+    streams-end : (n : ℕ) (ss : List Stream) (bs : List ℕ) → AreBits bs
+        → ((qs : List Stream) (rest : List ℕ) → length qs ≡ n → All (GoodStream version) qs → flat (streamBits version) qs ++ rest ≡ bs → AreBits rest → P (readEnd version (ss ++ qs) rest))
+        → P (readStreams version n ss bs)
+    unfolding readStreams flat
+    streams-end zero ss bs b h = subst (λ (l : List Stream). P (readEnd version l bs)) (append-nil ss) (h [] bs refl tt refl b)
+    streams-end (suc n) ss bs b h =
+        stream-ends bs (λ s rest. readStreams version n (ss ++ (s ∷ [])) rest) b
+        (λ s rest g e r. streams-end n (ss ++ (s ∷ [])) rest r
+        (λ qs more k a q m.
+        subst (λ (l : List Stream). P (readEnd version l more)) (sym (append-snoc ss s qs))
+        (h (s ∷ qs) more (ap suc k) (g, a)
+        (append-assoc (streamBits version s) (flat (streamBits version) qs) more ∙ ap (λ (x : List ℕ). streamBits version s ++ x) q ∙ e) m)))
+
+    -- a set's fields were there, and bits behind them; or the count of the streams, or what comes behind it, was refused
+    pub count-ends : (bs : List ℕ) → AreBits bs → within 1 version 2 ≡ true
+        → ((x : Set) (rest : List ℕ) → valid x ≡ true → Placed x → x .version ≡ version → toBits 5 (x .count) ++ (flat (streamBits version) (streamsOf x) ++ rest) ≡ bs → P (readEnd version (streamsOf x) rest))
+        → P (field 5 bs (countNext version))
+    count-ends bs b v h =
+        let n : ℕ = value (take 5 bs) in
+        field-ends 5 bs (countNext version)
+        (λ w. rule-ends (leb n 16) _
+        (λ e. streams-end n [] (drop 5 bs) (all-drop IsBit 5 bs b)
+        (λ qs rest k g s r.
+        let few : length qs ≤ 16 = omega (arith, leb-true n 16 e) in
+        subst (λ (l : List Stream). P (readEnd version l rest)) (streams-of version qs)
+        (h (setOf version qs) rest (set-ok version qs v few g) (set-placed version qs few g) refl
+        (ap₂ (λ (j : ℕ) (l : List Stream). toBits 5 j ++ (flat (streamBits version) l ++ rest)) k (streams-of version qs)
+        ∙ ap (λ (x : List ℕ). toBits 5 n ++ x) s ∙ taken-split 5 bs b w)))))

@@ -1,40 +1,40 @@
 -- A set and its sheet determine each other, how long a sheet is, and when each refusal is given.
 -- Assumes nothing.
-use Prim.Native.Nat.{ℕ, zero, suc, _+_, _-_, _*_, _/_, _≤_, _<_}
+use Prim.Native.Nat.{ℕ, _+_, _-_, _*_, _≤_, _<_}
 use mathlib.Core.List.{List, [], _∷_, _++_, append-assoc}
 use mathlib.Core.Path.{_≡_, refl, sym, ap, _∙_, subst}
 use mathlib.Core.Bool.{Bool, true, false, cond, _&&_, false≢true}
 use native.Mathlib.Omega.{arith}
+use native.Mathlib.Nat.{mul-le-mul-left}
 use lib.ListN.{length, take, drop, length-append, length-take}
 use lib.Dec.{eqb, leb, ltb}
-use borrow.Author.Tests.{eqb-false, eqb-true, leb-false, leb-true, lt-leb, le-leb, ltb-true, ne-eqb}
-use Rattle.laws.specs.Lists.{All, all, any, flat}
-use Rattle.laws.specs.Bits.{bits, bytesFor, pack, toBits, value, zeros}
-use Rattle.laws.proofs.Sums.{and-parts, by-test}
+use borrow.Author.Tests.{eqb-true, leb-false, leb-true, lt-leb, le-leb, ltb-true}
+use Rattle.laws.specs.Lists.{All, all, any, flat, within}
+use Rattle.laws.specs.Bits.{bits, bytesFor, toBits, value, zeros}
+use Rattle.laws.proofs.Sums.{all-each, all-map, all-zip, and-parts, by-test}
 use Rattle.laws.proofs.Fields.{AreBits, AreBytes, IsBit, all-drop, all-replicate, bits-bits, taken-split, toBits-length}
 use Rattle.laws.proofs.Packing.{pack-length, pack-unique}
 use Rattle.rules.specs.declared.Tuple.{Tuple}
 use Rattle.rules.specs.declared.Tuple.the-variants.{Once, Every}
 use Rattle.rules.specs.declared.TuplePlace.{TuplePlace}
+use Rattle.rules.specs.declared.Stage.{Stage}
 use Rattle.rules.specs.declared.Stream.{Stream}
 use Rattle.rules.specs.declared.Set.{Set}
-use Rattle.rules.specs.declared.Refusal.{Refusal}
 use Rattle.rules.specs.declared.Refusal.the-variants.{BitsMissing, BadVersion, OutOfRule, Leftover, ShortBuffer}
 use Rattle.rules.specs.declared.ReadResult.{ReadResult}
 use Rattle.rules.specs.declared.ReadAnswer.{ReadAnswer}
 use Rattle.rules.specs.declared.ReadAnswer.the-variants.{Read, Refused}
-use Rattle.rules.specs.declared.WriteAnswer.{WriteAnswer}
 use Rattle.rules.specs.declared.WriteAnswer.the-variants.{Wrote, Refused as NotWritten}
-use Rattle.rules.specs.Streams.{FourTuples, Placed, emptySet, noStream, streamsOf, tuplesOf, valid}
-use Rattle.rules.specs.Sheet.{bufferBy, bufferOf, isZero, noSet, placeBits, readBits, readEnd, readOf, setOf, sheetBits, sheetOf, streamBits, tupleBits, writeOf}
-use Rattle.rules.specs.Numbers.{Says, number, readSays, refused, writeSays, wrote}
+use Rattle.rules.specs.Streams.{FourPlaces, Placed, emptySet, noStream, stagesOf, streamsOf, tuplesOf, valid}
+use Rattle.rules.specs.Sheet.{headBits, isZero, noSet, placeBits, readBits, readEnd, readOf, setOf, sheetBits, sheetOf, stageBits, streamBits, tupleBits, writeOf}
+use Rattle.rules.specs.Numbers.{number, readSays, refused, writeSays, wrote}
 use Rattle.rules.specs.Valid.{ValidSet, ValidStream}
 use Rattle.rules.proofs.Valid.{streams-few, valid-set}
 use Rattle.sheet_read.proofs.Filled.{cond-elim}
-use Rattle.sheet_write.specs.Answers.{Begins, ReadPlaced, ReadRefusals, SixExactly, TenExactly, WriteElevenExactly, WriteSevenExactly, WroteExactly, readingSays}
-use Rattle.sheet_write.specs.Long.{SheetAtMost, longestSheet}
-use Rattle.sheet_write.proofs.Whole.{set-holds, whole-set}
-use Rattle.sheet_write.proofs.Back.{fields-read, read-back, sheet-bits, versionNext, countNext}
+use Rattle.sheet_write.specs.Answers.{Begins, ReadPlaced, ReadRefusals, SheetTells, SixExactly, TenExactly, WriteElevenExactly, WriteSevenExactly, WroteExactly, readingSays}
+use Rattle.sheet_write.specs.Long.{FirstAtMost, FullSheet, FullStream, SheetAtMost, longestFirst, longestSheet}
+use Rattle.sheet_write.proofs.Whole.{Staged, set-holds, set-staged, whole-set}
+use Rattle.sheet_write.proofs.Back.{fields-read, headBy, read-back, sheet-bits, versionNext}
 use Rattle.sheet_write.proofs.Accepted.{count-ends, field-ends}
 
 -- ---- what is accepted
@@ -53,7 +53,7 @@ never e = absurd (omega arith)
 -- what holds of every answer to a string of bits
 record Why (bs : List ℕ) (no : ℕ) : Type 0 where
   pub one : any (eqb no) (5 ∷ 6 ∷ 7 ∷ 10 ∷ []) ≡ true
-  pub six : no ≡ 6 → (4 ≤ length bs) × (value (take 4 bs) ≡ 1 → ⊥)
+  pub six : no ≡ 6 → (4 ≤ length bs) × ((value (take 4 bs) ≡ 1 → ⊥) × (value (take 4 bs) ≡ 2 → ⊥))
   pub ten : no ≡ 10 → Begins bs
 
 abbrev Answered : List ℕ → ReadAnswer → Set → Type 0
@@ -78,29 +78,45 @@ zeros-of (b ∷ bs) e =
     let u = and-parts (isZero b) (all isZero bs) e in
     ap (λ (x : ℕ). x ∷ bs) (eqb-true b 0 (u .0)) ∙ ap (λ (l : List ℕ). 0 ∷ l) (zeros-of bs (u .1))
 
-end-tells : (bs : List ℕ) (x : Set) (rest : List ℕ) → valid x ≡ true → Placed x → bs ≡ sheetBits x ++ rest → Tells bs (readEnd (streamsOf x) rest)
+end-tells : (bs : List ℕ) (x : Set) (rest : List ℕ) → valid x ≡ true → Placed x → bs ≡ sheetBits x ++ rest → Tells bs (readEnd (x .version) (streamsOf x) rest)
 unfolding readEnd any
 end-tells bs x rest v p e =
-    cond-elim (Tells bs) (ltb (length rest) 8 && all isZero rest) (record { answer = Read; set = setOf (streamsOf x) }) (noSet Leftover)
+    cond-elim (Tells bs) (ltb (length rest) 8 && all isZero rest) (record { answer = Read; set = setOf (x .version) (streamsOf x) }) (noSet Leftover)
     (λ t. let u = and-parts (ltb (length rest) 8) (all isZero rest) t in
     subst (Accepted bs) (sym (whole-set x (set-holds x (valid-set x v) p)))
     (record { ok = v; placed = p; pads = length rest; few = ltb-true (length rest) 8 (u .0); same = e ∙ ap (λ (l : List ℕ). sheetBits x ++ l) (zeros-of rest (u .1)) }))
     (λ t. (refl, record { one = refl; six = λ q. absurd (omega arith); ten = λ q. record { set = x; ok = v; placed = p; rest = rest; same = e; bad = t } }))
 
+-- a version other than 1 and 2
+other-version : (v : ℕ) → within 1 v 2 ≡ false → (v ≡ 1 → ⊥) × (v ≡ 2 → ⊥)
+other-version v e =
+    (λ q. false≢true (sym e ∙ ap (λ (n : ℕ). within 1 n 2) q), λ q. false≢true (sym e ∙ ap (λ (n : ℕ). within 1 n 2) q))
+
+no-version : (v : ℕ) → (v ≡ 1 → ⊥) → (v ≡ 2 → ⊥) → within 1 v 2 ≡ false
+no-version v f g =
+    by-test (within 1 v 2)
+    (λ e. let u = and-parts (leb 1 v) (leb v 2) e in absurd (omega (arith, f, g, leb-true 1 v (u .0), leb-true v 2 (u .1)))) (λ e. e)
+
+-- the fields of a set behind its version
+fields-are : (x : Set) (rest : List ℕ) → sheetBits x ++ rest ≡ toBits 4 (x .version) ++ (toBits 5 (x .count) ++ (flat (streamBits (x .version)) (streamsOf x) ++ rest))
+unfolding sheetBits
+fields-are x rest = simp append-assoc
+
 reading-tells : (bs : List ℕ) → AreBits bs → Tells bs (readBits bs)
-unfolding readBits sheetBits any
+unfolding readBits any
 reading-tells bs b =
     let v : ℕ = value (take 4 bs) in
     field-ends (Tells bs) (missing bs) (wrong bs) 4 bs versionNext
-    (λ w. cond-elim (Tells bs) (eqb v 1) _ (noSet BadVersion)
-    (λ e. count-ends (Tells bs) (missing bs) (wrong bs) (drop 4 bs) (all-drop IsBit 4 bs b)
-    (λ x rest k p s.
-    end-tells bs x rest k p
+    (λ w. cond-elim (Tells bs) (within 1 v 2) _ (noSet BadVersion)
+    (λ e. count-ends (Tells bs) (missing bs) (wrong bs) v (drop 4 bs) (all-drop IsBit 4 bs b) e
+    (λ x rest k p q s.
+    subst (λ (n : ℕ). Tells bs (readEnd n (streamsOf x) rest)) q
+    (end-tells bs x rest k p
     (sym
-    (append-assoc (toBits 4 1) (toBits 5 (x .count) ++ flat streamBits (streamsOf x)) rest
-    ∙ ap (λ (l : List ℕ). toBits 4 1 ++ l) (append-assoc (toBits 5 (x .count)) (flat streamBits (streamsOf x)) rest ∙ s)
-    ∙ ap (λ (n : ℕ). toBits 4 n ++ drop 4 bs) (sym (eqb-true v 1 e)) ∙ taken-split 4 bs b w))))
-    (λ e. (refl, record { one = refl; six = λ q. (w, eqb-false v 1 e); ten = λ q. absurd (omega arith) })))
+    (fields-are x rest
+    ∙ ap (λ (n : ℕ). toBits 4 n ++ (toBits 5 (x .count) ++ (flat (streamBits n) (streamsOf x) ++ rest))) q
+    ∙ ap (λ (l : List ℕ). toBits 4 v ++ l) s ∙ taken-split 4 bs b w)))))
+    (λ e. (refl, record { one = refl; six = λ q. (w, other-version v e); ten = λ q. absurd (omega arith) })))
 
 -- ---- a set and its sheet determine each other
 
@@ -128,6 +144,11 @@ read-exactly s x h e = record { ok = accepted s x e .ok; placed = accepted s x e
 pub sheet-exactly : (s : List ℕ) (x : Set) → SheetOf s x → readOf s ≡ record { answer = Read; set = x }
 sheet-exactly s x k = ap readOf (sym (k .sheet)) ∙ read-back x (k .ok) (k .placed)
 
+pub sheet-tells : SheetTells
+unfolding SheetTells
+sheet-tells x y v w p q e =
+    ap (λ (r : ReadResult). r .set) (sym (read-back x v p) ∙ ap readOf e ∙ read-back y w q)
+
 -- ---- how long a sheet is
 
 place-length : (p : TuplePlace) → length (placeBits p) ≡ 37
@@ -138,68 +159,126 @@ place-length p = by-tuple (p .tuple)
     by-tuple (Every z a) = omega (arith, length-append (toBits 20 z) (toBits 17 a), toBits-length 20 z, toBits-length 17 a)
 
 -- lists of one length each, one behind the other
-pub flat-length : {A : Type 0} (f : A → List ℕ) (n : ℕ) → ((a : A) → length (f a) ≡ n) → (l : List A) → length (flat f l) ≡ n * length l
+pub flat-length : {A : Type 0} (f : A → List ℕ) (n : ℕ) (l : List A) → All (λ a. length (f a) ≡ n) l → length (flat f l) ≡ n * length l
 unfolding flat
-flat-length f n h [] = omega arith
-flat-length f n h (a ∷ l) = omega (arith, length-append (f a) (flat f l), h a, flat-length f n h l)
+flat-length f n [] h = omega arith
+flat-length f n (a ∷ l) h = omega (arith, length-append (f a) (flat f l), h .0, flat-length f n l (h .1))
+
+-- and of at most one length
+flat-most : {A : Type 0} (f : A → List ℕ) (n : ℕ) (l : List A) → All (λ a. length (f a) ≤ n) l → length (flat f l) ≤ n * length l
+unfolding flat
+flat-most f n [] h = omega arith
+flat-most f n (a ∷ l) h = omega (arith, length-append (f a) (flat f l), h .0, flat-most f n l (h .1))
 
 pub tuples-length : (ts : List TuplePlace) → length (flat placeBits ts) ≡ 37 * length ts
-tuples-length ts = flat-length placeBits 37 place-length ts
+tuples-length ts = flat-length placeBits 37 ts (all-each (λ p. length (placeBits p) ≡ 37) ts place-length)
 
-pub stream-length : (s : Stream) → length (streamBits s) ≡ 40 + 37 * length (tuplesOf s)
-unfolding streamBits
-stream-length s =
+stage-length : (g : Stage) → length (stageBits g) ≡ 20
+stage-length g = omega (arith, length-append (toBits 4 (g .task)) (toBits 16 (g .cost)), toBits-length 4 (g .task), toBits-length 16 (g .cost))
+
+pub stages-length : (gs : List Stage) → length (flat stageBits gs) ≡ 20 * length gs
+stages-length gs = flat-length stageBits 20 gs (all-each (λ g. length (stageBits g) ≡ 20) gs stage-length)
+
+-- the bits of a head beside its stages: the deadline, and in version 2 stages less one
+abbrev pub besides : Bool → ℕ
+besides first = cond first 18 20
+
+head-by-length : (first : Bool) (gs : List Stage) (depth d : ℕ) → length (headBy first gs depth d) ≡ besides first + 20 * length gs
+head-by-length true gs depth d = omega (arith, length-append (flat stageBits gs) (toBits 18 d), stages-length gs, toBits-length 18 d)
+head-by-length false gs depth d =
     omega (
       arith,
-      length-append (toBits 4 (s .task)) (toBits 16 (s .cost) ++ (toBits 18 (s .deadline) ++ (toBits 2 (s .count - 1) ++ flat placeBits (tuplesOf s)))),
-      length-append (toBits 16 (s .cost)) (toBits 18 (s .deadline) ++ (toBits 2 (s .count - 1) ++ flat placeBits (tuplesOf s))),
-      length-append (toBits 18 (s .deadline)) (toBits 2 (s .count - 1) ++ flat placeBits (tuplesOf s)),
-      length-append (toBits 2 (s .count - 1)) (flat placeBits (tuplesOf s)),
-      toBits-length 4 (s .task),
-      toBits-length 16 (s .cost),
-      toBits-length 18 (s .deadline),
-      toBits-length 2 (s .count - 1),
-      tuples-length (tuplesOf s),
+      length-append (toBits 18 d) (toBits 2 (depth - 1) ++ flat stageBits gs),
+      length-append (toBits 2 (depth - 1)) (flat stageBits gs),
+      stages-length gs,
+      toBits-length 18 d,
+      toBits-length 2 (depth - 1),
     )
 
-pub sheet-length : (x : Set) → length (sheetBits x) ≡ 9 + length (flat streamBits (streamsOf x))
+pub head-length : (version : ℕ) (s : Stream) → length (headBits version s) ≡ besides (eqb version 1) + 20 * length (stagesOf s)
+unfolding headBits
+head-length version s = head-by-length (eqb version 1) (stagesOf s) (s .depth) (s .deadline)
+
+pub stream-parts : (version : ℕ) (s : Stream) → length (streamBits version s) ≡ length (headBits version s) + 2 + length (flat placeBits (tuplesOf s))
+unfolding streamBits
+stream-parts version s =
+    omega (
+      arith,
+      length-append (headBits version s) (toBits 2 (s .count - 1) ++ flat placeBits (tuplesOf s)),
+      length-append (toBits 2 (s .count - 1)) (flat placeBits (tuplesOf s)),
+      toBits-length 2 (s .count - 1),
+    )
+
+pub stream-length : (version : ℕ) (s : Stream) → length (streamBits version s) ≡ besides (eqb version 1) + 20 * length (stagesOf s) + 2 + 37 * length (tuplesOf s)
+stream-length version s = omega (arith, stream-parts version s, head-length version s, tuples-length (tuplesOf s))
+
+pub sheet-length : (x : Set) → length (sheetBits x) ≡ 9 + length (flat (streamBits (x .version)) (streamsOf x))
 unfolding sheetBits
 sheet-length x =
     omega (
       arith,
-      length-append (toBits 4 1) (toBits 5 (x .count) ++ flat streamBits (streamsOf x)),
-      length-append (toBits 5 (x .count)) (flat streamBits (streamsOf x)),
-      toBits-length 4 1,
+      length-append (toBits 4 (x .version)) (toBits 5 (x .count) ++ flat (streamBits (x .version)) (streamsOf x)),
+      length-append (toBits 5 (x .count)) (flat (streamBits (x .version)) (streamsOf x)),
+      toBits-length 4 (x .version),
       toBits-length 5 (x .count),
     )
 
--- four tuples each
-abbrev pub HasFour : Stream → Type 0
-HasFour s = length (tuplesOf s) ≡ 4
+-- a full sheet: for each stream so many bits
+full-bytes : (x : Set) (n : ℕ) → length (streamsOf x) ≡ 16 → All (λ s. length (streamBits (x .version) s) ≡ n) (streamsOf x) → length (sheetOf x) ≡ bytesFor (9 + n * 16)
+unfolding sheetOf
+full-bytes x n k h =
+    pack-length (sheetBits x)
+    ∙ ap bytesFor (sheet-length x ∙ ap (λ (m : ℕ). 9 + m) (flat-length (streamBits (x .version)) n (streamsOf x) h ∙ ap (λ (m : ℕ). n * m) k))
 
-full-length : (ss : List Stream) → All HasFour ss → length (flat streamBits ss) ≡ 188 * length ss
-unfolding flat
-full-length [] h = refl
-full-length (s ∷ ss) h = omega (arith, length-append (streamBits s) (flat streamBits ss), stream-length s, h .0, full-length ss (h .1))
+full-streams : (version d n : ℕ) (ss : List Stream) → besides (eqb version 1) + 20 * d + 150 ≡ n → All (FullStream d) ss → All (λ s. length (streamBits version s) ≡ n) ss
+full-streams version d n ss e h =
+    all-map (FullStream d) (λ s. length (streamBits version s) ≡ n) ss (λ s f. omega (arith, stream-length version s, f .0, f .1)) h
 
 -- "A full sheet is 378 bytes."
-pub full-sheet : (x : Set) → length (streamsOf x) ≡ 16 → All HasFour (streamsOf x) → length (sheetOf x) ≡ longestSheet
-unfolding sheetOf
-full-sheet x n h =
-    pack-length (sheetBits x)
-    ∙ ap bytesFor (let e : length (sheetBits x) ≡ 3017 = omega (arith, sheet-length x, full-length (streamsOf x) h) in e)
+pub full-first : FullSheet 1 1 longestFirst
+unfolding FullSheet
+full-first x v f = full-bytes x 188 (f .streams) (subst (λ (n : ℕ). All (λ s. length (streamBits n s) ≡ 188) (streamsOf x)) (sym v) (full-streams 1 1 188 (streamsOf x) refl (f .each)))
 
-most-length : (ss : List Stream) → All ValidStream ss → length (flat streamBits ss) ≤ 188 * length ss
-unfolding flat
-most-length [] v = omega arith
-most-length (s ∷ ss) v =
-    omega (arith, length-append (streamBits s) (flat streamBits ss), stream-length s, length-take (s .count) (s .tuples), v .0 .count .high, most-length ss (v .1))
+pub full-sheet : FullSheet 2 4 longestSheet
+unfolding FullSheet
+full-sheet x v f = full-bytes x 250 (f .streams) (subst (λ (n : ℕ). All (λ s. length (streamBits n s) ≡ 250) (streamsOf x)) (sym v) (full-streams 2 4 250 (streamsOf x) refl (f .each)))
+
+most-bytes : (x : Set) (n : ℕ) → ValidSet x → All (λ s. length (streamBits (x .version) s) ≤ n) (streamsOf x) → length (sheetOf x) ≤ 2 + 2 * n
+unfolding sheetOf
+most-bytes x n v h =
+    omega (arith, pack-length (sheetBits x), sheet-length x, flat-most (streamBits (x .version)) n (streamsOf x) h, mul-le-mul-left n (streams-few x v))
+
+pub besides-most : (first : Bool) → besides first ≤ 20
+besides-most true = omega arith
+besides-most false = omega arith
+
+pub stream-most : (version : ℕ) (s : Stream) → s .depth ≤ 4 → s .count ≤ 4 → length (streamBits version s) ≤ 250
+stream-most version s h k =
+    omega (arith, stream-length version s, besides-most (eqb version 1), length-take (s .depth) (s .stages), length-take (s .count) (s .tuples))
 
 pub sheet-at-most : SheetAtMost
-unfolding SheetAtMost sheetOf
+unfolding SheetAtMost
 sheet-at-most x ok =
     let v : ValidSet x = valid-set x ok in
-    omega (arith, pack-length (sheetBits x), sheet-length x, most-length (streamsOf x) (v .streams), streams-few x v)
+    most-bytes x 250 v (all-map ValidStream (λ s. length (streamBits (x .version) s) ≤ 250) (streamsOf x) (λ s k. stream-most (x .version) s (k .depth .high) (k .count .high)) (v .streams))
+
+first-most : (version : ℕ) (s : Stream) → version ≡ 1 → s .depth ≡ 1 → s .count ≤ 4 → length (streamBits version s) ≤ 188
+first-most version s e h k =
+    omega (
+      arith,
+      stream-length version s,
+      ap (λ (n : ℕ). besides (eqb n 1)) e,
+      length-take (s .depth) (s .stages),
+      length-take (s .count) (s .tuples),
+    )
+
+pub first-at-most : FirstAtMost
+unfolding FirstAtMost
+first-at-most x ok e =
+    let v : ValidSet x = valid-set x ok in
+    most-bytes x 188 v
+    (all-zip ValidStream (Staged (x .version)) (λ s. length (streamBits (x .version) s) ≤ 188) (streamsOf x)
+    (λ s k one. first-most (x .version) s e (one e) (k .count .high)) (v .streams) (set-staged x v))
 
 -- ---- "Given exactly when"
 
@@ -219,13 +298,13 @@ pub read-refusals : ReadRefusals
 unfolding ReadRefusals
 read-refusals s n e = record { one = heard s n e .1 .one; empty = heard s n e .0 }
 
-six-given : (s : List ℕ) → 4 ≤ length (bits s) → (value (take 4 (bits s)) ≡ 1 → ⊥) → readOf s ≡ noSet BadVersion
+six-given : (s : List ℕ) → 4 ≤ length (bits s) → within 1 (value (take 4 (bits s))) 2 ≡ false → readOf s ≡ noSet BadVersion
 unfolding readOf readBits
-six-given s h n = simp (le-leb 4 (length (bits s)) h, ne-eqb (value (take 4 (bits s))) 1 n)
+six-given s h n = simp (le-leb 4 (length (bits s)) h, n)
 
 pub six-exactly : SixExactly
 unfolding SixExactly
-six-exactly s = (λ e. heard s 6 e .1 .six refl, λ h. ap (λ (r : ReadResult). readSays (r .answer)) (six-given s (h .0) (h .1)))
+six-exactly s = (λ e. heard s 6 e .1 .six refl, λ h. ap (λ (r : ReadResult). readSays (r .answer)) (six-given s (h .0) (no-version (value (take 4 (bits s))) (h .1 .0) (h .1 .1))))
 
 ten-given : (s : List ℕ) → Begins (bits s) → readOf s ≡ noSet Leftover
 unfolding readOf readEnd
@@ -283,7 +362,7 @@ wrote-exactly x room = (
 -- ---- what is read has its places
 
 empty-placed : Placed emptySet
-empty-placed = record { sixteen = refl; four = all-replicate FourTuples 16 noStream refl }
+empty-placed = record { sixteen = refl; four = all-replicate FourPlaces 16 noStream (record { stages = refl; tuples = refl }) }
 
 answered-placed : (bs : List ℕ) (a : ReadAnswer) (x : Set) → Answered bs a x → Placed x
 answered-placed bs Read x t = t .placed

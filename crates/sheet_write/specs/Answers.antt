@@ -37,9 +37,9 @@ pub record ReadRefusal (s : List ℕ) (no : ℕ) : Type 0 where
 unfoldable pub ReadRefusals : Type 0
 ReadRefusals = (s : List ℕ) (no : ℕ) → readingSays s ≡ refused no → ReadRefusal s no
 
--- "a bad version 6": there are bits for the version, and they are not 1
+-- "a bad version 6"; request 4: "6 is no longer given for version 2": there are bits for the version, and they are neither 1 nor 2
 unfoldable pub SixExactly : Type 0
-SixExactly = (s : List ℕ) → readingSays s ≡ refused 6 ↔ (4 ≤ length (bits s)) × (value (take 4 (bits s)) ≡ 1 → ⊥)
+SixExactly = (s : List ℕ) → readingSays s ≡ refused 6 ↔ (4 ≤ length (bits s)) × ((value (take 4 (bits s)) ≡ 1 → ⊥) × (value (take 4 (bits s)) ≡ 2 → ⊥))
 
 -- "After the last field, a set padding bit or a further byte gives 10."
 unfoldable pub TenExactly : Type 0
@@ -56,6 +56,10 @@ WriteElevenExactly = (x : Set) (room : ℕ) → writingSays x room ≡ refused 1
 -- else it is written, and no other number is given
 unfoldable pub WroteExactly : Type 0
 WroteExactly = (x : Set) (room : ℕ) → writingSays x room ≡ wrote (length (sheetOf x)) ↔ (valid x ≡ true) × (length (sheetOf x) ≤ room)
+
+-- two sets have two sheets, and so have two versions of the same streams
+unfoldable pub SheetTells : Type 0
+SheetTells = (x y : Set) → valid x ≡ true → valid y ≡ true → Placed x → Placed y → sheetOf x ≡ sheetOf y → x ≡ y
 
 -- what is read, or the empty set of a refusal, has the places that its type gives it
 unfoldable pub ReadPlaced : Type 0

@@ -12,8 +12,8 @@ ghost use lib.ListN.{drop, length, replicate};
 ghost use lib.Seq.{paste};
 ghost use Rattle.laws.specs.Lists.{flat};
 ghost use Rattle.laws.specs.Bits.{bits, toBits};
-ghost use Rattle.rules.specs.Streams.{offset, streamsOf, tuplesOf};
-ghost use Rattle.rules.specs.Sheet.{placeBits, streamBits, sheetBits, writeOf, bufferOf};
+ghost use Rattle.rules.specs.Streams.{offset, stagesOf, streamsOf, tuplesOf};
+ghost use Rattle.rules.specs.Sheet.{placeBits, stageBits, headBits, streamBits, sheetBits, writeOf, bufferOf};
 ghost use Rattle.sheet_write.specs.Writer.{cycleOf, Written, WrittenSet};
 
 // "0 for once"
@@ -55,6 +55,21 @@ fn clear(buf: &mut [u8], n: usize)
     }
 }
 
+fn put_stages(buf: &mut [u8], at: usize, s: Stream)
+    requires { ⌜ Written s × (at ≤ 4000) × (at + length (flat stageBits (stagesOf s)) ≤ 8 * length (now buf)) ⌝ }
+    ensures { λ r. ⌜ bits (now (buf .exit)) ≡ paste (bits (now (buf .entry))) at (flat stageBits (stagesOf s)) (length (flat stageBits (stagesOf s))) ⌝ }
+{
+    let n = s.depth;
+    let mut k: usize = 0;
+    while k < n {
+        let g = s.stages[k];
+        let here = at + 20 * k;
+        put(buf, here, 4, g.task as u32);
+        put(buf, here + 4, 16, g.cost);
+        k += 1;
+    }
+}
+
 fn put_tuples(buf: &mut [u8], at: usize, s: Stream)
     requires { ⌜ Written s × (at ≤ 4000) × (at + length (flat placeBits (tuplesOf s)) ≤ 8 * length (now buf)) ⌝ }
     ensures { λ r. ⌜ bits (now (buf .exit)) ≡ paste (bits (now (buf .entry))) at (flat placeBits (tuplesOf s)) (length (flat placeBits (tuplesOf s))) ⌝ }
@@ -71,37 +86,65 @@ fn put_tuples(buf: &mut [u8], at: usize, s: Stream)
     }
 }
 
-// How many bits the fields of a stream have.
-fn stream_end(s: Stream) -> usize
+// How many bits a stream has before the number of its tuples.
+fn head_end(version: u32, s: Stream) -> usize
     requires { ⌜ Written s ⌝ }
-    ensures { λ r. ⌜ r ≡ length (streamBits s) ⌝ }
+    ensures { λ r. ⌜ r ≡ length (headBits version s) ⌝ }
 {
-    let n = s.count;
-    40 + 37 * n
+    let n = s.depth;
+    match version {
+        1 => 18 + 20 * n,
+        _ => 20 + 20 * n,
+    }
 }
 
-fn put_stream(buf: &mut [u8], at: usize, s: Stream)
-    requires { ⌜ Written s × (at ≤ 3900) × (at + length (streamBits s) ≤ 8 * length (now buf)) ⌝ }
-    ensures { λ r. ⌜ bits (now (buf .exit)) ≡ paste (bits (now (buf .entry))) at (streamBits s) (length (streamBits s)) ⌝ }
+// Version 1: the stage, then the deadline. Version 2: the deadline, then stages less one, and the stages.
+fn put_head(buf: &mut [u8], at: usize, version: u32, s: Stream)
+    requires { ⌜ Written s × (at ≤ 3900) × (at + length (headBits version s) ≤ 8 * length (now buf)) ⌝ }
+    ensures { λ r. ⌜ bits (now (buf .exit)) ≡ paste (bits (now (buf .entry))) at (headBits version s) (length (headBits version s)) ⌝ }
 {
-    put(buf, at, 4, s.task as u32);
-    put(buf, at + 4, 16, s.cost);
-    put(buf, at + 20, 18, s.deadline);
-    put(buf, at + 38, 2, (s.count - 1) as u32);
-    put_tuples(buf, at + 40, s);
+    let n = s.depth;
+    if version == 1 {
+        put_stages(buf, at, s);
+        put(buf, at + 20 * n, 18, s.deadline);
+    } else {
+        put(buf, at, 18, s.deadline);
+        put(buf, at + 18, 2, (n - 1) as u32);
+        put_stages(buf, at + 20, s);
+    }
+}
+
+// How many bits the fields of a stream have.
+fn stream_end(version: u32, s: Stream) -> usize
+    requires { ⌜ Written s ⌝ }
+    ensures { λ r. ⌜ r ≡ length (streamBits version s) ⌝ }
+{
+    let n = s.count;
+    head_end(version, s) + 2 + 37 * n
+}
+
+fn put_stream(buf: &mut [u8], at: usize, version: u32, s: Stream)
+    requires { ⌜ Written s × (at ≤ 3800) × (at + length (streamBits version s) ≤ 8 * length (now buf)) ⌝ }
+    ensures { λ r. ⌜ bits (now (buf .exit)) ≡ paste (bits (now (buf .entry))) at (streamBits version s) (length (streamBits version s)) ⌝ }
+{
+    put_head(buf, at, version, s);
+    let end = at + head_end(version, s);
+    put(buf, end, 2, (s.count - 1) as u32);
+    put_tuples(buf, end + 2, s);
 }
 
 fn put_streams(buf: &mut [u8], x: Set)
-    requires { ⌜ WrittenSet x × (9 + length (flat streamBits (streamsOf x)) ≤ 8 * length (now buf)) ⌝ }
-    ensures { λ r. ⌜ bits (now (buf .exit)) ≡ paste (bits (now (buf .entry))) 9 (flat streamBits (streamsOf x)) (length (flat streamBits (streamsOf x))) ⌝ }
+    requires { ⌜ WrittenSet x × (9 + length (flat (streamBits (x .version)) (streamsOf x)) ≤ 8 * length (now buf)) ⌝ }
+    ensures { λ r. ⌜ bits (now (buf .exit)) ≡ paste (bits (now (buf .entry))) 9 (flat (streamBits (x .version)) (streamsOf x)) (length (flat (streamBits (x .version)) (streamsOf x))) ⌝ }
 {
     let n = x.count;
+    let version = x.version;
     let mut at: usize = 9;
     let mut k: usize = 0;
     while k < n {
         let s = x.streams[k];
-        put_stream(buf, at, s);
-        at += stream_end(s);
+        put_stream(buf, at, version, s);
+        at += stream_end(version, s);
         k += 1;
     }
 }
@@ -112,11 +155,12 @@ fn fields_end(x: Set) -> usize
     ensures { λ r. ⌜ r ≡ length (sheetBits x) ⌝ }
 {
     let n = x.count;
+    let version = x.version;
     let mut end: usize = 9;
     let mut k: usize = 0;
     while k < n {
         let s = x.streams[k];
-        end += stream_end(s);
+        end += stream_end(version, s);
         k += 1;
     }
     end
@@ -132,7 +176,7 @@ pub fn write(x: Set, buf: &mut [u8]) -> WriteAnswer
         if n <= buf.len() {
             let count = x.count;
             clear(buf, n);
-            put(buf, 0, 4, 1);
+            put(buf, 0, 4, x.version);
             put(buf, 4, 5, count as u32);
             put_streams(buf, x);
             return WriteAnswer::Wrote(n);

@@ -3,7 +3,7 @@
 use Prim.Native.Nat.{ℕ, _+_, _-_, _≤_, _<_}
 use mathlib.Core.Bool.{Bool, true, false, false≢true}
 use mathlib.Core.List.{[], _∷_}
-use mathlib.Core.Path.{_≡_, refl, sym, _∙_}
+use mathlib.Core.Path.{_≡_, refl, ap, sym, _∙_}
 use native.Mathlib.Omega.{arith}
 use borrow.Author.Tests.{leb-true, le-leb, eqb-true}
 use lib.Dec.{eqb}
@@ -16,17 +16,17 @@ use Rattle.rules.specs.declared.Set.{Set}
 use Rattle.rules.specs.declared.Stream.{Stream}
 use Rattle.rules.specs.declared.Message.{Message}
 use Rattle.rules.specs.declared.State.{State}
-use Rattle.rules.specs.Streams.{streamAt, noStream, valid}
-use Rattle.rules.specs.States.{noMessage, pending, taskOf, postedAt, messageOk, messagesOk, startedOnce, messageUnused, lastClock, stateTests, wellFormed}
+use Rattle.rules.specs.Streams.{noStage, noStream, streamAt, stageAt, valid}
+use Rattle.rules.specs.States.{noMessage, pending, stagesIn, stageOf, taskOf, postedAt, messageOk, messagesOk, startedOnce, messageUnused, lastClock, stateTests, wellFormed}
 use Rattle.rules.specs.Steps.{messageAt}
-use Rattle.rules.specs.Valid.{ValidStream, ValidSet}
+use Rattle.rules.specs.Valid.{ValidStage, ValidStream, ValidSet}
 use Rattle.rules.proofs.Valid.{valid-set}
 use Rattle.state_formed.specs.InRange.{InRange, restFormed}
-use Rattle.state_formed.proofs.Standing.{Standing, standing}
+use Rattle.state_formed.proofs.Standing.{Standing, standing, stage-room}
 
 -- the default of a place that the machine reads within an array
 abbrev pub blank : Stream
-blank = record { task = 0; cost = 0; deadline = 0; count = 0; tuples = [] }
+blank = record { depth = 0; stages = []; deadline = 0; count = 0; tuples = [] }
 
 pub record WellFormed (s : State) : Type 0 where
   pub set : valid (s .set) ≡ true
@@ -59,9 +59,9 @@ unused-zero s h j q =
   where
     zero-message : (m : Message) → messageUnused m ≡ true → m ≡ noMessage
     zero-message m e =
-        let t = every-at (eqb (m .stream) 0 ∷ eqb (m .deadline) 0 ∷ eqb (m .used) 0 ∷ []) in
-        let all-zero : _≡_ {A = Message} (record { stream = m .stream; deadline = m .deadline; used = m .used }) noMessage =
-        rw (eqb-true (m .stream) 0 (t 0 e), eqb-true (m .deadline) 0 (t 1 e), eqb-true (m .used) 0 (t 2 e)) in
+        let t = every-at (eqb (m .stream) 0 ∷ eqb (m .deadline) 0 ∷ eqb (m .used) 0 ∷ eqb (m .stage) 0 ∷ []) in
+        let all-zero : _≡_ {A = Message} (record { stream = m .stream; deadline = m .deadline; used = m .used; stage = m .stage }) noMessage =
+        rw (eqb-true (m .stream) 0 (t 0 e), eqb-true (m .deadline) 0 (t 1 e), eqb-true (m .used) 0 (t 2 e), eqb-true (m .stage) 0 (t 3 e)) in
         all-zero
 
 -- a stream of a valid set
@@ -82,6 +82,13 @@ module _ (s : State) (h : InRange s) (ms : length (s .messages) ≡ 64) (k : ℕ
   pub stream-in : messageAt s k .stream < s .set .count
   stream-in = stands .1 .stream
 
+  -- its stage is one of its stream's, and has a place
+  pub stage-in : messageAt s k .stage < stagesIn (s .set) (messageAt s k)
+  stage-in = stands .1 .stage
+
+  stage-inside : messageAt s k .stage < length (streamAt (s .set) (messageAt s k .stream) .stages)
+  stage-inside = stage-room (s .set) (s .clock) (stands .0) (messageAt s k) (stands .1)
+
   pub stream-place : messageAt s k .stream < 16
   stream-place = omega (arith, stream-in, valid-set (s .set) (h .set) .count)
 
@@ -89,15 +96,23 @@ module _ (s : State) (h : InRange s) (ms : length (s .messages) ≡ 64) (k : ℕ
     pub message-stream : ValidStream (streamAt (s .set) (messageAt s k .stream))
     message-stream = stream-valid (s .set) (messageAt s k .stream) (h .set) ss stream-in
 
+    pub stage-place : messageAt s k .stage < 4
+    stage-place = omega (arith, stage-in, message-stream .depth .high)
+
+    pub message-stage : ValidStage (stageOf (s .set) (messageAt s k))
+    message-stage =
+        let y : Stream = streamAt (s .set) (messageAt s k .stream) in
+        all-take-at ValidStage (y .stages) (y .depth) (messageAt s k .stage) noStage stage-in stage-inside (message-stream .stages)
+
     pub task-in : taskOf (s .set) (messageAt s k) < 16
-    task-in = omega (arith, message-stream .task)
+    task-in = omega (arith, message-stage .task)
 
     -- the same of the stream as the code reads it, within the array
     pub stream-read : getD (s .set .streams) (messageAt s k .stream) blank ≡ streamAt (s .set) (messageAt s k .stream)
     stream-read = getD-any (s .set .streams) (messageAt s k .stream) blank noStream (omega (arith, stream-place))
 
-    pub task-read : getD (s .set .streams) (messageAt s k .stream) blank .task < 16
-    task-read = rw stream-read task-in
+    pub stage-read : stageAt (getD (s .set .streams) (messageAt s k .stream) blank) (messageAt s k .stage) ≡ stageOf (s .set) (messageAt s k)
+    stage-read = ap (λ (y : Stream). stageAt y (messageAt s k .stage)) stream-read
 
 -- a test that fails, of those behind the set's
 pub no-test : (s : State) (k : ℕ) → getD (drop 1 (stateTests s)) k true ≡ false → false ≡ restFormed s

@@ -12,18 +12,19 @@ pub fn no_message() -> Message
         stream: 0,
         deadline: 0,
         used: 0,
+        stage: 0,
     }
 }
 
 fn message_unused(m: Message) -> bool
     ensures { λ r. ⌜ r ≡ messageUnused m ⌝ }
 {
-    (m.stream == 0) & ((m.deadline == 0) & (m.used == 0))
+    (m.stream == 0) & ((m.deadline == 0) & ((m.used == 0) & (m.stage == 0)))
 }
 
-// The tests of a state but for the first, that its set is valid. A first pass over the pending messages: each names a stream of the set, has
-// used less than c, was posted by now and not before the one in front of it, and is its task's only started one. A second over the places behind: they
-// are zero. Both passes stand here, since what is handed to another function is copied.
+// The tests of a state but for the first, that its set is valid. A first pass over the pending messages: each names a stream of the set and one of its
+// stages, has used less than that stage's c, was posted by now and not before the one in front of it, and is that stage's task's only started one. A second
+// over the places behind: they are zero. Both passes stand here, since what is handed to another function is copied.
 pub fn formed(s: State) -> bool
     ensures { λ r. ⌜ r ≡ restFormed s ⌝ }
 {
@@ -41,14 +42,19 @@ pub fn formed(s: State) -> bool
     while k < s.count {
         let m = messages[k];
         let i = m.stream;
-        if !((i < set.count) & (i < 16)) {
+        let j = m.stage;
+        if !((i < set.count) & ((i < 16) & (j < 4))) {
             return false;
         }
         let x = set.streams[i];
-        let t = x.task;
+        // an index reads from a copy: of the stages alone
+        let gs = x.stages;
+        let g = gs[j];
+        let t = g.task;
         let at = stream_valid::less(m.deadline, x.deadline);
-        let ok = (m.used < x.cost)
-            & (((x.deadline <= m.deadline) & (at <= s.clock)) & (before <= at));
+        let ok = (j < x.depth)
+            & ((m.used < g.cost)
+                & (((x.deadline <= m.deadline) & (at <= s.clock)) & (before <= at)));
         if !ok {
             return false;
         }

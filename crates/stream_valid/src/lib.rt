@@ -1,11 +1,13 @@
 // Streams and sets: is a set valid, and what is read of it.
 ghost use mathlib.Core.Path.{_≡_};
-ghost use mathlib.Core.Bool.{cond, _&&_};
+ghost use mathlib.Core.Bool.{true, cond, _&&_};
+ghost use lib.Dec.{eqb};
 ghost use lib.ListN.{drop};
 ghost use Prim.Native.Nat.{_-_};
 ghost use Rattle.laws.specs.Lists.{all};
-ghost use Rattle.rules.specs.Streams.{offset, cycleOk, tupleOk, tuplesOk, tupleUnused, tuplesOf, streamOk, streamUnused, streamsOf, valid, noTuple, noStream, emptySet, streamAt};
+ghost use Rattle.rules.specs.Streams.{offset, cycleOk, tupleOk, tuplesOk, tupleUnused, tuplesOf, stageOk, stageUnused, stagesOf, streamOk, streamUnused, oneStage, streamsOf, valid, noTuple, noStage, noStream, emptySet, streamAt};
 use rules::Set;
+use rules::Stage;
 use rules::Stream;
 use rules::Tuple;
 use rules::TuplePlace;
@@ -94,6 +96,55 @@ fn tuples_unused(s: Stream) -> bool
     ok
 }
 
+fn stage_ok(g: Stage) -> bool
+    ensures { λ r. ⌜ r ≡ stageOk g ⌝ }
+{
+    (g.task <= 15) & ((1 <= g.cost) & (g.cost <= 65535))
+}
+
+fn stage_unused(g: Stage) -> bool
+    ensures { λ r. ⌜ r ≡ stageUnused g ⌝ }
+{
+    (g.task == 0) & (g.cost == 0)
+}
+
+// A place for a stage, in use or not.
+fn stage_fits(used: bool, g: Stage) -> bool
+    ensures { λ r. ⌜ r ≡ cond used (stageOk g) (stageUnused g) ⌝ }
+{
+    if used { stage_ok(g) } else { stage_unused(g) }
+}
+
+// The stages in use are in the rules; the other places are unused.
+fn stages_fit(s: Stream) -> bool
+    ensures { λ r. ⌜ r ≡ (all stageOk (stagesOf s) && all stageUnused (drop (s .depth) (s .stages))) ⌝ }
+{
+    let n = s.depth;
+    let mut ok = true;
+    let mut k: usize = 0;
+    while k < 4 {
+        let g = s.stages[k];
+        let fits = stage_fits(k < n, g);
+        ok = ok & fits;
+        k = k + 1;
+    }
+    ok
+}
+
+fn stages_unused(s: Stream) -> bool
+    ensures { λ r. ⌜ r ≡ all stageUnused (s .stages) ⌝ }
+{
+    let mut ok = true;
+    let mut k: usize = 0;
+    while k < 4 {
+        let g = s.stages[k];
+        let fits = stage_unused(g);
+        ok = ok & fits;
+        k = k + 1;
+    }
+    ok
+}
+
 fn stream_ok(s: Stream) -> bool
     ensures { λ r. ⌜ r ≡ streamOk s ⌝ }
 {
@@ -101,8 +152,9 @@ fn stream_ok(s: Stream) -> bool
     let t = p.tuple;
     let a = offset_of(t);
     let fit = tuples_fit(s);
-    (s.task <= 15)
-        & (((1 <= s.cost) & (s.cost <= 65535))
+    let staged = stages_fit(s);
+    ((1 <= s.depth) & (s.depth <= 4))
+        & (staged
             & (((1 <= s.deadline) & (s.deadline <= 200000))
                 & (((1 <= s.count) & (s.count <= 4)) & ((a == 0) & fit))))
 }
@@ -111,7 +163,8 @@ fn stream_unused(s: Stream) -> bool
     ensures { λ r. ⌜ r ≡ streamUnused s ⌝ }
 {
     let rest = tuples_unused(s);
-    (s.task == 0) & ((s.cost == 0) & ((s.deadline == 0) & ((s.count == 0) & rest)))
+    let unstaged = stages_unused(s);
+    (s.depth == 0) & (unstaged & ((s.deadline == 0) & ((s.count == 0) & rest)))
 }
 
 // A place for a stream, in use or not.
@@ -121,20 +174,38 @@ fn stream_fits(used: bool, s: Stream) -> bool
     if used { stream_ok(s) } else { stream_unused(s) }
 }
 
+// A place for a stream, in use or not: a stream in use has one stage.
+fn one_stage(used: bool, s: Stream) -> bool
+    ensures { λ r. ⌜ r ≡ cond used (oneStage s) true ⌝ }
+{
+    if used { s.depth == 1 } else { true }
+}
+
+// Is the set's version one of the two? `single` says whether every stream has one stage.
+fn version_ok(version: u32, single: bool) -> bool
+    ensures { λ r. ⌜ r ≡ cond (eqb version 1) single (eqb version 2) ⌝ }
+{
+    if version == 1 { single } else { version == 2 }
+}
+
 // Is the set valid? No place ends the loop early: most sets are valid, and their tests run side by side.
 pub fn is_valid(x: Set) -> bool
     ensures { λ r. ⌜ r ≡ valid x ⌝ }
 {
     let n = x.count;
     let mut ok = n <= 16;
+    let mut single = true;
     let mut k: usize = 0;
     while k < 16 {
         let s = x.streams[k];
         let fits = stream_fits(k < n, s);
         ok = ok & fits;
+        let one = one_stage(k < n, s);
+        single = single & one;
         k = k + 1;
     }
-    ok
+    let version = version_ok(x.version, single);
+    ok & version
 }
 
 // ---- places
@@ -146,13 +217,20 @@ fn no_tuple() -> TuplePlace
     TuplePlace { tuple: t }
 }
 
+fn no_stage() -> Stage
+    ensures { λ r. ⌜ r ≡ noStage ⌝ }
+{
+    Stage { task: 0, cost: 0 }
+}
+
 fn no_stream() -> Stream
     ensures { λ r. ⌜ r ≡ noStream ⌝ }
 {
+    let gs = [no_stage(); 4];
     let ts = [no_tuple(); 4];
     Stream {
-        task: 0,
-        cost: 0,
+        depth: 0,
+        stages: gs,
         deadline: 0,
         count: 0,
         tuples: ts,
@@ -166,6 +244,7 @@ pub fn empty_set() -> Set
     Set {
         count: 0,
         streams: ss,
+        version: 1,
     }
 }
 

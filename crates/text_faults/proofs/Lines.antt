@@ -15,7 +15,7 @@ use Rattle.line.specs.Line.{holding, putOf, puts}
 use Rattle.ascii.proofs.Digits.{digits-short}
 use Rattle.line.proofs.Puts.{then, last, single, holds}
 use Rattle.text_line.specs.declared.Fault.{Fault}
-use Rattle.text_line.specs.declared.Fault.the-variants.{NotTask, Task, NotCost, Cost, NotDeadline, Deadline, NotTuple, Cycle, Offset, FiveTuples, NotJitter, Jitter, LongLine, ManyStreams}
+use Rattle.text_line.specs.declared.Fault.the-variants.{NotTask, Task, NotCost, Cost, TwoStages, FiveStages, NotDeadline, Deadline, NotTuple, Cycle, Offset, FiveTuples, NotJitter, Jitter, LongLine, LateVersion, ManyStreams}
 use Rattle.text_faults.specs.Notes.{faultWords, faultLine, plural, madeLine}
 
 -- what was put on a blank line is what it holds
@@ -27,6 +27,8 @@ words-short NotTask = omega arith
 words-short Task = omega arith
 words-short NotCost = omega arith
 words-short Cost = omega arith
+words-short TwoStages = omega arith
+words-short FiveStages = omega arith
 words-short NotDeadline = omega arith
 words-short Deadline = omega arith
 words-short NotTuple = omega arith
@@ -36,6 +38,7 @@ words-short FiveTuples = omega arith
 words-short NotJitter = omega arith
 words-short Jitter = omega arith
 words-short LongLine = omega arith
+words-short LateVersion = omega arith
 words-short ManyStreams = omega arith
 
 -- a number with its space, behind a word

@@ -6,7 +6,7 @@ use mathlib.Core.List.{List, [], _++_}
 use lib.Dec.{eqb}
 use Rattle.ascii.specs.Decimal.{letters, decimalOf, spaced, newline}
 use Rattle.text_line.specs.declared.Fault.{Fault}
-use Rattle.text_line.specs.declared.Fault.the-variants.{NotTask, Task, NotCost, Cost, NotDeadline, Deadline, NotTuple, Cycle, Offset, FiveTuples, NotJitter, Jitter, LongLine, ManyStreams}
+use Rattle.text_line.specs.declared.Fault.the-variants.{NotTask, Task, NotCost, Cost, TwoStages, FiveStages, NotDeadline, Deadline, NotTuple, Cycle, Offset, FiveTuples, NotJitter, Jitter, LongLine, LateVersion, ManyStreams}
 
 -- what is wrong with a line
 abbrev pub faultWords : Fault → List ℕ
@@ -14,6 +14,8 @@ faultWords NotTask = letters "the line does not begin with task and a number"
 faultWords Task = letters "the task is not from 0 to 15"
 faultWords NotCost = letters "the task is not followed by cost and a number"
 faultWords Cost = letters "the cost is not from 1 to 65535"
+faultWords TwoStages = letters "there is more than one stage, and the first line is not version 2"
+faultWords FiveStages = letters "there are more than 4 stages"
 faultWords NotDeadline = letters "the cost is not followed by deadline and a number"
 faultWords Deadline = letters "the deadline is not from 1 to 200000"
 faultWords NotTuple = letters "the deadline is not followed by tuples alone, such as once@0 or every 20@0"
@@ -23,6 +25,7 @@ faultWords FiveTuples = letters "there are more than 4 tuples"
 faultWords NotJitter = letters "jitter is not followed by two numbers alone, such as jitter 20 2"
 faultWords Jitter = letters "the jitter Z J is out of rule: Z from 1 to 1000000, 2J at most Z, Z - 2J at most 100000"
 faultWords LongLine = letters "the line is too long for a stream"
+faultWords LateVersion = letters "version 2 is not the first line"
 faultWords ManyStreams = letters "there are more than 16 streams"
 
 -- `line 3: the cost is not from 1 to 65535`

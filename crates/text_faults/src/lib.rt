@@ -14,6 +14,11 @@ fn fault(l: Line, why: Fault) -> Line
         Fault::Task => line::word(l, b"the task is not from 0 to 15"),
         Fault::NotCost => line::word(l, b"the task is not followed by cost and a number"),
         Fault::Cost => line::word(l, b"the cost is not from 1 to 65535"),
+        Fault::TwoStages => line::word(
+            l,
+            b"there is more than one stage, and the first line is not version 2",
+        ),
+        Fault::FiveStages => line::word(l, b"there are more than 4 stages"),
         Fault::NotDeadline => line::word(l, b"the cost is not followed by deadline and a number"),
         Fault::Deadline => line::word(l, b"the deadline is not from 1 to 200000"),
         Fault::NotTuple => line::word(
@@ -35,6 +40,7 @@ fn fault(l: Line, why: Fault) -> Line
             b"the jitter Z J is out of rule: Z from 1 to 1000000, 2J at most Z, Z - 2J at most 100000",
         ),
         Fault::LongLine => line::word(l, b"the line is too long for a stream"),
+        Fault::LateVersion => line::word(l, b"version 2 is not the first line"),
         Fault::ManyStreams => line::word(l, b"there are more than 16 streams"),
     }
 }

@@ -1,47 +1,33 @@
--- What a line that was put together says.
+-- What a row that keeps the bytes of a line says.
 -- Assumes nothing.
-use Prim.Native.Nat.{ℕ, zero, suc, _+_, _-_, _≤_, _<_}
+use Prim.Native.Nat.{ℕ, _-_, _≤_, _<_}
 use native.Mathlib.Omega.{arith}
 use mathlib.Core.Path.{_≡_, refl, sym, ap, _∙_}
 use mathlib.Core.Bool.{true, false, cond}
 use mathlib.Core.List.{List, [], _∷_, _++_}
-use lib.ListN.{length, take, length-append}
-use lib.Seq.{take-append-seam}
-use lib.Dec.{ltb}
-use borrow.Author.Tests.{lt-ltb, le-ltb, ltb-true, ltb-false}
+use lib.ListN.{length, take}
+use lib.Seq.{take-append-seam, take-all}
+use lib.Dec.{ltb, leb}
+use borrow.Author.Tests.{le-leb, lt-leb, lt-ltb, ltb-false}
 use Rattle.laws.proofs.Sums.{by-test}
 use Rattle.laws.specs.Bits.{zeros}
-use Rattle.line.specs.declared.Line.{Line}
-use Rattle.line.specs.Line.{holding, putOf, puts}
-use Rattle.line.proofs.Puts.{holds}
+use Rattle.text_tidy.specs.Tidied.{rowOf}
 use Rattle.text_line.specs.declared.Fault.the-variants.{LongLine}
-use Rattle.text_line.specs.Lines.{lineRead, judged, bad}
+use Rattle.text_line.specs.Lines.{lineRead, longest, judged, bad}
+use Rattle.text_line.proofs.Ways.{longest-fits}
 
-pub judged-short : (v : List ℕ) → length v < 128 → judged (puts (holding []) v) ≡ lineRead v
-unfolding judged holding
-judged-short v h =
-    rw (holds [] v (omega arith), lt-ltb (length v) 128 h, take-append-seam v (zeros (128 - length v)))
+module _ (version : ℕ) (v : List ℕ) where
+  fits : longest version ≤ 191
+  fits = longest-fits version (longest version) refl
 
--- more bytes than a line has places fill it
-put-size : (l : Line) (b k : ℕ) → l .len ≤ 128 → 128 ≤ l .len + suc k → (putOf l b .len ≤ 128) × (128 ≤ putOf l b .len + k)
-unfolding putOf
-put-size l b k h g =
-    by-test (ltb (l .len) 128) (λ e. rw e (let z : l .len < 128 = ltb-true (l .len) 128 e in (omega arith, omega arith)))
-    (λ e. rw e (let z : 128 ≤ l .len = ltb-false (l .len) 128 e in (omega arith, omega arith)))
+  pub judged-short : length v ≤ longest version → judged version (rowOf v) ≡ lineRead version v
+  unfolding judged rowOf
+  judged-short h =
+      let room : length v < 192 = omega (arith, fits) in
+      rw (lt-ltb (length v) 192 room, le-leb (length v) (longest version) h, take-all 192 v (omega arith), take-append-seam v (zeros (192 - length v)))
 
-filled : (l : Line) (v : List ℕ) → l .len ≤ 128 → 128 ≤ l .len + length v → puts l v .len ≡ 128
-unfolding puts
-filled l [] h g = omega arith
-filled l (b ∷ v) h g =
-    let u : (putOf l b .len ≤ 128) × (128 ≤ putOf l b .len + length v) = put-size l b (length v) h g in
-    filled (putOf l b) v (u .0) (u .1)
-
-blank-len : holding [] .len ≡ 0
-unfolding holding
-blank-len = refl
-
-pub judged-long : (v : List ℕ) → 128 ≤ length v → judged (puts (holding []) v) ≡ bad LongLine
-unfolding judged
-judged-long v h =
-    let full : puts (holding []) v .len ≡ 128 = filled (holding []) v (omega (arith, blank-len)) (omega (arith, blank-len)) in
-    rw (le-ltb (puts (holding []) v .len) 128 (omega arith))
+  pub judged-long : longest version < length v → judged version (rowOf v) ≡ bad LongLine
+  unfolding judged rowOf
+  judged-long h =
+      let more : (n : ℕ) → longest version < n → cond (leb n (longest version)) (lineRead version (take n (rowOf v .bytes))) (bad LongLine) ≡ bad LongLine = λ n g. rw (lt-leb n (longest version) g) in
+      by-test (ltb (length v) 192) (λ e. rw e (more (length v) h)) (λ e. rw e (more 192 (omega (arith, fits))))

@@ -1,4 +1,4 @@
--- A valid stream's line is short: at most 118 bytes.
+-- A valid stream's line is short: at most 118 bytes with one stage, and 175 with four.
 -- Assumes nothing.
 use Prim.Native.Nat.{ℕ, zero, suc, _+_, _-_, _*_, _/_, _%_, _^_, _≤_, _<_}
 use native.Mathlib.Omega.{arith}
@@ -14,12 +14,13 @@ use Rattle.laws.proofs.Sums.{by-test}
 use Rattle.rules.specs.declared.Tuple.{Tuple}
 use Rattle.rules.specs.declared.Tuple.the-variants.{Once, Every}
 use Rattle.rules.specs.declared.TuplePlace.{TuplePlace}
+use Rattle.rules.specs.declared.Stage.{Stage}
 use Rattle.rules.specs.declared.Stream.{Stream}
-use Rattle.rules.specs.Streams.{offset, tuplesOf, streamOk}
-use Rattle.rules.specs.Valid.{Between, ValidCycle, ValidPlace, ValidStream}
+use Rattle.rules.specs.Streams.{offset, stagesOf, tuplesOf, streamOk}
+use Rattle.rules.specs.Valid.{Between, ValidCycle, ValidPlace, ValidStage, ValidStream}
 use Rattle.rules.proofs.Valid.{valid-stream}
 use Rattle.ascii.specs.Decimal.{letters, digitsOf, decimalOf}
-use Rattle.text_line.specs.Lines.{tupleText, placeText, streamText}
+use Rattle.text_line.specs.Lines.{stageText, tupleText, placeText, stagesText, limitText, streamText}
 
 -- a number below a power of ten has no more digits than the power has noughts
 pub digits-few : (m k n : ℕ) → n < 10 ^ suc k → length (digitsOf m n) ≤ suc k
@@ -49,21 +50,47 @@ tuples-short [] h = omega arith
 tuples-short (p ∷ ts) h =
     omega (arith, length-append (placeText p) (flat placeText ts), tuple-short (p .tuple) (h .0 .offset) (h .0 .cycle), tuples-short ts (h .1))
 
-pub stream-short : (s : Stream) → streamOk s ≡ true → length (streamText s) ≤ 118
-unfolding streamText
-stream-short s ok =
-    let v : ValidStream s = valid-stream s ok in
-    let four : length (tuplesOf s) ≤ 4 = omega (arith, length-take (s .count) (s .tuples), v .count .high) in
+stage-short : (g : Stage) → ValidStage g → length (stageText g) ≤ 19
+stage-short g v =
     omega (
       arith,
-      length-append (letters "task " ++ decimalOf (s .task) ++ (letters " cost " ++ decimalOf (s .cost)) ++ (letters " deadline " ++ decimalOf (s .deadline))) (flat placeText (tuplesOf s)),
-      length-append (letters "task " ++ decimalOf (s .task) ++ (letters " cost " ++ decimalOf (s .cost))) (letters " deadline " ++ decimalOf (s .deadline)),
-      length-append (letters "task " ++ decimalOf (s .task)) (letters " cost " ++ decimalOf (s .cost)),
-      length-append (letters "task ") (decimalOf (s .task)),
-      length-append (letters " cost ") (decimalOf (s .cost)),
-      length-append (letters " deadline ") (decimalOf (s .deadline)),
-      digits-few 20 1 (s .task) (omega (arith, v .task)),
-      digits-few 20 4 (s .cost) (omega (arith, v .cost .high)),
-      digits-few 20 5 (s .deadline) (omega (arith, v .deadline .high)),
-      tuples-short (tuplesOf s) (v .tuples),
+      length-append (letters "task " ++ decimalOf (g .task) ++ (letters " cost " ++ decimalOf (g .cost))) (letters " "),
+      length-append (letters "task " ++ decimalOf (g .task)) (letters " cost " ++ decimalOf (g .cost)),
+      length-append (letters "task ") (decimalOf (g .task)),
+      length-append (letters " cost ") (decimalOf (g .cost)),
+      digits-few 20 1 (g .task) (omega (arith, v .task)),
+      digits-few 20 4 (g .cost) (omega (arith, v .cost .high)),
     )
+
+all-short : (gs : List Stage) → All ValidStage gs → length (flat stageText gs) ≤ 19 * length gs
+unfolding flat
+all-short [] h = omega arith
+all-short (g ∷ gs) h =
+    omega (arith, length-append (stageText g) (flat stageText gs), stage-short g (h .0), all-short gs (h .1))
+
+module _ (s : Stream) (ok : streamOk s ≡ true) where
+  v : ValidStream s
+  v = valid-stream s ok
+
+  pub stages-short : length (stagesText s) ≤ 19 * s .depth
+  unfolding stagesText
+  stages-short = omega (arith, length-take (s .depth) (s .stages), all-short (stagesOf s) (v .stages))
+
+  pub limit-short : length (limitText s) ≤ 99
+  unfolding limitText
+  limit-short =
+      let four : length (tuplesOf s) ≤ 4 = omega (arith, length-take (s .count) (s .tuples), v .count .high) in
+      omega (
+        arith,
+        length-append (letters "deadline " ++ decimalOf (s .deadline)) (flat placeText (tuplesOf s)),
+        length-append (letters "deadline ") (decimalOf (s .deadline)),
+        digits-few 20 5 (s .deadline) (omega (arith, v .deadline .high)),
+        tuples-short (tuplesOf s) (v .tuples),
+      )
+
+  -- a stream with one stage has at most 118 bytes, one with four at most 175
+  pub stream-short : length (streamText s) ≤ 19 * s .depth + 99
+  stream-short = omega (arith, length-append (stagesText s) (limitText s), stages-short, limit-short)
+
+  pub stream-fits : length (streamText s) ≤ 175
+  stream-fits = omega (arith, stream-short, v .depth .high)

@@ -6,9 +6,11 @@ use mathlib.Core.Path.{_≡_, refl, sym, ap, _∙_}
 use mathlib.Core.Bool.{Bool, true, false, cond}
 use mathlib.Core.List.{List, [], _∷_}
 use lib.ListN.{length, take, length-take}
-use lib.Dec.{leb, ltb, eqb}
-use borrow.Author.Tests.{le-leb, lt-leb, eq-eqb, ne-eqb, lt-ltb, le-ltb}
+use lib.Dec.{leb, eqb}
+use borrow.Author.Tests.{le-leb, lt-leb, eq-eqb, ne-eqb}
+use Rattle.laws.proofs.Sums.{by-test}
 use Rattle.rules.specs.declared.Tuple.{Tuple}
+use Rattle.rules.specs.declared.Stage.{Stage}
 use Rattle.rules.specs.declared.Stream.{Stream}
 use Rattle.rules.specs.declared.Refusal.{Refusal}
 use Rattle.rules.specs.declared.JitterAnswer.{JitterAnswer}
@@ -18,15 +20,18 @@ use Rattle.text_line.specs.declared.Fault.{Fault}
 use Rattle.text_line.specs.declared.Fault.the-variants.{FiveTuples}
 use Rattle.text_line.specs.declared.NumberRead.{NumberRead}
 use Rattle.text_line.specs.declared.NumberRead.the-variants.{Is, Missing, Outside}
+use Rattle.text_line.specs.declared.StageRead.{StageRead}
+use Rattle.text_line.specs.declared.StageRead.the-variants.{Is as IsStage, Missing as NoStage, Bad as BadStage}
 use Rattle.text_line.specs.declared.TupleRead.{TupleRead}
 use Rattle.text_line.specs.declared.TupleRead.the-variants.{Is as IsTuple, Bad as BadTuple}
 use Rattle.text_line.specs.declared.LineRead.{LineRead}
 use Rattle.rules.specs.Streams.{noStream}
-use Rattle.line.specs.declared.Line.{Line}
 use Rattle.ascii.specs.Decimal.{letters}
-use Rattle.text_line.specs.declared.Meaning.the-variants.{Nothing}
-use Rattle.text_line.specs.declared.Fault.the-variants.{NotTask, Task, Jitter, LongLine}
-use Rattle.text_line.specs.Lines.{startsAt, fieldAt, byJitter, alone, jitterSaid, jitterAt, limitAt, costAt, lineRead, judged, byField, byTuple, bad, finished, added, tupleAt, tuplesAt}
+use Rattle.ascii.specs.Same.{same}
+use Rattle.text_tidy.specs.declared.Row.{Row}
+use Rattle.text_line.specs.declared.Meaning.the-variants.{Version, Nothing}
+use Rattle.text_line.specs.declared.Fault.the-variants.{NotDeadline, Jitter, LongLine}
+use Rattle.text_line.specs.Lines.{startsAt, byJitter, alone, jitterSaid, jitterAt, limitAt, spaceAt, pairAt, staged, mostStages, tooMany, stagesEnd, byStage, stagesAt, saying, versionText, lineRead, longest, judged, byField, byTuple, bad, finished, added, tupleAt, tuplesAt}
 
 module _ {A : Type 0} (x y : A) (g : ℕ → ℕ → A) (r : A) (v f : NumberRead) (p : v ≡ f) where
   by : (w : NumberRead) → v ≡ w → byField f x y g ≡ byField w x y g
@@ -92,23 +97,73 @@ module _ (s : Stream) (l : List ℕ) (at : ℕ) (r : LineRead) (t : Bool) (p : t
 pub limit-of : (s more : Stream) (l : List ℕ) (at : ℕ) (r : LineRead) → more ≡ s → r ≡ limitAt more l at → r ≡ limitAt s l at
 limit-of s more l at r x e = rw x at e
 
+-- the space behind a stage
+module _ (task cost : ℕ) (l : List ℕ) (at : ℕ) (t : Bool) (p : t ≡ startsAt (letters " ") l at) where
+  pub space-there : t ≡ true → IsStage (record { task = task; cost = cost }) (at + 1) ≡ spaceAt task cost l at
+  unfolding spaceAt
+  space-there q = rw (sym p ∙ q)
+
+  pub space-missing : t ≡ false → BadStage NotDeadline ≡ spaceAt task cost l at
+  unfolding spaceAt
+  space-missing q = rw (sym p ∙ q)
+
+-- the stages of a line: no more of them, one stage more, none here, a bad one
+module _ (version : ℕ) (s : Stream) (l : List ℕ) (at : ℕ) (r : LineRead) where
+  pub stage-over : (t : Bool) (why : Fault) → t ≡ startsAt (letters "task ") l at → t ≡ true → why ≡ tooMany version → r ≡ bad why → r ≡ stagesAt version 0 s l at
+  unfolding stagesAt
+  stage-over t why p q e f = rw (sym p ∙ q) (f ∙ ap bad e)
+
+  pub stage-last : (t : Bool) → t ≡ startsAt (letters "task ") l at → t ≡ false → r ≡ stagesEnd s l at → r ≡ stagesAt version 0 s l at
+  unfolding stagesAt
+  stage-last t p q e = rw (sym p ∙ q) e
+
+  pub no-more : (n : ℕ) → n ≡ 0 → r ≡ stagesAt version 0 s l at → r ≡ stagesAt version n s l at
+  no-more n z e = rw z e
+
+  pub stage-more : (n : ℕ) (v : StageRead) (g : Stage) (end : ℕ) (more : Stream) → (n ≡ 0 → ⊥) → v ≡ pairAt l at → v ≡ IsStage g end → more ≡ staged s g
+      → r ≡ stagesAt version (n - 1) more l end → r ≡ stagesAt version n s l at
+  unfolding stagesAt byStage
+  stage-more zero v g end more z p q x e = absurd (z refl)
+  stage-more (suc n) v g end more z p q x e =
+      let less : suc n - 1 ≡ n = omega arith in
+      rw (sym p ∙ q) (rw (less, x) at e)
+
+  pub stage-none : (n : ℕ) (v : StageRead) → (n ≡ 0 → ⊥) → v ≡ pairAt l at → v ≡ NoStage → r ≡ stagesEnd s l at → r ≡ stagesAt version n s l at
+  unfolding stagesAt byStage
+  stage-none zero v z p q e = absurd (z refl)
+  stage-none (suc n) v z p q e = rw (sym p ∙ q) e
+
+  pub stage-bad : (n : ℕ) (v : StageRead) (why : Fault) → (n ≡ 0 → ⊥) → v ≡ pairAt l at → v ≡ BadStage why → r ≡ bad why → r ≡ stagesAt version n s l at
+  unfolding stagesAt byStage
+  stage-bad zero v why z p q e = absurd (z refl)
+  stage-bad (suc n) v why z p q e = rw (sym p ∙ q) e
+
 -- a whole line
-pub nothing-said : (l : List ℕ) (s : Stream) → length l ≡ 0 → s ≡ noStream → record { said = Nothing; stream = s } ≡ lineRead l
-unfolding lineRead
-nothing-said l s h e = rw (eq-eqb (length l) 0 h, e)
+module _ (version : ℕ) (l : List ℕ) (r : LineRead) where
+  pub nothing-said : length l ≡ 0 → r ≡ saying Nothing → r ≡ lineRead version l
+  unfolding lineRead
+  nothing-said h e = rw (eq-eqb (length l) 0 h) e
 
-pub some-said : (l : List ℕ) (r : LineRead) → (length l ≡ 0 → ⊥)
-    → r ≡ byField (fieldAt (letters "task ") 0 15 l 0) (bad NotTask) (bad Task) (λ task end. costAt task l end) → r ≡ lineRead l
-unfolding lineRead
-some-said l r h e = rw (ne-eqb (length l) 0 h) e
+  module _ (h : length l ≡ 0 → ⊥) (t : Bool) (p : t ≡ same l versionText) where
+    pub version-said : t ≡ true → r ≡ saying Version → r ≡ lineRead version l
+    unfolding lineRead
+    version-said q e = rw (ne-eqb (length l) 0 h, sym p ∙ q) e
 
-pub judge-read : (l : Line) (r : LineRead) → l .len < 128 → r ≡ lineRead (take (l .len) (l .bytes)) → r ≡ judged l
-unfolding judged
-judge-read l r h e = rw (lt-ltb (l .len) 128 h) e
+    pub stages-said : t ≡ false → (s : Stream) (n : ℕ) → s ≡ noStream → n ≡ mostStages version → r ≡ stagesAt version n s l 0 → r ≡ lineRead version l
+    unfolding lineRead
+    stages-said q s n x y e = rw (ne-eqb (length l) 0 h, sym p ∙ q) (rw (x, y) at e)
 
-pub judge-long : (l : Line) (r : LineRead) → 128 ≤ l .len → r ≡ bad LongLine → r ≡ judged l
-unfolding judged
-judge-long l r h e = rw (le-ltb (l .len) 128 h) e
+module _ (version : ℕ) (row : Row) (n : ℕ) (p : n ≡ longest version) (r : LineRead) where
+  pub judge-read : row .len ≤ n → r ≡ lineRead version (take (row .len) (row .bytes)) → r ≡ judged version row
+  unfolding judged
+  judge-read h e = rw (← p, le-leb (row .len) n h) e
+
+  pub judge-long : n < row .len → r ≡ bad LongLine → r ≡ judged version row
+  unfolding judged
+  judge-long h e = rw (← p, lt-leb (row .len) n h) e
+
+pub longest-fits : (version n : ℕ) → n ≡ longest version → n ≤ 191
+longest-fits version n p = by-test (eqb version 1) (λ e. let a : n ≡ 127 = p ∙ rw e in omega arith) (λ e. let a : n ≡ 191 = p ∙ rw e in omega arith)
 
 pub front-size : (l : List ℕ) (n : ℕ) → n ≤ length l → n ≡ length (take n l)
 front-size l n h = omega (arith, length-take n l)

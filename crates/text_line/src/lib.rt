@@ -1,17 +1,20 @@
-// A stream as a line of text: `task 0 cost 2 deadline 5 once@0 every 20@16`, or `task 0 cost 2 deadline 5 jitter 20 2`.
+// A stream as a line of text: `task 0 cost 2 deadline 5 once@0 every 20@16`, or `task 0 cost 2 deadline 5 jitter 20 2`;
+// in a text of version 2 with its stages: `task 1 cost 2 task 4 cost 3 deadline 40 every 50@0`.
 ghost use mathlib.Core.Path.{_≡_};
 ghost use mathlib.Core.List.{_++_, []};
 ghost use Prim.Native.Nat.{_-_, _≤_};
 ghost use lib.ListN.{drop, take};
 ghost use Rattle.laws.specs.Lists.{flat};
-ghost use Rattle.rules.specs.Streams.{tuplesOf, noTuple, noStream};
+ghost use Rattle.rules.specs.Streams.{stagesOf, tuplesOf, noStage, noTuple, noStream};
 ghost use Rattle.line.specs.Line.{holding, puts};
-ghost use Rattle.text_line.specs.Lines.{startsAt, endedAt, numberAt, fieldAt, offsetAt, everyAt, tupleAt, opened, added, isStream, bad, finished, tuplesAt, alone, jitterSaid, eachWayAt, jitterAt, limitAt, deadlineAt, costAt, lineRead, judged, placeText, streamText};
+ghost use Rattle.text_line.specs.Lines.{startsAt, endedAt, numberAt, fieldAt, offsetAt, everyAt, tupleAt, added, isStream, bad, finished, tuplesAt, alone, jitterSaid, eachWayAt, jitterAt, limitAt, withDeadline, deadlineAt, stagesEnd, spaceAt, costAt, pairAt, staged, mostStages, tooMany, stagesAt, saying, lineRead, longest, judged, stageText, placeText, stagesText, limitText};
 use line::Line;
 use rules::JitterAnswer;
+use rules::Stage;
 use rules::Stream;
 use rules::Tuple;
 use rules::TuplePlace;
+use text_tidy::Row;
 
 // Why a line is no stream.
 pub enum Fault {
@@ -19,6 +22,8 @@ pub enum Fault {
     Task,
     NotCost,
     Cost,
+    TwoStages,
+    FiveStages,
     NotDeadline,
     Deadline,
     NotTuple,
@@ -28,6 +33,7 @@ pub enum Fault {
     NotJitter,
     Jitter,
     LongLine,
+    LateVersion,
     ManyStreams,
 }
 
@@ -36,6 +42,13 @@ pub enum NumberRead {
     Is(u32, usize),
     Missing,
     Outside,
+}
+
+// A stage, and where what stands behind it begins.
+pub enum StageRead {
+    Is(Stage, usize),
+    Missing,
+    Bad(Fault),
 }
 
 // A tuple, and where it ends.
@@ -47,6 +60,7 @@ pub enum TupleRead {
 // What a line says. The stream stands beside it, none where the line says another thing.
 pub enum Meaning {
     Stream,
+    Version,
     Nothing,
     Bad(Fault),
 }
@@ -157,13 +171,20 @@ fn no_tuple() -> TuplePlace
     TuplePlace { tuple: t }
 }
 
+fn no_stage() -> Stage
+    ensures { λ r. ⌜ r ≡ noStage ⌝ }
+{
+    Stage { task: 0, cost: 0 }
+}
+
 fn no_stream() -> Stream
     ensures { λ r. ⌜ r ≡ noStream ⌝ }
 {
+    let gs = [no_stage(); 4];
     let ts = [no_tuple(); 4];
     Stream {
-        task: 0,
-        cost: 0,
+        depth: 0,
+        stages: gs,
         deadline: 0,
         count: 0,
         tuples: ts,
@@ -179,25 +200,18 @@ fn stream_read(s: Stream) -> LineRead
     }
 }
 
+// A line that says no stream.
+fn no_stream_read(m: Meaning) -> LineRead
+    ensures { λ r. ⌜ r ≡ saying m ⌝ }
+{
+    let s = no_stream();
+    LineRead { said: m, stream: s }
+}
+
 fn bad_line(why: Fault) -> LineRead
     ensures { λ r. ⌜ r ≡ bad why ⌝ }
 {
-    let s = no_stream();
-    LineRead {
-        said: Meaning::Bad(why),
-        stream: s,
-    }
-}
-
-// A stream with no tuple yet.
-fn open(task: u32, cost: u32, deadline: u32) -> Stream
-    ensures { λ r. ⌜ r ≡ opened task cost deadline ⌝ }
-{
-    let mut s = no_stream();
-    s.task = task as usize;
-    s.cost = cost;
-    s.deadline = deadline;
-    s
+    no_stream_read(Meaning::Bad(why))
 }
 
 // One tuple more. A stream that has four stays as it is.
@@ -302,58 +316,171 @@ fn limit_at(line: &[u8], at: usize, s: Stream) -> LineRead
     }
 }
 
-fn deadline_at(line: &[u8], at: usize, task: u32, cost: u32) -> LineRead
-    ensures { λ r. ⌜ r ≡ deadlineAt task cost (now (line .entry)) at ⌝ }
+fn with_deadline(s: Stream, d: u32) -> Stream
+    ensures { λ r. ⌜ r ≡ withDeadline s d ⌝ }
 {
-    match field_at(line, at, b" deadline ", 1, 200000) {
-        NumberRead::Is(d, end) => limit_at(line, end, open(task, cost, d)),
+    let mut next = s;
+    next.deadline = d;
+    next
+}
+
+fn deadline_at(line: &[u8], at: usize, s: Stream) -> LineRead
+    ensures { λ r. ⌜ r ≡ deadlineAt s (now (line .entry)) at ⌝ }
+{
+    match field_at(line, at, b"deadline ", 1, 200000) {
+        NumberRead::Is(d, end) => limit_at(line, end, with_deadline(s, d)),
         NumberRead::Missing => bad_line(Fault::NotDeadline),
         NumberRead::Outside => bad_line(Fault::Deadline),
     }
 }
 
-fn cost_at(line: &[u8], at: usize, task: u32) -> LineRead
+// No stage stands here: the deadline does, behind a stage.
+fn stages_end(line: &[u8], at: usize, s: Stream) -> LineRead
+    ensures { λ r. ⌜ r ≡ stagesEnd s (now (line .entry)) at ⌝ }
+{
+    let n = s.depth;
+    if n == 0 {
+        bad_line(Fault::NotTask)
+    } else {
+        deadline_at(line, at, s)
+    }
+}
+
+fn space_at(line: &[u8], at: usize, task: u32, cost: u32) -> StageRead
+    ensures { λ r. ⌜ r ≡ spaceAt task cost (now (line .entry)) at ⌝ }
+{
+    if starts(line, at, b" ") {
+        let g = Stage {
+            task: task as usize,
+            cost,
+        };
+        StageRead::Is(g, at + 1)
+    } else {
+        StageRead::Bad(Fault::NotDeadline)
+    }
+}
+
+fn cost_at(line: &[u8], at: usize, task: u32) -> StageRead
     ensures { λ r. ⌜ r ≡ costAt task (now (line .entry)) at ⌝ }
 {
     match field_at(line, at, b" cost ", 1, 65535) {
-        NumberRead::Is(c, end) => deadline_at(line, end, task, c),
-        NumberRead::Missing => bad_line(Fault::NotCost),
-        NumberRead::Outside => bad_line(Fault::Cost),
+        NumberRead::Is(c, end) => space_at(line, end, task, c),
+        NumberRead::Missing => StageRead::Bad(Fault::NotCost),
+        NumberRead::Outside => StageRead::Bad(Fault::Cost),
     }
 }
 
-// What a line says.
-pub fn read_line(line: &[u8]) -> LineRead
-    ensures { λ r. ⌜ r ≡ lineRead (now (line .entry)) ⌝ }
+// A task, a cost and the space behind them.
+fn pair_at(line: &[u8], at: usize) -> StageRead
+    ensures { λ r. ⌜ r ≡ pairAt (now (line .entry)) at ⌝ }
+{
+    match field_at(line, at, b"task ", 0, 15) {
+        NumberRead::Is(task, end) => cost_at(line, end, task),
+        NumberRead::Missing => StageRead::Missing,
+        NumberRead::Outside => StageRead::Bad(Fault::Task),
+    }
+}
+
+// One stage more. A stream that has four stays as it is.
+fn add_stage(s: Stream, g: Stage) -> Stream
+    ensures { λ r. ⌜ r ≡ staged s g ⌝ }
+{
+    let k = s.depth;
+    if k < 4 {
+        let mut next = s;
+        next.stages[k] = g;
+        next.depth = k + 1;
+        next
+    } else {
+        s
+    }
+}
+
+// How many stages a line has at most, and what is wrong with one that has more.
+fn most_stages(version: u32) -> usize
+    ensures { λ r. ⌜ r ≡ mostStages version ⌝ }
+{
+    if version == 1 { 1 } else { 4 }
+}
+
+fn too_many(version: u32) -> Fault
+    ensures { λ r. ⌜ r ≡ tooMany version ⌝ }
+{
+    if version == 1 {
+        Fault::TwoStages
+    } else {
+        Fault::FiveStages
+    }
+}
+
+// No stage more: the deadline stands here.
+fn last_stage(line: &[u8], at: usize, s: Stream, version: u32) -> LineRead
+    ensures { λ r. ⌜ r ≡ stagesAt version 0 s (now (line .entry)) at ⌝ }
+{
+    if starts(line, at, b"task ") {
+        bad_line(too_many(version))
+    } else {
+        stages_end(line, at, s)
+    }
+}
+
+// At most `left` stages more.
+fn stages(line: &[u8], at: usize, s: Stream, version: u32, left: usize) -> LineRead
+    ensures { λ r. ⌜ r ≡ stagesAt version left s (now (line .entry)) at ⌝ }
+{
+    if left == 0 {
+        return last_stage(line, at, s, version);
+    }
+    match pair_at(line, at) {
+        StageRead::Is(g, end) => stages(line, end, add_stage(s, g), version, left - 1),
+        StageRead::Missing => stages_end(line, at, s),
+        StageRead::Bad(why) => bad_line(why),
+    }
+}
+
+// What a line says in a text of this version.
+pub fn read_line(line: &[u8], version: u32) -> LineRead
+    ensures { λ r. ⌜ r ≡ lineRead version (now (line .entry)) ⌝ }
 {
     if line.len() == 0 {
-        let s = no_stream();
-        return LineRead {
-            said: Meaning::Nothing,
-            stream: s,
-        };
+        return no_stream_read(Meaning::Nothing);
     }
-    match field_at(line, 0, b"task ", 0, 15) {
-        NumberRead::Is(task, end) => cost_at(line, end, task),
-        NumberRead::Missing => bad_line(Fault::NotTask),
-        NumberRead::Outside => bad_line(Fault::Task),
+    if ascii::same(line, b"version 2") {
+        return no_stream_read(Meaning::Version);
     }
+    stages(line, 0, no_stream(), version, most_stages(version))
 }
 
-// What the bytes of a line say; a line with all its places used is longer than any stream's.
-pub fn judge(l: Line) -> LineRead
-    ensures { λ r. ⌜ r ≡ judged l ⌝ }
+// How many bytes a line has at most in a text of this version.
+fn longest_line(version: u32) -> usize
+    ensures { λ r. ⌜ r ≡ longest version ⌝ }
 {
-    let n = l.len;
-    let bytes = l.bytes;
-    if n < line::ROOM {
-        read_line(&bytes[..n])
+    if version == 1 { 127 } else { 191 }
+}
+
+// What the tidy bytes of a line say in a text of this version.
+pub fn judge(row: Row, version: u32) -> LineRead
+    ensures { λ r. ⌜ r ≡ judged version row ⌝ }
+{
+    let n = row.len;
+    let bytes = row.bytes;
+    if n <= longest_line(version) {
+        read_line(&bytes[..n], version)
     } else {
         bad_line(Fault::LongLine)
     }
 }
 
 // ---- writing
+
+// A stage, and a space behind it.
+fn stage_text(l: Line, g: Stage) -> Line
+    ensures { λ r. ⌜ r ≡ puts l (stageText g) ⌝ }
+{
+    let task = line::one(l, b"task", g.task as u64);
+    let cost = line::one(task, b" cost", g.cost as u64);
+    line::put(cost, b' ')
+}
 
 fn tuple_text(l: Line, p: TuplePlace) -> Line
     ensures { λ r. ⌜ r ≡ puts l (placeText p) ⌝ }
@@ -385,12 +512,28 @@ fn tuples_text(l: Line, s: Stream) -> Line
     next
 }
 
-// A stream's own line, without the newline.
-pub fn stream_line(s: Stream) -> Line
-    ensures { λ r. ⌜ r ≡ puts (holding []) (streamText s) ⌝ }
+// The front of a stream's own line: its stages, a space behind each.
+pub fn stages_line(s: Stream) -> Line
+    ensures { λ r. ⌜ r ≡ puts (holding []) (stagesText s) ⌝ }
 {
-    let task = line::one(line::blank(), b"task", s.task as u64);
-    let cost = line::one(task, b" cost", s.cost as u64);
-    let deadline = line::one(cost, b" deadline", s.deadline as u64);
+    let n = s.depth;
+    let mut next = line::blank();
+    let mut j: usize = 0;
+    while j < 4 {
+        if n <= j {
+            return next;
+        }
+        let g = s.stages[j];
+        next = stage_text(next, g);
+        j += 1;
+    }
+    next
+}
+
+// The rest of it, without the newline: the deadline and the event limit.
+pub fn limit_line(s: Stream) -> Line
+    ensures { λ r. ⌜ r ≡ puts (holding []) (limitText s) ⌝ }
+{
+    let deadline = line::one(line::blank(), b"deadline", s.deadline as u64);
     tuples_text(deadline, s)
 }

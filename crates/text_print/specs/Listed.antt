@@ -2,9 +2,9 @@
 -- Assumes nothing.
 use Prim.Native.Nat.{ℕ, _*_}
 use mathlib.Core.Bool.{cond, _&&_}
-use mathlib.Core.List.{List, _++_}
+use mathlib.Core.List.{List, [], _++_}
 use lib.ListN.{length, drop}
-use lib.Dec.{leb}
+use lib.Dec.{eqb, leb}
 use Rattle.laws.specs.Lists.{flat}
 use Rattle.rules.specs.declared.Stream.{Stream}
 use Rattle.rules.specs.declared.Set.{Set}
@@ -13,19 +13,23 @@ use Rattle.rules.specs.declared.WriteAnswer.{WriteAnswer}
 use Rattle.rules.specs.declared.WriteAnswer.the-variants.{Wrote, Refused}
 use Rattle.rules.specs.Streams.{streamsOf, valid}
 use Rattle.ascii.specs.Decimal.{newline}
-use Rattle.line.specs.Line.{lineRoom}
-use Rattle.text_line.specs.Lines.{streamText}
+use Rattle.text_tidy.specs.Tidied.{rowRoom}
+use Rattle.text_line.specs.Lines.{streamText, versionText}
 
 -- one stream a line, in order
 abbrev pub lineText : Stream → List ℕ
 lineText s = streamText s ++ newline
 
-unfoldable pub textOf : Set → List ℕ
-textOf x = flat lineText (streamsOf x)
+-- "Version 2 has `version 2` as its first line"
+abbrev pub firstText : ℕ → List ℕ
+firstText version = cond (eqb version 2) (versionText ++ newline) []
 
--- room for the text of any set, which has at most 16 lines
+unfoldable pub textOf : Set → List ℕ
+textOf x = firstText (x .version) ++ flat lineText (streamsOf x)
+
+-- room for the text of any set, which has at most 17 lines
 abbrev pub textRoom : ℕ
-textRoom = 16 * lineRoom
+textRoom = 17 * rowRoom
 
 -- 7 for an invalid set, then 11 for a page with less than that
 unfoldable pub listOf : Set → ℕ → WriteAnswer

@@ -6,21 +6,35 @@ ghost use Prim.Native.Nat.{_≤_};
 ghost use lib.ListN.{length, drop};
 ghost use Rattle.rules.specs.Streams.{valid};
 ghost use Rattle.line.specs.Line.{holding, puts};
-ghost use Rattle.text_print.specs.Listed.{lineText, textOf, textRoom, listOf, pageOf};
+ghost use Rattle.ascii.specs.Decimal.{newline};
+ghost use Rattle.text_line.specs.Lines.{limitText};
+ghost use Rattle.text_print.specs.Listed.{firstText, textOf, textRoom, listOf, pageOf};
 use line::Line;
 use rules::Refusal;
 use rules::Set;
 use rules::Stream;
 use rules::WriteAnswer;
 
-// Room for the text of any set: a line for each of 16 streams.
-pub const ROOM: usize = 16 * line::ROOM;
+// Room for the text of any set: a line for the version, and one for each of 16 streams.
+pub const ROOM: usize = 17 * text_tidy::ROOM;
 
-// A stream's line, with its newline.
-fn line_of(s: Stream) -> Line
-    ensures { λ r. ⌜ r ≡ puts (holding []) (lineText s) ⌝ }
+// The line that tells the version, with its newline; a text of version 1 has none.
+fn first_line(version: u32) -> Line
+    ensures { λ r. ⌜ r ≡ puts (holding []) (firstText version) ⌝ }
 {
-    line::put(text_line::stream_line(s), b'\n')
+    let l = line::blank();
+    if version == 2 {
+        line::put(line::word(l, b"version 2"), b'\n')
+    } else {
+        l
+    }
+}
+
+// What stands behind the stages in a stream's line, with the newline.
+fn line_end(s: Stream) -> Line
+    ensures { λ r. ⌜ r ≡ puts (holding []) (limitText s ++ newline) ⌝ }
+{
+    line::put(text_line::limit_line(s), b'\n')
 }
 
 // The lines of a valid set, one behind the other, on a page that has room for them.
@@ -29,14 +43,15 @@ fn put_lines(x: Set, out: &mut [u8]) -> usize
     ensures { λ r. ⌜ (r ≡ length (textOf x)) × (now (out .exit) ≡ textOf x ++ drop (length (textOf x)) (now (out .entry))) ⌝ }
 {
     let n = x.count;
-    let mut at = 0;
+    let mut at = page::append(out, 0, first_line(x.version));
     let mut k: usize = 0;
     while k < 16 {
         if n <= k {
             return at;
         }
         let s = x.streams[k];
-        at = page::append(out, at, line_of(s));
+        at = page::append(out, at, text_line::stages_line(s));
+        at = page::append(out, at, line_end(s));
         k += 1;
     }
     at

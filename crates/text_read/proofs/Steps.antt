@@ -12,8 +12,8 @@ use Rattle.rules.specs.declared.Stream.{Stream}
 use Rattle.rules.specs.declared.Set.{Set}
 use Rattle.rules.specs.Streams.{emptySet}
 use Rattle.text_line.specs.declared.Fault.{Fault}
-use Rattle.text_line.specs.declared.Fault.the-variants.{ManyStreams}
-use Rattle.text_line.specs.declared.Meaning.the-variants.{Stream as IsStream, Nothing, Bad as BadLine}
+use Rattle.text_line.specs.declared.Fault.the-variants.{LateVersion, ManyStreams}
+use Rattle.text_line.specs.declared.Meaning.the-variants.{Stream as IsStream, Version, Nothing, Bad as BadLine}
 use Rattle.text_line.specs.declared.LineRead.{LineRead}
 use Rattle.text_line.specs.Lines.{judged}
 use Rattle.text_tidy.specs.declared.Tidy.{Tidy}
@@ -21,7 +21,7 @@ use Rattle.text_tidy.specs.Tidied.{fresh, keptOf}
 use Rattle.text_read.specs.declared.Finding.the-variants.{Fine, Bad}
 use Rattle.text_read.specs.declared.Draft.{Draft}
 use Rattle.text_read.specs.declared.TextRead.{TextRead}
-use Rattle.text_read.specs.Texts.{bySaid, isFine, following, faulty, onward, withStream, lineEnded, startOf, stepOf, feedOf, closeOf}
+use Rattle.text_read.specs.Texts.{bySaid, untold, isFine, following, faulty, onward, withStream, withVersion, lineEnded, startOf, stepOf, feedOf, closeOf}
 
 module _ (x : Set) (t : Tidy) (new : t ≡ fresh) where
   pub begun : x ≡ emptySet → record { set = x; number = 1; tidy = t; found = Fine } ≡ startOf
@@ -45,7 +45,7 @@ unfolding following
 last-number n h = rw (le-ltb n 18446744073709551615 h)
 
 module _ (x : Set) (n : ℕ) (s : Stream) (r : Draft) where
-  pub adds : x .count < 16 → r ≡ onward (record { count = x .count + 1; streams = set (x .streams) (x .count) s }) n → r ≡ withStream x n s
+  pub adds : x .count < 16 → r ≡ onward (record { count = x .count + 1; streams = set (x .streams) (x .count) s; version = x .version }) n → r ≡ withStream x n s
   unfolding withStream
   adds h e = rw (lt-ltb (x .count) 16 h) e
 
@@ -53,10 +53,23 @@ module _ (x : Set) (n : ℕ) (s : Stream) (r : Draft) where
   unfolding withStream
   too-many h e = rw (le-ltb (x .count) 16 h) e
 
-module _ (d : Draft) (v : LineRead) (r : Draft) (e : v ≡ judged (d .tidy .line)) where
+module _ (x : Set) (n : ℕ) (r : Draft) where
+  pub says-version : untold (x .version) (x .count) ≡ true → r ≡ onward (record { count = x .count; streams = x .streams; version = 2 }) n → r ≡ withVersion x n
+  unfolding withVersion
+  says-version h e = rw h e
+
+  pub too-late : untold (x .version) (x .count) ≡ false → r ≡ faulty n LateVersion → r ≡ withVersion x n
+  unfolding withVersion
+  too-late h e = rw h e
+
+module _ (d : Draft) (v : LineRead) (r : Draft) (e : v ≡ judged (d .set .version) (d .tidy .row)) where
   pub stream-said : v .said ≡ IsStream → r ≡ withStream (d .set) (d .number) (v .stream) → r ≡ lineEnded d
   unfolding lineEnded
   stream-said h f = rw (← e, h) f
+
+  pub version-said : v .said ≡ Version → r ≡ withVersion (d .set) (d .number) → r ≡ lineEnded d
+  unfolding lineEnded
+  version-said h f = rw (← e, h) f
 
   pub nothing-said : v .said ≡ Nothing → r ≡ onward (d .set) (d .number) → r ≡ lineEnded d
   unfolding lineEnded

@@ -1,22 +1,21 @@
--- A readable text of a set: one stream a line.
+-- A readable text of a set: one stream a line; in version 2 `version 2` stands before them.
 -- Assumes nothing.
 use Prim.Native.Nat.{ℕ, _+_}
 use Prim.Native.Char.{code}
-use mathlib.Core.Bool.{Bool, true, false, cond, not}
+use mathlib.Core.Bool.{Bool, true, false, cond, _&&_}
 use mathlib.Core.List.{List, [], _∷_, _++_}
 use lib.ListN.{length, set}
-use lib.Dec.{eqb, ltb}
+use lib.Dec.{eqb, leb, ltb}
 use Rattle.rules.specs.declared.Stream.{Stream}
 use Rattle.rules.specs.declared.Set.{Set}
 use Rattle.rules.specs.Streams.{emptySet}
 use Rattle.rules.specs.Sheet.{setOf}
-use Rattle.line.specs.Line.{lineRoom}
 use Rattle.text_line.specs.declared.Fault.{Fault}
-use Rattle.text_line.specs.declared.Fault.the-variants.{LongLine, ManyStreams}
+use Rattle.text_line.specs.declared.Fault.the-variants.{LongLine, LateVersion, ManyStreams}
 use Rattle.text_line.specs.declared.Meaning.{Meaning}
-use Rattle.text_line.specs.declared.Meaning.the-variants.{Stream as IsStream, Nothing, Bad as BadLine}
+use Rattle.text_line.specs.declared.Meaning.the-variants.{Stream as IsStream, Version, Nothing, Bad as BadLine}
 use Rattle.text_line.specs.declared.LineRead.{LineRead}
-use Rattle.text_line.specs.Lines.{lineRead, judged, bad}
+use Rattle.text_line.specs.Lines.{lineRead, longest, judged, bad}
 use Rattle.text_tidy.specs.Tidied.{tidied, fresh, keptOf}
 use Rattle.text_read.specs.declared.Finding.{Finding}
 use Rattle.text_read.specs.declared.Finding.the-variants.{Fine, Bad}
@@ -37,16 +36,17 @@ unfoldable pub moreLines : List ℕ → List (List ℕ)
 moreLines [] = []
 moreLines (b ∷ l) = cond (isNewline b) (firstLine l ∷ moreLines l) (moreLines l)
 
--- what a line says, once it is tidy; no stream's line has more than 127 bytes
-unfoldable pub lineSays : List ℕ → LineRead
-lineSays l = cond (ltb (length l) lineRoom) (lineRead l) (bad LongLine)
+-- what a line says in a text of a version, once it is tidy
+unfoldable pub lineSays : ℕ → List ℕ → LineRead
+lineSays version l = cond (leb (length l) (longest version)) (lineRead version l) (bad LongLine)
 
 -- what a line that says this leads to
 module _ {A : Type 0} where
-  abbrev pub bySaid : Meaning → A → A → (Fault → A) → A
-  bySaid IsStream stream nothing faulty = stream
-  bySaid Nothing stream nothing faulty = nothing
-  bySaid (BadLine why) stream nothing faulty = faulty why
+  abbrev pub bySaid : Meaning → A → A → A → (Fault → A) → A
+  bySaid IsStream stream version nothing faulty = stream
+  bySaid Version stream version nothing faulty = version
+  bySaid Nothing stream version nothing faulty = nothing
+  bySaid (BadLine why) stream version nothing faulty = faulty why
 
 -- the number of the next line; it is counted up to 2^64 - 1
 unfoldable pub following : ℕ → ℕ
@@ -55,19 +55,25 @@ following n = cond (ltb n 18446744073709551615) (n + 1) n
 abbrev pub isBad : ℕ → Fault → TextRead
 isBad n why = record { found = Bad n why; set = emptySet }
 
--- a text's streams are those of its lines, in order. The first bad line is the answer, with its number; a 17th stream makes its line bad.
+-- no line has said anything: the version is still 1, and there is no stream
+abbrev pub untold : ℕ → ℕ → Bool
+untold version count = eqb version 1 && eqb count 0
+
+-- a text's streams are those of its lines, in order. "Version 2 has `version 2` as its first line": the first that says anything; a text without it is of
+-- version 1. The first bad line is the answer, with its number; a 17th stream makes its line bad, and so does `version 2` behind another line.
 -- n: the number of the line that comes; ss: the streams before it
-unfoldable pub linesRead : ℕ → List Stream → List (List ℕ) → TextRead
-linesRead n ss [] = record { found = Fine; set = setOf ss }
-linesRead n ss (l ∷ ls) =
-    bySaid (lineSays (tidied l) .said)
-    (cond (ltb (length ss) 16) (linesRead (following n) (ss ++ (lineSays (tidied l) .stream ∷ [])) ls) (isBad n ManyStreams))
-    (linesRead (following n) ss ls)
+unfoldable pub linesRead : ℕ → ℕ → List Stream → List (List ℕ) → TextRead
+linesRead version n ss [] = record { found = Fine; set = setOf version ss }
+linesRead version n ss (l ∷ ls) =
+    bySaid (lineSays version (tidied l) .said)
+    (cond (ltb (length ss) 16) (linesRead version (following n) (ss ++ (lineSays version (tidied l) .stream ∷ [])) ls) (isBad n ManyStreams))
+    (cond (untold version (length ss)) (linesRead 2 (following n) ss ls) (isBad n LateVersion))
+    (linesRead version (following n) ss ls)
     (λ why. isBad n why)
 
 -- lines are numbered from 1
 unfoldable pub textRead : List ℕ → TextRead
-textRead l = linesRead 1 [] (firstLine l ∷ moreLines l)
+textRead l = linesRead 1 1 [] (firstLine l ∷ moreLines l)
 
 -- ---- the same, byte by byte
 
@@ -84,13 +90,18 @@ onward x n = record { set = x; number = following n; tidy = fresh; found = Fine 
 unfoldable pub withStream : Set → ℕ → Stream → Draft
 withStream x n s =
     cond (ltb (x .count) 16)
-    (onward (record { count = x .count + 1; streams = set (x .streams) (x .count) s }) n)
+    (onward (record { count = x .count + 1; streams = set (x .streams) (x .count) s; version = x .version }) n)
     (faulty n ManyStreams)
+
+unfoldable pub withVersion : Set → ℕ → Draft
+withVersion x n =
+    cond (untold (x .version) (x .count)) (onward (record { count = x .count; streams = x .streams; version = 2 }) n) (faulty n LateVersion)
 
 unfoldable pub lineEnded : Draft → Draft
 lineEnded d =
-    bySaid (judged (d .tidy .line) .said)
-    (withStream (d .set) (d .number) (judged (d .tidy .line) .stream))
+    bySaid (judged (d .set .version) (d .tidy .row) .said)
+    (withStream (d .set) (d .number) (judged (d .set .version) (d .tidy .row) .stream))
+    (withVersion (d .set) (d .number))
     (onward (d .set) (d .number))
     (λ why. faulty (d .number) why)
 

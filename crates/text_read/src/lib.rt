@@ -1,6 +1,6 @@
-// A readable text of a set, taken byte by byte: one stream a line.
+// A readable text of a set, taken byte by byte: one stream a line; in version 2 `version 2` stands before them.
 ghost use mathlib.Core.Path.{_≡_};
-ghost use Rattle.text_read.specs.Texts.{isFine, following, faulty, onward, withStream, lineEnded, startOf, stepOf, feedOf, closeOf, textRead};
+ghost use Rattle.text_read.specs.Texts.{isFine, following, faulty, onward, withStream, withVersion, lineEnded, startOf, stepOf, feedOf, closeOf, textRead};
 use rules::Set;
 use rules::Stream;
 use text_line::Fault;
@@ -13,7 +13,7 @@ pub enum Finding {
     Bad(u64, Fault),
 }
 
-// A text so far: its streams, the number of its line, the line, and what was found.
+// A text so far: its streams and its version, the number of its line, the line, and what was found.
 pub struct Draft {
     pub set: Set,
     pub number: u64,
@@ -93,6 +93,21 @@ fn add(x: Set, n: u64, s: Stream) -> Draft
     }
 }
 
+// `version 2`: nothing but empty lines may stand before it.
+fn say_version(x: Set, n: u64) -> Draft
+    ensures { λ r. ⌜ r ≡ withVersion x n ⌝ }
+{
+    let version = x.version;
+    let count = x.count;
+    if (version == 1) & (count == 0) {
+        let mut next = x;
+        next.version = 2;
+        go_on(next, n)
+    } else {
+        spoilt(n, Fault::LateVersion)
+    }
+}
+
 // The line ends here.
 fn end_line(d: Draft) -> Draft
     ensures { λ r. ⌜ r ≡ lineEnded d ⌝ }
@@ -100,12 +115,14 @@ fn end_line(d: Draft) -> Draft
     let x = d.set;
     let n = d.number;
     let t = d.tidy;
-    let line = t.line;
-    let read = text_line::judge(line);
+    let row = t.row;
+    let version = x.version;
+    let read = text_line::judge(row, version);
     let said = read.said;
     let s = read.stream;
     match said {
         Meaning::Stream => add(x, n, s),
+        Meaning::Version => say_version(x, n),
         Meaning::Nothing => go_on(x, n),
         Meaning::Bad(why) => spoilt(n, why),
     }

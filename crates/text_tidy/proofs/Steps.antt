@@ -6,12 +6,11 @@ use mathlib.Core.Bool.{Bool, true, false, cond, _&&_}
 use mathlib.Core.List.{[]}
 use lib.Dec.{ltb, eqb}
 use borrow.Author.Tests.{lt-ltb, le-ltb, eq-eqb, ne-eqb}
-use Rattle.line.specs.declared.Line.{Line}
-use Rattle.line.specs.Line.{holding, putOf}
+use Rattle.text_tidy.specs.declared.Row.{Row}
 use Rattle.text_tidy.specs.declared.Tidy.{Tidy}
-use Rattle.text_tidy.specs.Tidied.{isBlank, fresh, spacedFor, keptOf}
+use Rattle.text_tidy.specs.Tidied.{rowOf, rowPut, isBlank, fresh, spacedFor, keptOf}
 
-pub begun : (l : Line) → l ≡ holding [] → record { line = l; comment = false; gap = false } ≡ fresh
+pub begun : (l : Row) → l ≡ rowOf [] → record { row = l; comment = false; gap = false } ≡ fresh
 unfolding fresh
 begun l e = rw e
 
@@ -19,8 +18,8 @@ and-false : (t : Bool) → (t && false) ≡ false
 and-false true = refl
 and-false false = refl
 
-module _ (gap : Bool) (l r : Line) where
-  pub space : gap ≡ true → 0 < l .len → r ≡ putOf l 32 → r ≡ spacedFor gap l
+module _ (gap : Bool) (l r : Row) where
+  pub space : gap ≡ true → 0 < l .len → r ≡ rowPut l 32 → r ≡ spacedFor gap l
   unfolding spacedFor
   space e h f = rw (e, lt-ltb 0 (l .len) h) f
 
@@ -38,15 +37,15 @@ module _ (t : Tidy) (b : ℕ) where
   in-comment e = rw e
 
   module _ (c : t .comment ≡ false) where
-    pub comment-begins : b ≡ 35 → record { line = t .line; comment = true; gap = t .gap } ≡ keptOf t b
+    pub comment-begins : b ≡ 35 → record { row = t .row; comment = true; gap = t .gap } ≡ keptOf t b
     unfolding keptOf
     comment-begins e = rw (c, eq-eqb b 35 e)
 
     module _ (n : b ≡ 35 → ⊥) (k : Bool) (q : k ≡ isBlank b) where
-      pub blank : k ≡ true → record { line = t .line; comment = false; gap = true } ≡ keptOf t b
+      pub blank : k ≡ true → record { row = t .row; comment = false; gap = true } ≡ keptOf t b
       unfolding keptOf
       blank e = rw (c, ne-eqb b 35 n, sym q ∙ e)
 
-      pub byte : (s r : Line) → k ≡ false → s ≡ spacedFor (t .gap) (t .line) → r ≡ putOf s b → record { line = r; comment = false; gap = false } ≡ keptOf t b
+      pub byte : (s r : Row) → k ≡ false → s ≡ spacedFor (t .gap) (t .row) → r ≡ rowPut s b → record { row = r; comment = false; gap = false } ≡ keptOf t b
       unfolding keptOf
       byte s r e f g = rw (c, ne-eqb b 35 n, sym q ∙ e, g, f)

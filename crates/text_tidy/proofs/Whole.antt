@@ -1,24 +1,23 @@
 -- The bytes of a line kept one by one are the tidy line.
 -- Assumes nothing.
-use Prim.Native.Nat.{ℕ, zero, suc, _+_, _≤_, _<_}
+use Prim.Native.Nat.{ℕ, zero, suc, _+_, _-_, _≤_, _<_}
 use native.Mathlib.Omega.{arith}
 use mathlib.Core.Path.{_≡_, refl, sym, ap, _∙_}
 use mathlib.Core.Bool.{Bool, true, false, cond, _&&_}
 use mathlib.Core.List.{List, [], _∷_, _++_, append-assoc, append-nil}
-use lib.ListN.{length, length-append}
-use lib.Seq.{append-snoc}
+use lib.ListN.{length, take, length-append}
+use lib.Seq.{append-snoc, set-append-seam, take-all, take-append-le}
 use lib.Dec.{ltb, eqb}
-use borrow.Author.Tests.{lt-ltb}
+use borrow.Author.Tests.{lt-ltb, le-ltb, ltb-true, ltb-false}
+use Rattle.laws.specs.Bits.{zeros}
 use Rattle.laws.proofs.Sums.{by-test}
-use Rattle.line.specs.declared.Line.{Line}
-use Rattle.line.specs.Line.{holding, putOf, puts}
-use Rattle.line.proofs.Puts.{puts-append, single}
+use Rattle.text_tidy.specs.declared.Row.{Row}
 use Rattle.text_tidy.specs.declared.Tidy.{Tidy}
-use Rattle.text_tidy.specs.Tidied.{isBlank, uncommented, squeezed, tidied, fresh, spacedFor, keptOf, keptOn}
+use Rattle.text_tidy.specs.Tidied.{rowOf, rowPut, isBlank, uncommented, squeezed, tidied, fresh, spacedFor, keptOf, keptOn}
 
 -- a line that has the tidy bytes v
 abbrev pub kept : List ℕ → Bool → Bool → Tidy
-kept v comment gap = record { line = puts (holding []) v; comment = comment; gap = gap }
+kept v comment gap = record { row = rowOf v; comment = comment; gap = gap }
 
 -- what such a line is once the bytes h have come, too
 unfoldable pub with : List ℕ → Bool → Bool → List ℕ → List ℕ
@@ -33,30 +32,36 @@ pub with-all : (h : List ℕ) → with [] false false h ≡ tidied h
 unfolding with tidied
 with-all h = refl
 
--- ---- how long a line is
+-- ---- a row
 
-put-len : (l : Line) (b : ℕ) → l .len ≤ putOf l b .len
-unfolding putOf
-put-len l b = by-test (ltb (l .len) 128) (λ e. rw e (omega arith)) (λ e. rw e (omega arith))
+-- it has a byte exactly where a byte was kept
+some-len : (v : List ℕ) → ltb 0 (rowOf v .len) ≡ ltb 0 (length v)
+unfolding rowOf
+some-len v =
+    by-test (ltb (length v) 192) (λ e. rw e)
+    (λ e. let long : 192 ≤ length v = ltb-false (length v) 192 e in rw e (sym (lt-ltb 0 (length v) (omega arith))))
 
-puts-len : (l : Line) (w : List ℕ) → l .len ≤ puts l w .len
-unfolding puts
-puts-len l [] = omega arith
-puts-len l (b ∷ w) = omega (arith, put-len l b, puts-len (putOf l b) w)
+-- one byte more in a row with room, and in a full one
+put-room : (v : List ℕ) (b : ℕ) → length v < 192 → rowPut (rowOf v) b ≡ rowOf (v ++ (b ∷ []))
+unfolding rowOf rowPut
+put-room v b h =
+    let size : length (v ++ (b ∷ [])) ≡ length v + 1 = length-append v (b ∷ []) in
+    let room : 192 - length v ≡ suc (191 - length v) = omega arith in
+    let rest : 192 - (length v + 1) ≡ 191 - length v = omega arith in
+    let len : cond (ltb (length v + 1) 192) (length v + 1) 192 ≡ length v + 1 = by-test (ltb (length v + 1) 192) (λ e. rw e) (λ e. rw e (let full : 192 ≤ length v + 1 = ltb-false (length v + 1) 192 e in omega arith)) in
+    rw (lt-ltb (length v) 192 h, lt-ltb (length v) 192 h, take-all 192 v (omega arith), take-all 192 (v ++ (b ∷ [])) (omega arith), size, len, rest, room)
+    (rw (set-append-seam v 0 (zeros (191 - length v)) b, append-snoc v b (zeros (191 - length v))))
 
-first-len : (b : ℕ) → putOf (holding []) b .len ≡ 1
-unfolding putOf holding
-first-len b = refl
+put-full : (v : List ℕ) (b : ℕ) → 192 ≤ length v → rowPut (rowOf v) b ≡ rowOf (v ++ (b ∷ []))
+unfolding rowOf rowPut
+put-full v b h =
+    let size : length (v ++ (b ∷ [])) ≡ length v + 1 = length-append v (b ∷ []) in
+    let none : 192 - length v ≡ 0 = omega arith in
+    let rest : 192 - (length v + 1) ≡ 0 = omega arith in
+    rw (le-ltb (length v) 192 h, take-append-le 192 v (b ∷ []) h, size, le-ltb (length v + 1) 192 (omega arith), none, rest)
 
-some-len : (v : List ℕ) → ltb 0 (puts (holding []) v .len) ≡ ltb 0 (length v)
-unfolding puts holding
-some-len [] = refl
-some-len (b ∷ v) =
-    lt-ltb 0 (puts (putOf (holding []) b) v .len) (omega (arith, first-len b, puts-len (putOf (holding []) b) v))
-    ∙ sym (lt-ltb 0 (suc (length v)) (omega arith))
-
-put-behind : (v : List ℕ) (b : ℕ) → putOf (puts (holding []) v) b ≡ puts (holding []) (v ++ (b ∷ []))
-put-behind v b = single (puts (holding []) v) b ∙ puts-append (holding []) v (b ∷ [])
+put-behind : (v : List ℕ) (b : ℕ) → rowPut (rowOf v) b ≡ rowOf (v ++ (b ∷ []))
+put-behind v b = by-test (ltb (length v) 192) (λ e. put-room v b (ltb-true (length v) 192 e)) (λ e. put-full v b (ltb-false (length v) 192 e))
 
 -- ---- one byte more
 
@@ -106,16 +111,16 @@ next v false gap b =
 
 -- ---- all of them
 
-keeps : (l v : List ℕ) (comment gap : Bool) → keptOn (kept v comment gap) l .line ≡ puts (holding []) (with v comment gap l)
+keeps : (l v : List ℕ) (comment gap : Bool) → keptOn (kept v comment gap) l .row ≡ rowOf (with v comment gap l)
 unfolding keptOn
-keeps [] v comment gap = ap (puts (holding [])) (sym (with-none v comment gap))
+keeps [] v comment gap = ap rowOf (sym (with-none v comment gap))
 keeps (b ∷ l) v comment gap =
     let x : Next v comment gap b = next v comment gap b in
-    ap (λ (t : Tidy). keptOn t l .line) (x .step)
+    ap (λ (t : Tidy). keptOn t l .row) (x .step)
     ∙ keeps l (x .bytes) (x .commented) (x .waiting)
-    ∙ ap (puts (holding [])) (sym (x .same l))
+    ∙ ap rowOf (sym (x .same l))
 
--- a line kept byte by byte holds the tidy line
-pub tidy-line : (l : List ℕ) → keptOn fresh l .line ≡ puts (holding []) (tidied l)
-unfolding fresh puts
-tidy-line l = keeps l [] false false ∙ ap (puts (holding [])) (with-all l)
+-- a line kept byte by byte is the row of the tidy line
+pub tidy-line : (l : List ℕ) → keptOn fresh l .row ≡ rowOf (tidied l)
+unfolding fresh
+tidy-line l = keeps l [] false false ∙ ap rowOf (with-all l)

@@ -1,13 +1,13 @@
 -- A line of a readable text made tidy.
 -- Assumes nothing.
-use Prim.Native.Nat.{ℕ}
+use Prim.Native.Nat.{ℕ, _+_, _-_}
 use Prim.Native.Char.{code}
 use mathlib.Core.Bool.{Bool, true, false, cond, _&&_, _||_}
-use mathlib.Core.List.{List, [], _∷_}
-use lib.ListN.{length}
+use mathlib.Core.List.{List, [], _∷_, _++_}
+use lib.ListN.{length, set, take}
 use lib.Dec.{eqb, ltb}
-use Rattle.line.specs.declared.Line.{Line}
-use Rattle.line.specs.Line.{holding, putOf}
+use Rattle.laws.specs.Bits.{zeros}
+use Rattle.text_tidy.specs.declared.Row.{Row}
 use Rattle.text_tidy.specs.declared.Tidy.{Tidy}
 
 -- a comment runs from `#` to the end of the line
@@ -31,18 +31,30 @@ tidied l = squeezed false false (uncommented l)
 
 -- ---- the same, byte by byte
 
-unfoldable pub fresh : Tidy
-fresh = record { line = holding []; comment = false; gap = false }
+-- how many bytes of a tidy line are kept
+abbrev pub rowRoom : ℕ
+rowRoom = 192
 
-unfoldable pub spacedFor : Bool → Line → Line
-spacedFor gap l = cond (gap && ltb 0 (l .len)) (putOf l (code " ")) l
+-- the row of these bytes: as many of them as it has room for, and zeros behind
+unfoldable pub rowOf : List ℕ → Row
+rowOf v = record { bytes = take rowRoom v ++ zeros (rowRoom - length v); len = cond (ltb (length v) rowRoom) (length v) rowRoom }
+
+-- one byte more; a full row stays as it is
+unfoldable pub rowPut : Row → ℕ → Row
+rowPut r b = cond (ltb (r .len) rowRoom) (record { bytes = set (r .bytes) (r .len) b; len = r .len + 1 }) r
+
+unfoldable pub fresh : Tidy
+fresh = record { row = rowOf []; comment = false; gap = false }
+
+unfoldable pub spacedFor : Bool → Row → Row
+spacedFor gap r = cond (gap && ltb 0 (r .len)) (rowPut r (code " ")) r
 
 unfoldable pub keptOf : Tidy → ℕ → Tidy
 keptOf t b =
     cond (t .comment) t
-    (cond (eqb b (code "#")) (record { line = t .line; comment = true; gap = t .gap })
-    (cond (isBlank b) (record { line = t .line; comment = false; gap = true })
-    (record { line = putOf (spacedFor (t .gap) (t .line)) b; comment = false; gap = false })))
+    (cond (eqb b (code "#")) (record { row = t .row; comment = true; gap = t .gap })
+    (cond (isBlank b) (record { row = t .row; comment = false; gap = true })
+    (record { row = rowPut (spacedFor (t .gap) (t .row)) b; comment = false; gap = false })))
 
 -- bytes one after the other
 unfoldable pub keptOn : Tidy → List ℕ → Tidy

@@ -1,22 +1,55 @@
 // A line of a readable text made tidy, byte by byte: no comment, one space between words, none at the ends.
 ghost use mathlib.Core.Path.{_≡_};
-ghost use Rattle.text_tidy.specs.Tidied.{isBlank, fresh, spacedFor, keptOf};
-use line::Line;
+ghost use mathlib.Core.List.{[]};
+ghost use Rattle.text_tidy.specs.Tidied.{rowOf, rowPut, isBlank, fresh, spacedFor, keptOf};
+
+// How many bytes of a tidy line are kept: more than any stream's line has.
+pub const ROOM: usize = 192;
+
+// The first bytes of a tidy line: they stand in the first len places.
+pub struct Row {
+    pub bytes: [u8; ROOM],
+    pub len: usize,
+}
 
 // A line so far: its tidy bytes, whether a comment runs, and whether a gap waits for a byte behind it.
 pub struct Tidy {
-    pub line: Line,
+    pub row: Row,
     pub comment: bool,
     pub gap: bool,
+}
+
+fn blank() -> Row
+    ensures { λ r. ⌜ r ≡ rowOf [] ⌝ }
+{
+    Row {
+        bytes: [0u8; ROOM],
+        len: 0,
+    }
+}
+
+// One byte more. A full row stays as it is.
+fn put(kept: Row, b: u8) -> Row
+    ensures { λ r. ⌜ r ≡ rowPut kept b ⌝ }
+{
+    let at = kept.len;
+    if at < ROOM {
+        let mut next = kept;
+        next.bytes[at] = b;
+        next.len = at + 1;
+        next
+    } else {
+        kept
+    }
 }
 
 // A line of which no byte has come.
 pub fn start() -> Tidy
     ensures { λ r. ⌜ r ≡ fresh ⌝ }
 {
-    let line = line::blank();
+    let row = blank();
     Tidy {
-        line,
+        row,
         comment: false,
         gap: false,
     }
@@ -29,23 +62,23 @@ fn is_blank(b: u8) -> bool
 }
 
 // A space, where a gap waits behind a byte of the line.
-fn spaced(l: Line, gap: bool) -> Line
-    ensures { λ r. ⌜ r ≡ spacedFor gap l ⌝ }
+fn spaced(kept: Row, gap: bool) -> Row
+    ensures { λ r. ⌜ r ≡ spacedFor gap kept ⌝ }
 {
-    let n = l.len;
+    let n = kept.len;
     if gap {
         if 0 < n {
-            return line::put(l, b' ');
+            return put(kept, b' ');
         }
     }
-    l
+    kept
 }
 
 // A line after one more byte, which is no newline.
 pub fn keep(t: Tidy, b: u8) -> Tidy
     ensures { λ r. ⌜ r ≡ keptOf t b ⌝ }
 {
-    let line = t.line;
+    let row = t.row;
     let comment = t.comment;
     let gap = t.gap;
     if comment {
@@ -53,21 +86,21 @@ pub fn keep(t: Tidy, b: u8) -> Tidy
     }
     if b == b'#' {
         return Tidy {
-            line,
+            row,
             comment: true,
             gap,
         };
     }
     if is_blank(b) {
         return Tidy {
-            line,
+            row,
             comment: false,
             gap: true,
         };
     }
-    let next = line::put(spaced(line, gap), b);
+    let next = put(spaced(row, gap), b);
     Tidy {
-        line: next,
+        row: next,
         comment: false,
         gap: false,
     }

@@ -1,5 +1,5 @@
 -- What the trace program prints, in whole and byte for byte, computed from the definitions: document 01's set B; spaces and newlines; a byte that
--- is no step; p without its digit; a sheet that is refused; and steps behind verdict 8.
+-- is no step; p without its digit; a sheet that is refused; steps behind verdict 8; and a message that passes on to its next stage.
 -- Assumes nothing.
 use Prim.Native.Nat.{ℕ}
 use Prim.Native.String.{String}
@@ -11,6 +11,7 @@ use Rattle.rules.specs.declared.Verdict.the-variants.{Accept, Refused}
 use Rattle.rules.specs.Load.{lastLength, greatestDeadline, streamOffset, greatestOffset}
 use Rattle.rules.specs.Sheet.{setOf, sheetOf}
 use Rattle.rules.proofs.Examples.{setB, stream, each, computed}
+use Rattle.rules.proofs.Staged.{boom}
 use Rattle.rules.proofs.Cycles.{hOf}
 use Rattle.rules.proofs.Judge.{judgeFrom, judgeBy, judge, judge-right}
 use Rattle.ascii.specs.Decimal.{letters, digitsOf}
@@ -40,7 +41,7 @@ abbrev sheet12 : List ℕ
 sheet12 = 0x10 ∷ 0x98 ∷ 0x00 ∷ 0x10 ∷ 0x00 ∷ 0x0A ∷ 0x00 ∷ 0x00 ∷ 0x50 ∷ 0x00 ∷ 0x00 ∷ []
 
 abbrev set12 : Set
-set12 = setOf (stream 3 2 5 (each 10) ∷ [])
+set12 = setOf 1 (stream 3 2 5 (each 10) ∷ [])
 
 abbrev prints12 : String → String → Type 0
 prints12 input out = TraceOf sheet12 (letters input) (letters out)
@@ -71,8 +72,15 @@ refused-printed = record { verdict = Refused BitsMissing; is-verdict = refl; who
 
 -- "after any verdict on a sheet that was read, 8 included, the steps follow": W10
 abbrev set10 : Set
-set10 = setOf (stream 0 1 1 (each 999999) ∷ stream 1 1 1 (each 1000000) ∷ [])
+set10 = setOf 1 (stream 0 1 1 (each 999999) ∷ stream 1 1 1 (each 1000000) ∷ [])
 
 pub eight-printed : TraceOf (sheetOf set10) (letters "p1d") (letters "refused 8\n0 posted 1 1\n0 done 1 1 0\n")
 unfolding shown
 eight-printed = record { verdict = Refused LongCycles; is-verdict = judge-right set10; whole = refl }
+
+-- "The trace program prints passed with task and stream."
+pub passed-printed :
+    TraceOf (sheetOf boom) (letters "p1up0uduuud")
+    (letters "accept\n0 posted 1 30\n0 ran 4 1\n1 posted 0 13\n1 ran 1 0\n2 passed 1 0\n3 cut 4 1 26\n4 ran 4 0\n5 ran 4 0\n6 done 4 0 6\n")
+unfolding shown
+passed-printed = record { verdict = Accept; is-verdict = judge-right boom; whole = refl }

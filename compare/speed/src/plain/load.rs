@@ -23,13 +23,14 @@ struct Row {
 fn rows(set: &Set) -> Vec<Row> {
     let mut rows = Vec::new();
     for stream in set.used_streams() {
+        let cost = stream.cost();
         for tuple in stream.used_tuples() {
             let cycle = match *tuple {
                 Tuple::Once(_) => u32::MAX,
                 Tuple::Every(cycle, _) => cycle,
             };
             rows.push(Row {
-                cost: stream.cost,
+                cost,
                 first: stream.deadline + tuple.offset(),
                 cycle,
             });
@@ -52,10 +53,12 @@ fn blocking(set: &Set, length: u32) -> u64 {
     let mut urgent = [false; 16];
     let mut held = [0; 16];
     for stream in set.used_streams() {
-        if stream.deadline <= length {
-            urgent[stream.task] = true;
-        } else {
-            held[stream.task] = held[stream.task].max(u64::from(stream.cost) - 1);
+        for stage in stream.used_stages() {
+            if stream.deadline <= length {
+                urgent[stage.task] = true;
+            } else {
+                held[stage.task] = held[stage.task].max(u64::from(stage.cost) - 1);
+            }
         }
     }
     (0..16)
@@ -74,12 +77,13 @@ fn gcd(a: u64, b: u64) -> u64 {
 
 fn cyclic(set: &Set) -> impl Iterator<Item = (u64, u64)> + '_ {
     set.used_streams().iter().flat_map(|stream| {
+        let cost = u64::from(stream.cost());
         stream
             .used_tuples()
             .iter()
-            .filter_map(|tuple| match *tuple {
+            .filter_map(move |tuple| match *tuple {
                 Tuple::Once(_) => None,
-                Tuple::Every(cycle, _) => Some((u64::from(stream.cost), u64::from(cycle))),
+                Tuple::Every(cycle, _) => Some((cost, u64::from(cycle))),
             })
     })
 }

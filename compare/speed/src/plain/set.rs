@@ -7,9 +7,15 @@ pub enum Tuple {
 }
 
 #[derive(Clone, Copy)]
-pub struct Stream {
+pub struct Stage {
     pub task: usize,
     pub cost: u32,
+}
+
+#[derive(Clone, Copy)]
+pub struct Stream {
+    pub stage_count: usize,
+    pub stages: [Stage; 4],
     pub deadline: u32,
     pub count: usize,
     pub tuples: [Tuple; 4],
@@ -19,6 +25,7 @@ pub struct Stream {
 pub struct Set {
     pub count: usize,
     pub streams: [Stream; 16],
+    pub version: u32,
 }
 
 impl Tuple {
@@ -33,21 +40,42 @@ impl Tuple {
     }
 }
 
+impl Stage {
+    pub const UNUSED: Stage = Stage { task: 0, cost: 0 };
+
+    fn unused(&self) -> bool {
+        self.task == 0 && self.cost == 0
+    }
+
+    fn in_rule(&self) -> bool {
+        self.task <= 15 && (1..=65_535).contains(&self.cost)
+    }
+}
+
 impl Stream {
     pub const UNUSED: Stream = Stream {
-        task: 0,
-        cost: 0,
+        stage_count: 0,
+        stages: [Stage::UNUSED; 4],
         deadline: 0,
         count: 0,
         tuples: [Tuple::Once(0); 4],
     };
 
     fn unused(&self) -> bool {
-        self.task == 0
-            && self.cost == 0
+        self.stage_count == 0
+            && self.stages.iter().all(Stage::unused)
             && self.deadline == 0
             && self.count == 0
             && self.tuples.iter().all(Tuple::unused)
+    }
+
+    pub fn used_stages(&self) -> &[Stage] {
+        &self.stages[..self.stage_count]
+    }
+
+    /// The sum of the costs of its stages.
+    pub fn cost(&self) -> u32 {
+        self.used_stages().iter().map(|stage| stage.cost).sum()
     }
 
     pub fn used_tuples(&self) -> &[Tuple] {
@@ -55,8 +83,9 @@ impl Stream {
     }
 
     fn in_rule(&self) -> bool {
-        if self.task > 15
-            || !(1..=65_535).contains(&self.cost)
+        if !(1..=4).contains(&self.stage_count)
+            || !self.used_stages().iter().all(Stage::in_rule)
+            || !self.stages[self.stage_count..].iter().all(Stage::unused)
             || !(1..=200_000).contains(&self.deadline)
             || !(1..=4).contains(&self.count)
             || self.tuples[0].offset() != 0
@@ -84,6 +113,7 @@ impl Set {
     pub const EMPTY: Set = Set {
         count: 0,
         streams: [Stream::UNUSED; 16],
+        version: 1,
     };
 
     pub fn used_streams(&self) -> &[Stream] {
@@ -94,5 +124,7 @@ impl Set {
         self.count <= 16
             && self.used_streams().iter().all(Stream::in_rule)
             && self.streams[self.count..].iter().all(Stream::unused)
+            && (self.version == 2
+                || self.version == 1 && self.used_streams().iter().all(|s| s.stage_count == 1))
     }
 }

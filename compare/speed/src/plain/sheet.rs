@@ -1,6 +1,6 @@
 //! Reading a sheet. A field is taken from the bytes it touches, not bit by bit.
 
-use super::set::{Set, Stream, Tuple};
+use super::set::{Set, Stage, Stream, Tuple};
 
 struct Reader<'a> {
     bytes: &'a [u8],
@@ -31,11 +31,25 @@ impl Reader<'_> {
         Ok(value)
     }
 
-    fn stream(&mut self) -> Result<Stream, u8> {
+    fn stage(&mut self) -> Result<Stage, u8> {
+        let task = self.field(4)? as usize;
+        let cost = self.field_in(16, 1, 65_535)?;
+        Ok(Stage { task, cost })
+    }
+
+    fn stream(&mut self, version: u32) -> Result<Stream, u8> {
         let mut stream = Stream::UNUSED;
-        stream.task = self.field(4)? as usize;
-        stream.cost = self.field_in(16, 1, 65_535)?;
-        stream.deadline = self.field_in(18, 1, 200_000)?;
+        if version == 1 {
+            stream.stage_count = 1;
+            stream.stages[0] = self.stage()?;
+            stream.deadline = self.field_in(18, 1, 200_000)?;
+        } else {
+            stream.deadline = self.field_in(18, 1, 200_000)?;
+            stream.stage_count = self.field(2)? as usize + 1;
+            for place in 0..stream.stage_count {
+                stream.stages[place] = self.stage()?;
+            }
+        }
         stream.count = self.field(2)? as usize + 1;
         let (mut least, mut greatest) = (0, 0);
         for place in 0..stream.count {
@@ -62,13 +76,14 @@ impl Reader<'_> {
 
 pub fn read(bytes: &[u8]) -> Result<Set, u8> {
     let mut reader = Reader { bytes, at: 0 };
-    if reader.field(4)? != 1 {
+    let mut set = Set::EMPTY;
+    set.version = reader.field(4)?;
+    if set.version != 1 && set.version != 2 {
         return Err(6);
     }
-    let mut set = Set::EMPTY;
     set.count = reader.field_in(5, 0, 16)? as usize;
     for place in 0..set.count {
-        set.streams[place] = reader.stream()?;
+        set.streams[place] = reader.stream(set.version)?;
     }
     reader.end()?;
     Ok(set)

@@ -3,13 +3,14 @@
 //! The methods change a state in place. `post` and `unit` do the same by value, as document 01 has it: a state goes in, and
 //! the answer comes back with the state after the call.
 
-use super::set::{Set, Stream};
+use super::set::{Set, Stage, Stream};
 
 #[derive(Clone, Copy)]
 pub struct Message {
     stream: usize,
     deadline: u32,
     used: u32,
+    stage: usize,
 }
 
 #[derive(Clone, Copy)]
@@ -26,6 +27,7 @@ pub enum Answer {
     Posted(usize, u32),
     Ran(usize, usize),
     Finished(usize, usize, i64),
+    Passed(usize, usize),
     Cut(usize, usize, i64),
     Idle,
     Refused(u8),
@@ -38,10 +40,11 @@ impl Message {
         stream: 0,
         deadline: 0,
         used: 0,
+        stage: 0,
     };
 
     fn unused(&self) -> bool {
-        self.stream == 0 && self.deadline == 0 && self.used == 0
+        self.stream == 0 && self.deadline == 0 && self.used == 0 && self.stage == 0
     }
 }
 
@@ -63,6 +66,11 @@ impl State {
         &self.set.streams[message.stream]
     }
 
+    /// The stage that a message in rule is in.
+    fn stage_of(&self, message: &Message) -> Stage {
+        self.set.streams[message.stream].stages[message.stage]
+    }
+
     fn well_formed(&self) -> bool {
         if !self.set.valid() || self.count > 64 || self.clock > LAST_CLOCK {
             return false;
@@ -74,7 +82,11 @@ impl State {
                 return false;
             }
             let stream = self.stream_of(message);
-            if message.used >= stream.cost || message.deadline < stream.deadline {
+            if message.stage >= stream.stage_count || message.deadline < stream.deadline {
+                return false;
+            }
+            let stage = stream.stages[message.stage];
+            if message.used >= stage.cost {
                 return false;
             }
             let posted = message.deadline - stream.deadline;
@@ -83,10 +95,10 @@ impl State {
             }
             before = posted;
             if message.used > 0 {
-                if started[stream.task] {
+                if started[stage.task] {
                     return false;
                 }
-                started[stream.task] = true;
+                started[stage.task] = true;
             }
         }
         self.messages[self.count..].iter().all(Message::unused)
@@ -107,6 +119,7 @@ impl State {
             stream,
             deadline,
             used: 0,
+            stage: 0,
         };
         self.count += 1;
         Answer::Posted(stream, deadline)
@@ -116,7 +129,7 @@ impl State {
     fn place(&self) -> usize {
         let mut least = [u64::MAX; 16];
         for message in self.pending() {
-            let task = self.stream_of(message).task;
+            let task = self.stage_of(message).task;
             least[task] = least[task].min(message.deadline.into());
         }
         let mut task = 0;
@@ -125,7 +138,7 @@ impl State {
                 task = other;
             }
         }
-        let of_task = |m: &Message| self.stream_of(m).task == task;
+        let of_task = |m: &Message| self.stage_of(m).task == task;
         let started = self.pending().iter().position(|m| m.used > 0 && of_task(m));
         let urgent = |m: &Message| u64::from(m.deadline) == least[task] && of_task(m);
         started.unwrap_or_else(|| self.pending().iter().position(urgent).unwrap_or(0))
@@ -156,10 +169,16 @@ impl State {
             stream,
             deadline,
             used,
+            stage,
         } = self.messages[place];
-        let Stream { task, cost, .. } = self.set.streams[stream];
+        let Stage { task, cost } = self.set.streams[stream].stages[stage];
         self.clock += 1;
         let laxity = i64::from(deadline) - i64::from(self.clock);
+        if done && stage + 1 < self.set.streams[stream].stage_count {
+            self.messages[place].stage += 1;
+            self.messages[place].used = 0;
+            return Answer::Passed(task, stream);
+        }
         if done {
             self.leave(place);
             return Answer::Finished(task, stream, laxity);

@@ -57,63 +57,64 @@ pub enum Sheets {
 }
 
 /// A case of mixed sheets.
-pub fn make(random: &mut Random, lengths: &Lengths) -> Case {
-    make_of(Sheets::Mixed, random, lengths)
+pub fn make(random: &mut Random, lengths: &Lengths, requests: u32) -> Case {
+    make_of(Sheets::Mixed, random, lengths, requests)
 }
 
 /// A set's sheet, damaged until it is none.
-fn no_sheet(random: &mut Random, set: &Set) -> Vec<u8> {
+fn no_sheet(random: &mut Random, set: &Set, requests: u32) -> Vec<u8> {
     loop {
-        let bytes = sheets::damaged(random, set);
-        if sheet::read(&bytes).is_err() {
+        let bytes = sheets::damaged(random, set, requests);
+        if sheet::read(&bytes, requests).is_err() {
             return bytes;
         }
     }
 }
 
 /// A set's sheet, in so many of 36 cases as it should be; of the rest most are damaged.
-fn mixed(random: &mut Random, set: &Set, good: u64) -> Option<Vec<u8>> {
+fn mixed(random: &mut Random, set: &Set, good: u64, requests: u32) -> Option<Vec<u8>> {
     match random.below(36) {
         case if case < good => Some(sheets::of_set(set)),
         34 => Some(Vec::new()),
         35 => None,
-        _ => Some(sheets::damaged(random, set)),
+        _ => Some(sheets::damaged(random, set, requests)),
     }
 }
 
 /// A sheet, and the set that is read from it, or the one that was meant.
-fn sheet_and_set(which: Sheets, random: &mut Random) -> (Option<Vec<u8>>, Set) {
+fn sheet_and_set(which: Sheets, random: &mut Random, requests: u32) -> (Option<Vec<u8>>, Set) {
     loop {
-        let set = sets::any(random);
+        let set = sets::any(random, requests);
         let sheet = match which {
-            Sheets::Damaged => Some(no_sheet(random, &set)),
-            Sheets::Mixed => mixed(random, &set, 24),
-            Sheets::MoreGood => mixed(random, &set, 27),
+            Sheets::Damaged => Some(no_sheet(random, &set, requests)),
+            Sheets::Mixed => mixed(random, &set, 24, requests),
+            Sheets::MoreGood => mixed(random, &set, 27, requests),
         };
-        let read = sheet::read(sheet.as_deref().unwrap_or(&[])).unwrap_or(set);
+        let read = sheet::read(sheet.as_deref().unwrap_or(&[]), requests).unwrap_or(set);
         if sets::worth_judging(random, &read) {
             return (sheet, read);
         }
     }
 }
 
-pub fn make_of(which: Sheets, random: &mut Random, lengths: &Lengths) -> Case {
-    let (sheet, set) = sheet_and_set(which, random);
+/// A case of such sheets, made for the requests up to a number in force.
+pub fn make_of(which: Sheets, random: &mut Random, lengths: &Lengths, requests: u32) -> Case {
+    let (sheet, set) = sheet_and_set(which, random, requests);
     let input = traces::make(random, &set, lengths);
     Case { sheet, input }
 }
 
 /// A case for the replay program: a sheet and a recording.
-pub fn to_replay(random: &mut Random) -> Case {
-    let (sheet, set) = sheet_and_set(Sheets::MoreGood, random);
+pub fn to_replay(random: &mut Random, requests: u32) -> Case {
+    let (sheet, set) = sheet_and_set(Sheets::MoreGood, random, requests);
     let calls = lengthened(traces::steps(random, &set, &TO_RUN), random);
     let input = recordings::any(random, &calls);
     Case { sheet, input }
 }
 
 /// A case for the record program: a trace, and no sheet.
-pub fn to_record(random: &mut Random) -> Case {
-    let set = sets::small(random);
+pub fn to_record(random: &mut Random, requests: u32) -> Case {
+    let set = sets::small(random, requests);
     let input = match random.below(50) {
         0 => lengthened_trace(random, &set),
         1..=10 => traces::make(random, &set, &SHORT),

@@ -20,7 +20,7 @@ use std::io;
 use std::path::Path;
 use std::process::ExitCode;
 
-use second::requests;
+use second::{replay, requests, trace};
 
 use cases::Sheets;
 use programs::Program;
@@ -33,6 +33,8 @@ compare damaged BIN CASES SEED  the program BIN of many cases against the librar
 compare replay BIN CASES SEED   the replay program BIN against the library
 compare record BIN CASES SEED   the record program BIN against the library
 compare batch CASES SEED DIR    writes DIR/cases.bin and DIR/expected.txt
+compare answers FILE            prints what is expected of the stored cases in FILE
+compare answers-replay FILE     the same of cases with recordings
 compare ontime CASES SEED       that accepted sets run on time
 compare in-force                prints the number up to which requests are in force
 With --requests N behind the others that number is N, for trying.";
@@ -70,7 +72,7 @@ fn run(arguments: &[&str], requests: u32) -> Option<io::Result<bool>> {
                 _ => process_mode::RECORD,
             };
             let program = kind.in_force(requests).and_then(|()| Program::at(program));
-            Some(program.and_then(|p| process_mode::compare(&kind, &p, cases, seed)))
+            Some(program.and_then(|p| process_mode::compare(&kind, &p, requests, cases, seed)))
         }
         ["console", program, lines, seed] => {
             let (lines, seed) = (number(lines)?, number(seed)?);
@@ -83,17 +85,27 @@ fn run(arguments: &[&str], requests: u32) -> Option<io::Result<bool>> {
                 "many" => Sheets::Mixed,
                 _ => Sheets::Damaged,
             };
-            Some(Program::at(program).and_then(|p| batch_mode::compare(&p, sheets, cases, seed)))
+            let program = Program::at(program);
+            Some(program.and_then(|p| batch_mode::compare(&p, sheets, requests, cases, seed)))
         }
         ["batch", cases, seed, folder] => {
             let (cases, seed) = (number(cases)?, number(seed)?);
-            Some(batch_mode::write(cases, seed, Path::new(folder)).map(|()| true))
+            Some(batch_mode::write(requests, cases, seed, Path::new(folder)).map(|()| true))
+        }
+        [which @ ("answers" | "answers-replay"), file] => {
+            let runs: batch_mode::Runs = match *which {
+                "answers" => trace::run,
+                _ => replay::run,
+            };
+            Some(batch_mode::print_answers(runs, requests, Path::new(file)).map(|()| true))
         }
         ["in-force"] => {
             println!("{requests}");
             Some(Ok(true))
         }
-        ["ontime", cases, seed] => Some(ontime_mode::check(number(cases)?, number(seed)?)),
+        ["ontime", cases, seed] => {
+            Some(ontime_mode::check(requests, number(cases)?, number(seed)?))
+        }
         _ => None,
     }
 }

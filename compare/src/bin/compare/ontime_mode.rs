@@ -5,6 +5,7 @@ use std::io;
 
 use second::load::{self, Verdict};
 use second::set::Set;
+use second::sheet::VERSION_2;
 
 use crate::plays::{Plan, Play};
 use crate::programs;
@@ -20,21 +21,28 @@ const LAST_CLOCK: u32 = 400;
 #[derive(Default)]
 struct Counts {
     accepted_sets: u64,
+    of_version_2: u64,
+    with_stages: u64,
     runs: u64,
     posts: u64,
     units: u64,
+    passed: u64,
+    full: u64,
     late_sets: u64,
     late_sets_that_miss: u64,
+    late_of_version_2: u64,
+    late_of_version_2_that_miss: u64,
 }
 
 /// Tries; whether no accepted set missed. A case is a random set whose costs were raised as far as
 /// it is accepted, and, where there was one, the last of the late sets met on the way.
-pub fn check(cases: u64, seed: u64) -> io::Result<bool> {
+pub fn check(requests: u32, cases: u64, seed: u64) -> io::Result<bool> {
     let mut counts = Counts::default();
     for number in 0..cases {
         let mut random = Random::for_case(seed, number);
+        let version = sets::version_to_run_on_time(&mut random, requests);
         let tight = loop {
-            let set = sets::to_run_on_time(&mut random);
+            let set = sets::to_run_on_time(&mut random, version);
             if let Some(tight) = sets::tight(&mut random, set) {
                 break tight;
             }
@@ -45,8 +53,13 @@ pub fn check(cases: u64, seed: u64) -> io::Result<bool> {
             return Ok(false);
         }
         if let Some(late) = tight.late {
+            let misses = u64::from(late_set_misses(&mut random, &late));
             counts.late_sets += 1;
-            counts.late_sets_that_miss += u64::from(late_set_misses(&mut random, &late));
+            counts.late_sets_that_miss += misses;
+            if late.version == VERSION_2 {
+                counts.late_of_version_2 += 1;
+                counts.late_of_version_2_that_miss += misses;
+            }
         }
     }
     print(cases, &counts, 0);
@@ -56,6 +69,9 @@ pub fn check(cases: u64, seed: u64) -> io::Result<bool> {
 /// Runs an accepted set in many ways. The trace of a run that misses, which there must not be.
 fn accepted_set_that_misses(random: &mut Random, set: &Set, counts: &mut Counts) -> Option<String> {
     counts.accepted_sets += 1;
+    counts.of_version_2 += u64::from(set.version == VERSION_2);
+    let has_stages = set.used_streams().iter().any(|s| s.stage_count > 1);
+    counts.with_stages += u64::from(has_stages);
     for run in 0..RUNS_OF_ACCEPTED_SET {
         let plan = match run {
             0 => Plan::early(),
@@ -66,6 +82,8 @@ fn accepted_set_that_misses(random: &mut Random, set: &Set, counts: &mut Counts)
         counts.runs += 1;
         counts.posts += play.post_count;
         counts.units += play.unit_count;
+        counts.passed += play.passed_count;
+        counts.full += play.full_count;
         if play.missed {
             return Some(play.trace);
         }
@@ -112,7 +130,14 @@ fn print(cases: u64, counts: &Counts, missed: u64) {
         counts.accepted_sets, counts.runs, counts.posts, counts.units
     );
     println!(
-        "{} late sets, {} with a run that misses",
-        counts.late_sets, counts.late_sets_that_miss
+        "{} accepted sets of version 2, {} with several stages, {} messages passed on, {} left with all costs of several stages used",
+        counts.of_version_2, counts.with_stages, counts.passed, counts.full
+    );
+    println!(
+        "{} late sets, {} with a run that misses; of version 2 {} and {}",
+        counts.late_sets,
+        counts.late_sets_that_miss,
+        counts.late_of_version_2,
+        counts.late_of_version_2_that_miss
     );
 }

@@ -23,10 +23,10 @@ pub struct Kind {
     input: &'static str,
     /// How the files are named that hold what it writes.
     written: [&'static str; 2],
-    /// Makes a case.
-    make: fn(&mut Random) -> Case,
-    /// What it is to write.
-    expected: fn(&Case) -> Expected,
+    /// Makes a case for the requests up to a number in force.
+    make: fn(&mut Random, u32) -> Case,
+    /// What it is to write, with the requests up to a number in force.
+    expected: fn(&Case, u32) -> Expected,
     /// Where two of its outputs differ first.
     first_difference: fn(&[u8], &[u8]) -> String,
 }
@@ -43,11 +43,11 @@ pub const TRACE: Kind = Kind {
     request: 0,
     input: "trace",
     written: ["expected.txt", "found.txt"],
-    make: |random| cases::make(random, &cases::TO_RUN),
-    expected: |case| {
-        let run = trace::run(sheet_of(case), &case.input);
+    make: |random, requests| cases::make(random, &cases::TO_RUN, requests),
+    expected: |case, requests| {
+        let run = trace::run(sheet_of(case), &case.input, requests);
         Expected {
-            counts: counts_of_run(&run),
+            counts: counts_of_run(case, &run),
             output: run.output.into_bytes(),
         }
     },
@@ -61,10 +61,10 @@ pub const REPLAY: Kind = Kind {
     input: "recording",
     written: ["expected.txt", "found.txt"],
     make: cases::to_replay,
-    expected: |case| {
-        let run = replay::run(sheet_of(case), &case.input);
+    expected: |case, requests| {
+        let run = replay::run(sheet_of(case), &case.input, requests);
         let last = run.output.lines().last().filter(|_| !run.sheet_refused);
-        let mut counts = counts_of_run(&run);
+        let mut counts = counts_of_run(case, &run);
         counts.push(("ended", u64::from(last == Some("end"))));
         counts.push(("refused with 13", u64::from(last == Some("refused 13"))));
         counts.push(("refused with 14", u64::from(last == Some("refused 14"))));
@@ -84,7 +84,7 @@ pub const RECORD: Kind = Kind {
     input: "trace",
     written: ["expected.bin", "found.bin"],
     make: cases::to_record,
-    expected: |case| {
+    expected: |case, _| {
         let calls = trace::steps(&case.input);
         let counted = calls.as_ref().map_or(0, Vec::len) as u64;
         Expected {
@@ -115,21 +115,30 @@ fn sheet_of(case: &Case) -> &[u8] {
     case.sheet.as_deref().unwrap_or(&[])
 }
 
-fn counts_of_run(run: &Run) -> Vec<(&'static str, u64)> {
+fn counts_of_run(case: &Case, run: &Run) -> Vec<(&'static str, u64)> {
+    let version_2 = !run.sheet_refused && sheet_of(case)[0] >> 4 == 2;
     vec![
         ("damaged sheets", u64::from(run.sheet_refused)),
+        ("sheets of version 2", u64::from(version_2)),
         ("calls", run.calls),
+        ("passed", run.output.matches(" passed ").count() as u64),
     ]
 }
 
 /// Compares; whether all agreed.
-pub fn compare(kind: &Kind, program: &Program, cases: u64, seed: u64) -> io::Result<bool> {
+pub fn compare(
+    kind: &Kind,
+    program: &Program,
+    requests: u32,
+    cases: u64,
+    seed: u64,
+) -> io::Result<bool> {
     let folder = TemporaryFolder::new()?;
     let mut totals: Vec<(&str, u64)> = Vec::new();
     for number in 0..cases {
         let mut random = Random::for_case(seed, number);
-        let case = (kind.make)(&mut random);
-        let expected = (kind.expected)(&case);
+        let case = (kind.make)(&mut random, requests);
+        let expected = (kind.expected)(&case, requests);
         let piece = random.pick(&[5, 64, usize::MAX, usize::MAX]);
         let found = run_case(program, &folder, &case, piece)?;
         add(&mut totals, &expected.counts);
@@ -207,13 +216,14 @@ fn report(
 #[cfg(test)]
 mod tests {
     use super::*;
+    use second::requests::RENDERED;
 
     /// The totals of 200 cases, by name.
     fn totals(kind: &Kind) -> Vec<(&'static str, u64)> {
         let mut totals = Vec::new();
         for number in 0..200 {
-            let case = (kind.make)(&mut Random::for_case(1, number));
-            add(&mut totals, &(kind.expected)(&case).counts);
+            let case = (kind.make)(&mut Random::for_case(1, number), RENDERED);
+            add(&mut totals, &(kind.expected)(&case, RENDERED).counts);
         }
         totals
     }

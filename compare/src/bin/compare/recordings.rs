@@ -102,6 +102,7 @@ mod tests {
     use crate::sets;
     use crate::sheets;
     use crate::traces::{self, Lengths};
+    use second::requests::RENDERED;
 
     #[test]
     fn every_end_of_a_replay_comes_up() {
@@ -114,10 +115,10 @@ mod tests {
         };
         let (mut ends, mut stops, mut after) = (0, 0, 0);
         for _ in 0..1_000 {
-            let set = sets::small(&mut random);
+            let set = sets::small(&mut random, RENDERED);
             let calls = traces::steps(&mut random, &set, &lengths);
             let recording = damaged(&mut random, &calls);
-            let output = second::replay::run(&sheets::of_set(&set), &recording).output;
+            let output = second::replay::run(&sheets::of_set(&set), &recording, RENDERED).output;
             match output.lines().last() {
                 Some("end") => ends += 1,
                 Some("refused 13") => stops += 1,

@@ -1,6 +1,7 @@
 //! Random traces for a set, and the calls they make.
 
 use second::set::Set;
+use second::sheet::VERSION_2;
 use second::trace::Step;
 
 use crate::random::Random;
@@ -69,6 +70,9 @@ impl Steps<'_> {
     fn part(&mut self, full_one_in: u64) {
         if self.random.one_in(full_one_in) {
             return self.fill_table();
+        }
+        if self.set.version == VERSION_2 && self.random.one_in(3) {
+            return self.through_stages();
         }
         match self.random.below(12) {
             0..=2 => self.burst(),
@@ -160,6 +164,36 @@ impl Steps<'_> {
         self.run();
     }
 
+    /// A message goes through its stages: each is done on its first unit, on its last or between,
+    /// and at one of them it may be cut. Others may come in between, and then the units are theirs.
+    fn through_stages(&mut self) {
+        let stream = self.stream();
+        let stages = self.set.streams[stream].stages;
+        let count = self.set.streams[stream].stage_count as usize;
+        let cut_at = self.random.index(count + 2);
+        self.post(stream);
+        for (place, stage) in stages[..count].iter().enumerate() {
+            if self.random.one_in(5) {
+                let other = self.stream();
+                self.post(other);
+            }
+            let last = stage.cost.clamp(1, 12) - 1;
+            let before = match self.random.below(4) {
+                _ if place == cut_at => last,
+                0 => 0,
+                1 => self.random.between(0, last),
+                _ => last,
+            };
+            for _ in 0..before {
+                self.steps.push(Step::Unit);
+            }
+            if place == cut_at {
+                return self.steps.push(Step::Unit);
+            }
+            self.steps.push(Step::Done);
+        }
+    }
+
     fn run_until_idle(&mut self) {
         for _ in 0..self.random.between(10, 40) {
             self.unit(5);
@@ -214,6 +248,7 @@ mod tests {
     use super::*;
     use crate::sets;
     use crate::sheets;
+    use second::requests::RENDERED;
 
     #[test]
     fn every_answer_comes_up() {
@@ -226,14 +261,15 @@ mod tests {
         };
         let mut output = String::new();
         for _ in 0..500 {
-            let set = sets::small(&mut random);
+            let set = sets::small(&mut random, RENDERED);
             let trace = make(&mut random, &set, &lengths);
-            output += &second::trace::run(&sheets::of_set(&set), &trace).output;
+            output += &second::trace::run(&sheets::of_set(&set), &trace, RENDERED).output;
         }
         for answer in [
             " posted ",
             " ran ",
             " done ",
+            " passed ",
             " cut ",
             " idle\n",
             " refused 1\n",
@@ -244,5 +280,43 @@ mod tests {
             assert!(output.matches(answer).count() > 50, "{answer}");
         }
         assert!(output.contains(" -"), "a negative laxity");
+    }
+
+    #[test]
+    fn messages_pass_leave_and_are_cut_at_every_stage() {
+        use second::state::{Answer, State};
+        use second::trace::call;
+        let mut random = Random::new(2);
+        let lengths = Lengths {
+            usual: 100,
+            long: 400,
+            long_one_in: 10,
+            full_one_in: 20,
+        };
+        // Of streams of four stages.
+        let (mut passed, mut cut, mut finished) = ([0; 4], [0; 4], [0; 4]);
+        for _ in 0..500 {
+            let set = sets::small_of(&mut random, VERSION_2);
+            let (mut state, _) = State::start(&set);
+            for step in steps(&mut random, &set, &lengths) {
+                let chosen = state.chosen_message().copied();
+                let answer = call(&mut state, step);
+                let Some(message) = chosen else { continue };
+                if set.streams[message.stream as usize].stage_count < 4 {
+                    continue;
+                }
+                let stage = message.stage as usize;
+                match answer {
+                    Answer::Passed { .. } => passed[stage] += 1,
+                    Answer::Cut { .. } => cut[stage] += 1,
+                    Answer::Finished { .. } => finished[stage] += 1,
+                    _ => {}
+                }
+            }
+        }
+        assert!(passed[..3].iter().all(|&count| count > 50), "{passed:?}");
+        assert!(cut.iter().all(|&count| count > 50), "{cut:?}");
+        assert!(finished[3] > 50 && passed[3] == 0, "{finished:?}");
+        assert_eq!(finished[..3], [0; 3]);
     }
 }

@@ -3,7 +3,7 @@
 use mathlib.Core.Path.{_≡_}
 use lib.ListN.{length}
 use Rattle.laws.proofs.Parts.{sized}
-use Rattle.console_ask.proofs.States.{messages-room, state-onto}
+use Rattle.console_ask.proofs.States.{places-room, state-onto}
 use borrow.Author.Needs.{needs}
 use Rattle.console_ask.proofs.state_onto.Statement.{statement}
 use Rattle.console_ask.proofs.state_onto.Tie as tie
@@ -29,13 +29,13 @@ number-line-requires-2 c κs = search needs
 append-requires-2 : tie.Need-append-requires-2
 append-requires-2 c κs = search needs
 
-messages-onto-requires : tie.Need-messages-onto-requires
-messages-onto-requires c κs =
+places-onto-requires : tie.Need-places-onto-requires
+places-onto-requires c κs =
     let k = c .before .before .before in
     let l = k .before .before .before .before .before .before in
     let s = l .before .before .before .before .before in
     let a = s .args in
-    messages-room (a .s) (a .out .now) (a .at) (s .pre) _ _ _ _ _ _ (l .before .number-line .ensures) (l .append .ensures)
+    places-room (a .s) (a .out .now) (a .at) (s .pre) _ _ _ _ _ _ (l .before .number-line .ensures) (l .append .ensures)
     (k .before .number-line2 .ensures) (k .append2 .ensures)
 
 same-length : tie.Need-same-length
@@ -50,7 +50,7 @@ returns c =
     let l = k .before .before .before .before .before .before in
     let a = s .args in
     state-onto (a .s) (a .out .now) (a .at) (s .pre) _ _ _ _ _ _ (l .before .number-line .ensures) (l .append .ensures)
-    (k .before .number-line2 .ensures) (k .append2 .ensures) _ _ all (m .messages-onto .ensures)
+    (k .before .number-line2 .ensures) (k .append2 .ensures) _ _ all (m .places-onto .ensures)
 
 pub state-onto-spec : {M : Type 1} → statement M
 state-onto-spec =
@@ -63,6 +63,6 @@ state-onto-spec =
     slice-aggregate-number-line-2
     number-line-requires-2
     append-requires-2
-    messages-onto-requires
+    places-onto-requires
     same-length
     returns)

@@ -52,18 +52,51 @@ slice-aggregate-named-5 c = search needs
 named-requires-5 : tie.Need-named-requires-5
 named-requires-5 c κs = search needs
 
+of-set-requires-5 : tie.Need-of-set-requires-5
+of-set-requires-5 c κs = search needs
+
+slice-aggregate-named-6 : tie.Need-slice-aggregate-named-6
+slice-aggregate-named-6 c = search needs
+
+named-requires-6 : tie.Need-named-requires-6
+named-requires-6 c κs = search needs
+
+of-set-requires-6 : tie.Need-of-set-requires-6
+of-set-requires-6 c κs = search needs
+
+slice-aggregate-named-7 : tie.Need-slice-aggregate-named-7
+slice-aggregate-named-7 c = search needs
+
+named-requires-7 : tie.Need-named-requires-7
+named-requires-7 c κs = search needs
+
+of-set-requires-7 : tie.Need-of-set-requires-7
+of-set-requires-7 c κs = search needs
+
+slice-aggregate-named-8 : tie.Need-slice-aggregate-named-8
+slice-aggregate-named-8 c = search needs
+
+named-requires-8 : tie.Need-named-requires-8
+named-requires-8 c κs = search needs
+
 returns : tie.Need-returns
 unfolding setRow
 returns c =
-    let c4 = c .before .before .before in
+    let c7 = c .before .before .before in
+    let c6 = c7 .before .before .before in
+    let c5 = c6 .before .before .before in
+    let c4 = c5 .before .before .before in
     let c3 = c4 .before .before .before in
     let c2 = c3 .before .before .before in
     let c1 = c2 .before .before .before in
-    or _ _ _ _ _ _ _ (c .named5 .ensures) (c .before .before .of-set4 .ensures)
+    or _ _ _ _ _ _ _ (c .named8 .ensures) (c .before .before .of-set7 .ensures)
+    (or _ _ _ _ _ _ _ (c7 .named7 .ensures) (c7 .before .before .of-set6 .ensures)
+    (or _ _ _ _ _ _ _ (c6 .named6 .ensures) (c6 .before .before .of-set5 .ensures)
+    (or _ _ _ _ _ _ _ (c5 .named5 .ensures) (c5 .before .before .of-set4 .ensures)
     (or _ _ _ _ _ _ _ (c4 .named4 .ensures) (c4 .before .before .of-set3 .ensures)
     (or _ _ _ _ _ _ _ (c3 .named3 .ensures) (c3 .before .before .of-set2 .ensures)
     (or _ _ _ _ _ _ _ (c2 .named2 .ensures) (c2 .before .before .of-set .ensures)
-    (or _ _ _ _ _ _ _ (c1 .named .ensures) (c1 .before .before .asks-hex .ensures) refl))))
+    (or _ _ _ _ _ _ _ (c1 .named .ensures) (c1 .before .before .asks-hex .ensures) refl)))))))
 
 pub set-row-spec : {M : Type 1} → statement M
 set-row-spec =
@@ -84,4 +117,13 @@ set-row-spec =
     of-set-requires-4
     slice-aggregate-named-5
     named-requires-5
+    of-set-requires-5
+    slice-aggregate-named-6
+    named-requires-6
+    of-set-requires-6
+    slice-aggregate-named-7
+    named-requires-7
+    of-set-requires-7
+    slice-aggregate-named-8
+    named-requires-8
     returns)

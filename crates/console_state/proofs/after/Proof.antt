@@ -81,6 +81,15 @@ enum-told-7 c = search needs
 unit-requires-2 : tie.Need-unit-requires-2
 unit-requires-2 c κs = search needs
 
+enum-told-8 : tie.Need-enum-told-8
+enum-told-8 c = search needs
+
+put-staged-requires : tie.Need-put-staged-requires
+put-staged-requires c κs = search needs
+
+put-requires-4 : tie.Need-put-requires-4
+put-requires-4 c κs = search needs
+
 returns : tie.Need-returns
 unfolding started
 returns c = rw (c .before .enum-told .given .1) (c .start .ensures)
@@ -105,6 +114,9 @@ returns-6 c = rw (c .before .enum-told6 .given .1) (c .unit .ensures)
 returns-7 : tie.Need-returns-7
 unfolding ran
 returns-7 c = rw (c .before .enum-told7 .given .1) (c .unit2 .ensures)
+
+returns-8 : tie.Need-returns-8
+returns-8 c = rw (c .before .before .enum-told8 .given .1) (put-is _ _ _ (c .put4 .ensures) (c .before .put-staged .ensures))
 
 pub after-spec : {M : Type 1} → statement M
 after-spec =
@@ -135,10 +147,14 @@ after-spec =
     unit-requires
     enum-told-7
     unit-requires-2
+    enum-told-8
+    put-staged-requires
+    put-requires-4
     returns
     returns-2
     returns-3
     returns-4
     returns-5
     returns-6
-    returns-7)
+    returns-7
+    returns-8)

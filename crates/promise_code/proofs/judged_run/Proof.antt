@@ -3,7 +3,7 @@ use mathlib.Core.Path.{_≡_, _∙_, subst}
 use borrow.Author.Needs.{needs}
 use Rattle.laws.proofs.Parts.{sized}
 use Rattle.rules.specs.declared.Verdict.{Verdict}
-use Rattle.rules.specs.Streams.{Placed, FourTuples}
+use Rattle.rules.specs.Streams.{Placed, FourPlaces}
 use Rattle.rules.specs.Load.{VerdictOf}
 use Rattle.promise_demand3.specs.Statements.{NeverMissed}
 use Rattle.promise_demand3.proofs.Promise.{never-missed}
@@ -23,7 +23,7 @@ returns c =
     let start = c .before .before .before .before in
     let placed : Placed (start .args .x) = record {
       sixteen = sized _ (start .args .x .streams) 16 (start .good .0 .1 .1 .1 .0 .1 .0 .1);
-      four = each-all _ _ FourTuples (λ s u h. sized _ (s .tuples) 4 (h .1 .1 .1 .1 .1 .1 .0 .1 .0 .1)) (start .args .x .streams) _ (start .good .0 .1 .1 .1 .0 .1 .1);
+      four = each-all _ _ FourPlaces (λ s u h. record { stages = sized _ (s .stages) 4 (h .1 .1 .1 .0 .1 .0 .1); tuples = sized _ (s .tuples) 4 (h .1 .1 .1 .1 .1 .1 .0 .1 .0 .1) }) (start .args .x .streams) _ (start .good .0 .1 .1 .1 .0 .1 .1);
     } in
     let v = c .before .before .verdict .ensures in
     let end = c .before .run .ensures in

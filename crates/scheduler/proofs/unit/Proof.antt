@@ -10,16 +10,16 @@ use Rattle.scheduler.proofs.unit.Statement.{statement}
 use Rattle.scheduler.proofs.unit.Tie as tie
 
 abbrev Inv-loop : tie.InvT-loop
-Inv-loop done next₀ a i task cost spent end k₀ next k = Moving next₀ i next k
+Inv-loop done next₀ a i task cost last spent end k₀ next k = Moving next₀ i next k
 
 abbrev μ-loop : tie.MeasureT-loop
-μ-loop done next₀ a i task cost spent end k₀ next k = end - k
+μ-loop done next₀ a i task cost last spent end k₀ next k = end - k
 
 -- where a message is served: what that relies on, and that it is the unit
-facts : (c : tie.After-what2 Inv-loop μ-loop) → Serving (c .before .before .before .before .args .s) (c .what2 .given .0 .0) (c .what2 .given .0 .1 .0) (c .what2 .given .0 .1 .1 .0)
+facts : (c : tie.After-what2 Inv-loop μ-loop) → Serving (c .before .before .before .before .args .s) (c .what2 .given .0 .0) (c .what2 .given .0 .1 .0) (c .what2 .given .0 .1 .1 .0) (c .what2 .given .0 .1 .1 .1 .0)
 facts c =
     let start = c .before .before .before .before in
-    serving (start .args .s) (start .args .done) (c .before .before .before .look .result) (c .before .before .decide .result) _ _ _ (c .before .before .before .look .ensures) (c .before .before .decide .ensures) (c .what2 .given .1) (sized _ (start .args .s .messages) 64 (start .good .0 .1 .1 .1 .1 .1 .0 .1 .0 .1)) (sized _ (start .args .s .set .streams) 16 (start .good .0 .1 .1 .0 .1 .1 .1 .0 .1 .0 .1))
+    serving (start .args .s) (start .args .done) (c .before .before .before .look .result) (c .before .before .decide .result) _ _ _ _ (c .before .before .before .look .ensures) (c .before .before .decide .ensures) (c .what2 .given .1) (sized _ (start .args .s .messages) 64 (start .good .0 .1 .1 .1 .1 .1 .0 .1 .0 .1)) (sized _ (start .args .s .set .streams) 16 (start .good .0 .1 .1 .0 .1 .1 .1 .0 .1 .0 .1))
 
 serves : (c : tie.After-what2 Inv-loop μ-loop) → servedOf (c .before .before .before .before .args .s) (c .what2 .given .0 .0) (c .before .before .before .before .args .done) ≡ unitOf (c .before .before .before .before .args .s) (c .before .before .before .before .args .done)
 serves c = unit-by _ _ _ _ (c .before .before .before .look .ensures) (sym (c .what2 .given .1) ∙ c .before .before .decide .ensures)
@@ -94,20 +94,20 @@ loop-again c =
 no-message-requires : tie.Need-no-message-requires Inv-loop μ-loop
 no-message-requires c κs = search needs
 
-mul-t26 : tie.Need-mul-t26 Inv-loop μ-loop
-mul-t26 c = omega (arith, c .before .before .loop .inv .few)
+mul-zero : tie.Need-mul-zero Inv-loop μ-loop
+mul-zero c = omega (arith, c .before .before .loop .inv .few)
 
-element-set-from-next : tie.Need-element-set-from-next Inv-loop μ-loop
-element-set-from-next c = omega (arith, c .before .before .loop .inv .few)
+element-set-from-zero : tie.Need-element-set-from-zero Inv-loop μ-loop
+element-set-from-zero c = omega (arith, c .before .before .loop .inv .few)
 
-add-m : tie.Need-add-m Inv-loop μ-loop
-add-m c = omega (arith, facts (c .before .before .before .before .before .before) .used)
+stepped-requires : tie.Need-stepped-requires Inv-loop μ-loop
+stepped-requires c κs = let h = facts (c .before .before .before .before .before) in (h .used, h .stage)
 
-mul-m-2 : tie.Need-mul-m-2 Inv-loop μ-loop
-mul-m-2 c = omega (arith, facts (c .before .before .before .before .before .before) .place)
+mul-on : tie.Need-mul-on Inv-loop μ-loop
+mul-on c = omega (arith, facts (c .before .before .before .before .before .before) .place)
 
-element-set-from-m : tie.Need-element-set-from-m Inv-loop μ-loop
-element-set-from-m c = facts (c .before .before .before .before .before .before) .place
+element-set-from-on : tie.Need-element-set-from-on Inv-loop μ-loop
+element-set-from-on c = facts (c .before .before .before .before .before .before) .place
 
 returns : tie.Need-returns Inv-loop μ-loop
 returns c = unit-by _ _ _ _ (c .before .before .before .before .look .ensures) (sym (c .before .what .given .1) ∙ c .before .before .before .decide .ensures)
@@ -121,12 +121,12 @@ returns-3 c =
     let loop = c .before .before .loop in
     let what = into .before .before .before .before .before in
     rw (c .no-message .ensures) (moved-up _ _ _ _ _ (loop .inv) (c .before .loop-test .left))
-    ∙ leaves _ _ _ _ _ (facts what .task) (facts what .cost) _ (into .before .served .ensures) (into .if1 .taken) ∙ serves what
+    ∙ leaves _ _ _ _ _ _ (facts what .task) (facts what .cost) (facts what .last) _ (into .before .served .ensures) (into .if1 .taken) ∙ serves what
 
 returns-4 : tie.Need-returns-4 Inv-loop μ-loop
 returns-4 c =
     let what = c .before .before .before .before .before .before in
-    stays _ _ _ _ _ (facts what .task) (facts what .cost) _ (c .before .before .served .ensures) (c .before .if1 .left) ∙ serves what
+    rw (c .stepped .ensures) (stays _ _ _ _ _ _ (facts what .task) (facts what .cost) (facts what .last) _ (c .before .before .served .ensures) (c .before .if1 .left)) ∙ serves what
 
 pub unit-spec : {M : Type 1} → statement M
 unit-spec =
@@ -156,11 +156,11 @@ unit-spec =
     loop-less
     loop-again
     no-message-requires
-    mul-t26
-    element-set-from-next
-    add-m
-    mul-m-2
-    element-set-from-m
+    mul-zero
+    element-set-from-zero
+    stepped-requires
+    mul-on
+    element-set-from-on
     returns
     returns-2
     returns-3

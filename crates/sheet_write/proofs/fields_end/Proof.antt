@@ -12,10 +12,10 @@ use Rattle.sheet_write.proofs.fields_end.Lts as lts
 use Rattle.sheet_write.proofs.stream_end.Reads as stream-end-reads
 
 abbrev Inv-loop : tie.InvT-loop
-Inv-loop x n end₀ k₀ end k = (k ≤ x .count) × (end ≡ 9 + length (upTo x k))
+Inv-loop x n version end₀ k₀ end k = (k ≤ x .count) × (end ≡ 9 + length (upTo x k))
 
 abbrev μ-loop : tie.MeasureT-loop
-μ-loop x n end₀ k₀ end k = x .count - k
+μ-loop x n version end₀ k₀ end k = x .count - k
 
 -- src/lib.rt:568:5
 loop-holds : tie.Need-loop-holds Inv-loop μ-loop

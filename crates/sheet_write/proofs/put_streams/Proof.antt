@@ -18,11 +18,11 @@ use Rattle.sheet_write.proofs.put_stream.Reads as put-stream-reads
 use Rattle.sheet_write.proofs.stream_end.Reads as stream-end-reads
 
 abbrev Inv-loop : tie.InvT-loop
-Inv-loop buf₀ x n at₀ k₀ buf at k =
+Inv-loop buf₀ x n version at₀ k₀ buf at k =
     (k ≤ x .count) × (at ≡ 9 + length (upTo x k)) × (length buf ≡ length buf₀) × (bits buf ≡ paste (bits buf₀) 9 (upTo x k) (length (upTo x k)))
 
 abbrev μ-loop : tie.MeasureT-loop
-μ-loop buf₀ x n at₀ k₀ buf at k = x .count - k
+μ-loop buf₀ x n version at₀ k₀ buf at k = x .count - k
 
 -- src/lib.rt:552:5
 loop-holds : tie.Need-loop-holds Inv-loop μ-loop

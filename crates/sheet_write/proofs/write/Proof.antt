@@ -65,13 +65,13 @@ returns c =
     let a = c .before .before .before .before .before .before .before .before .before .before .before .before .before .before .before .before .before .before .before .before .before .args in
     let x = a .x in
     let end : ℕ = c .before .before .before .before .before .before .before .before .before .before .before .before .before .before .before .before .before .fields-end .result in
-    let ss : List ℕ = flat streamBits (streamsOf x) in
+    let ss : List ℕ = flat (streamBits (x .version)) (streamsOf x) in
     wrote x (a .buf .now) (c .before .before .put-streams .last .0) end ((end + 7) / 8) (sym (c .before .before .before .before .before .before .before .before .before .before .before .before .before .before .before .before .before .before .before .is-valid .ensures) ∙ c .before .before .before .before .before .before .before .before .before .before .before .before .before .before .before .before .before .before .if1 .taken) (c .before .before .before .before .before .before .before .before .before .before .before .before .before .before .before .before .before .fields-end .ensures) refl (omega (arith, c .before .before .before .before .before .before .before .before .before .before .before .before .before .before .before .before .if2 .taken))
     (areBytes-of (a .buf .now) (λ i. c .before .before .before .before .before .before .before .before .before .before .before .before .before .before .before .before .before .before .before .before .slice-known .given i .fits))
     (areBytes-of (c .before .before .put-streams .last .0) (λ i. c .slice-known5 .given i .fits))
     (c .before .before .put-streams .ensures
     ∙ ap (λ (l : List ℕ). paste l 9 ss (length ss))
-    (c .before .before .before .before .before .before .put2 .ensures ∙ ap (λ (l : List ℕ). paste l 4 (toBits 5 (x .count)) 5) (c .before .before .before .before .before .before .before .before .before .before .put .ensures ∙ ap (λ (l : List ℕ). paste (bits l) 0 (toBits 4 1) 4) (c .before .before .before .before .before .before .before .before .before .before .before .before .before .before .clear .ensures))))
+    (c .before .before .before .before .before .before .put2 .ensures ∙ ap (λ (l : List ℕ). paste l 4 (toBits 5 (x .count)) 5) (c .before .before .before .before .before .before .before .before .before .before .put .ensures ∙ ap (λ (l : List ℕ). paste (bits l) 0 (toBits 4 (x .version)) 4) (c .before .before .before .before .before .before .before .before .before .before .before .before .before .before .clear .ensures))))
 
 -- src/lib.rt:140:9
 returns-2 : tie.Need-returns-2

@@ -1,15 +1,14 @@
--- `state_choosing::look` meets its contract.
--- Assumes nothing.
+-- `state_choosing::look` meets its contract. Assumes nothing.
 use native.Mathlib.Omega.{arith}
 use borrow.Author.Needs.{needs}
-use borrow.Author.Tests.{eq-eqb, not-true, not-false}
+use borrow.Author.Tests.{not-true, not-false}
 use Prim.Native.Nat.{_≤_, _<_}
 use mathlib.Core.Logic.{⊎-elim}
 use mathlib.Core.Path.{_≡_, sym, _∙_}
 use Rattle.laws.proofs.Gates.{le-or-lt}
 use Rattle.rules.specs.States.{wellFormed}
 use Rattle.state_formed.proofs.WellFormed.{set-fails, rest-tells}
-use Rattle.state_choosing.specs.ToServe.{serveOf}
+use Rattle.state_choosing.proofs.Looking.{look-ill, look-none, look-one}
 use Rattle.state_choosing.proofs.look.Statement.{statement}
 use Rattle.state_choosing.proofs.look.Tie as tie
 
@@ -17,8 +16,7 @@ is-valid-requires : tie.Need-is-valid-requires
 is-valid-requires c κs = search needs
 
 returns : tie.Need-returns
-unfolding serveOf
-returns c = simp (sym (set-fails (c .before .before .args .s) (sym (c .before .is-valid .ensures) ∙ not-true _ (c .if1 .taken))))
+returns c = look-ill _ (sym (set-fails _ (sym (c .before .is-valid .ensures) ∙ not-true _ (c .if1 .taken))))
 
 formed-requires : tie.Need-formed-requires
 formed-requires c κs = search needs
@@ -28,12 +26,10 @@ tested : (c : tie.After-formed) → c .formed .result ≡ wellFormed (c .before 
 tested c = rest-tells _ _ (sym (c .before .before .is-valid .ensures) ∙ not-false _ (c .before .if1 .left)) (c .formed .ensures)
 
 returns-2 : tie.Need-returns-2
-unfolding serveOf
-returns-2 c = simp (sym (tested (c .before)) ∙ not-true _ (c .if2 .taken))
+returns-2 c = look-ill _ (sym (tested (c .before)) ∙ not-true _ (c .if2 .taken))
 
 returns-3 : tie.Need-returns-3
-unfolding serveOf
-returns-3 c = simp ((sym (tested (c .before .before .before)) ∙ not-false _ (c .before .before .if2 .left)), eq-eqb _ _ (c .if3 .taken))
+returns-3 c = look-none _ (sym (tested (c .before .before .before)) ∙ not-false _ (c .before .before .if2 .left)) (c .if3 .taken)
 
 served-requires : tie.Need-served-requires
 served-requires c κs =
@@ -43,7 +39,8 @@ served-requires c κs =
     )
 
 returns-4 : tie.Need-returns-4
-returns-4 c = search needs
+returns-4 c =
+    look-one _ (sym (tested (c .before .before .before .before)) ∙ not-false _ (c .before .before .before .if2 .left)) (c .before .if3 .left) _ (c .served .ensures)
 
 pub look-spec : {M : Type 1} → statement M
 look-spec = tie.close (tie.spec is-valid-requires returns formed-requires returns-2 returns-3 served-requires returns-4)

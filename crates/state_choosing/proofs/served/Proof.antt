@@ -5,26 +5,26 @@ use borrow.Author.Needs.{needs}
 use Prim.Native.Nat.{_-_}
 use mathlib.Core.Logic.{⊎-elim}
 use Rattle.laws.proofs.Parts.{sized}
-use Rattle.state_choosing.proofs.Passing.{First, Second, first-start, first-new, first-old, second-start, second-fresh, second-other, serve-started, serve-best, message-in, stream-in}
+use Rattle.state_choosing.proofs.Passing.{First, Second, first-start, first-new, first-old, second-start, second-fresh, second-other, serve-started, serve-best, message-in, stream-in, stage-in}
 use Rattle.state_choosing.proofs.served.Statement.{statement}
 use Rattle.state_choosing.proofs.served.Tie as tie
 
 abbrev Inv-loop : tie.InvT-loop
-Inv-loop s messages streams best₀ deadline₀ task₀ cost₀ k₀ best deadline task cost k = First s k best deadline task cost
+Inv-loop s messages streams best₀ deadline₀ task₀ cost₀ last₀ k₀ best deadline task cost last k = First s k best deadline task cost last
 
 abbrev μ-loop : tie.MeasureT-loop
-μ-loop s messages streams best₀ deadline₀ task₀ cost₀ k₀ best deadline task cost k = s .count - k
+μ-loop s messages streams best₀ deadline₀ task₀ cost₀ last₀ k₀ best deadline task cost last k = s .count - k
 
 abbrev Inv-loop2 : tie.InvT-loop2
-Inv-loop2 s messages streams best deadline task cost k₀ k = Second s k best deadline task cost
+Inv-loop2 s messages streams best deadline task cost last k₀ k = Second s k best deadline task cost last
 
 abbrev μ-loop2 : tie.MeasureT-loop2
-μ-loop2 s messages streams best deadline task cost k₀ k = s .count - k
+μ-loop2 s messages streams best deadline task cost last k₀ k = s .count - k
 
 loop-holds : tie.Need-loop-holds Inv-loop μ-loop Inv-loop2 μ-loop2
 loop-holds c =
     let start = c .before .before in
-    first-start (start .args .s) 0 (record {
+    first-start (start .args .s) 0 _ (record {
       formed = start .pre .0;
       places = sized _ (start .args .s .messages) 64 (start .good .0 .1 .1 .1 .1 .1 .0 .1 .0 .1);
       streams = sized _ (start .args .s .set .streams) 16 (start .good .0 .1 .1 .0 .1 .1 .1 .0 .1 .0 .1);
@@ -47,8 +47,23 @@ array-copy-out-x c =
     let loop = c .before .before .before .loop in
     stream-in (loop .inv .opened) (loop .k) (c .before .if1 .taken)
 
+mul-g : tie.Need-mul-g Inv-loop μ-loop Inv-loop2 μ-loop2
+mul-g c =
+    let loop = c .before .before .before .before .before .loop in
+    omega (arith, stage-in (loop .inv .opened) (loop .k) (c .before .before .before .if1 .taken))
+
+array-copy-out-g : tie.Need-array-copy-out-g Inv-loop μ-loop Inv-loop2 μ-loop2
+array-copy-out-g c =
+    let loop = c .before .before .before .before .before .loop in
+    stage-in (loop .inv .opened) (loop .k) (c .before .before .before .if1 .taken)
+
 goes-first-requires : tie.Need-goes-first-requires Inv-loop μ-loop Inv-loop2 μ-loop2
 goes-first-requires c κs = search needs
+
+add-last : tie.Need-add-last Inv-loop μ-loop Inv-loop2 μ-loop2
+add-last c =
+    let loop = c .before .before .before .before .before .before .before .before .loop in
+    omega (arith, stage-in (loop .inv .opened) (loop .k) (c .before .before .before .before .before .before .if1 .taken))
 
 add-k : tie.Need-add-k Inv-loop μ-loop Inv-loop2 μ-loop2
 add-k c = search needs
@@ -58,12 +73,12 @@ loop-less c = search needs
 
 loop-again : tie.Need-loop-again Inv-loop μ-loop Inv-loop2 μ-loop2
 loop-again c =
-    let loop = c .before .before .before .before .before .before .loop in
-    let test = c .before .before .before .before .if1 in
+    let loop = c .before .before .before .before .before .before .before .before .loop in
+    let test = c .before .before .before .before .before .before .if1 in
     let goes = c .before .goes-first in
     ⊎-elim
-    (λ w. rw (w .1, w .2, w .3, w .4) (first-new (loop .inv) (test .taken) (goes .ensures) (w .0 .taken)))
-    (λ w. rw (w .1, w .2, w .3, w .4) (first-old (loop .inv) (test .taken) (goes .ensures) (w .0 .left)))
+    (λ w. rw (w .2, w .3, w .4, w .5, w .6) (first-new (loop .inv) (test .taken) (goes .ensures) (w .0 .taken)))
+    (λ w. rw (w .1, w .2, w .3, w .4, w .5) (first-old (loop .inv) (test .taken) (goes .ensures) (w .0 .left)))
     (c .if2 .came)
 
 loop2-holds : tie.Need-loop2-holds Inv-loop μ-loop Inv-loop2 μ-loop2
@@ -85,10 +100,25 @@ array-copy-out-x-2 c =
     let loop = c .before .before .before .before .before .loop2 in
     stream-in (loop .inv .opened) (loop .k) (c .before .before .before .if3 .taken)
 
+mul-g-2 : tie.Need-mul-g-2 Inv-loop μ-loop Inv-loop2 μ-loop2
+mul-g-2 c =
+    let loop = c .before .before .before .before .before .before .before .loop2 in
+    omega (arith, stage-in (loop .inv .opened) (loop .k) (c .before .before .before .before .before .if3 .taken))
+
+array-copy-out-g-2 : tie.Need-array-copy-out-g-2 Inv-loop μ-loop Inv-loop2 μ-loop2
+array-copy-out-g-2 c =
+    let loop = c .before .before .before .before .before .before .before .loop2 in
+    stage-in (loop .inv .opened) (loop .k) (c .before .before .before .before .before .if3 .taken)
+
+add-ends : tie.Need-add-ends Inv-loop μ-loop Inv-loop2 μ-loop2
+add-ends c =
+    let loop = c .before .before .before .before .before .before .before .before .before .before .loop2 in
+    omega (arith, stage-in (loop .inv .opened) (loop .k) (c .before .before .before .before .before .before .before .before .if3 .taken))
+
 returns : tie.Need-returns Inv-loop μ-loop Inv-loop2 μ-loop2
 returns c =
-    let loop = c .before .before .before .before .before .before .before .before .loop2 in
-    serve-started (loop .inv) (c .before .before .before .before .before .before .if3 .taken) (c .before .before .before .if4 .taken) (c .if5 .taken)
+    let loop = c .before .before .before .before .before .before .before .before .before .before .before .loop2 in
+    serve-started (loop .inv) (c .before .before .before .before .before .before .before .before .before .if3 .taken) (c .before .before .before .before .before .before .if4 .taken) (c .before .if5 .taken)
 
 add-k-2 : tie.Need-add-k-2 Inv-loop μ-loop Inv-loop2 μ-loop2
 add-k-2 c = search needs
@@ -101,7 +131,7 @@ loop2-again c =
     let loop = c .before .before .before .before .before .loop2 in
     let test = c .before .before .before .if3 in
     ⊎-elim
-    (λ w. second-other (loop .inv) (test .taken) (w .0 .taken) (w .3 .left))
+    (λ w. second-other (loop .inv) (test .taken) (w .0 .taken) (w .5 .left))
     (λ w. second-fresh (loop .inv) (test .taken) (w .left))
     (c .if4 .came)
 
@@ -121,7 +151,10 @@ served-spec =
     array-copy-out-m
     mul-x
     array-copy-out-x
+    mul-g
+    array-copy-out-g
     goes-first-requires
+    add-last
     add-k
     loop-less
     loop-again
@@ -130,6 +163,9 @@ served-spec =
     array-copy-out-m-2
     mul-x-2
     array-copy-out-x-2
+    mul-g-2
+    array-copy-out-g-2
+    add-ends
     returns
     add-k-2
     loop2-less

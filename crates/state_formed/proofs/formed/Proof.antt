@@ -11,8 +11,10 @@ use Rattle.laws.specs.Lists.{all}
 use Rattle.laws.proofs.Parts.{sized}
 use Rattle.laws.proofs.Fits.{and-go, and-end}
 use Rattle.rules.specs.States.{noMessage, messageUnused}
+use Rattle.rules.specs.Streams.{FourPlaces}
+use Rattle.state_formed.proofs.Places.{each-all}
 use Rattle.state_formed.proofs.WellFormed.{no-test}
-use Rattle.state_formed.proofs.Pass.{Opened, Pass, pass-start, pass-out, pass-stream, pass-no, pass-past, pass-task, pass-twice, pass-go, Passed, pass-end, last-test}
+use Rattle.state_formed.proofs.Pass.{Opened, Pass, pass-start, pass-out, pass-stream, pass-stage, pass-no, pass-past, pass-task, pass-twice, pass-go, Passed, pass-end, last-test}
 use Rattle.state_formed.proofs.formed.Statement.{statement}
 use Rattle.state_formed.proofs.formed.Tie as tie
 
@@ -42,7 +44,10 @@ loop-holds c =
       few = c .before .before .before .before .if1 .left;
       clock = c .before .before .if2 .left;
       places = sized _ (start .args .s .messages) 64 (start .good .0 .1 .1 .1 .1 .1 .0 .1 .0 .1);
-      streams = sized _ (start .args .s .set .streams) 16 (start .good .0 .1 .1 .0 .1 .1 .1 .0 .1 .0 .1);
+      set = record {
+        sixteen = sized _ (start .args .s .set .streams) 16 (start .good .0 .1 .1 .0 .1 .1 .1 .0 .1 .0 .1);
+        four = each-all _ _ FourPlaces (λ y u h. record { stages = sized _ (y .stages) 4 (h .1 .1 .1 .0 .1 .0 .1); tuples = sized _ (y .tuples) 4 (h .1 .1 .1 .1 .1 .1 .0 .1 .0 .1) }) (start .args .s .set .streams) _ (start .good .0 .1 .1 .0 .1 .1 .1 .0 .1 .1);
+      };
     })
 
 mul-m : tie.Need-mul-m Inv-loop μ-loop Inv-loop2 μ-loop2
@@ -66,44 +71,54 @@ element-copy-out-x c =
     let loop = c .before .before .before .before .loop in
     pass-stream _ (loop .k) _ _ (loop .inv) (c .before .before .if3 .taken) (not-false _ (c .if4 .left))
 
+mul-g : tie.Need-mul-g Inv-loop μ-loop Inv-loop2 μ-loop2
+mul-g c =
+    let loop = c .before .before .before .before .before .before .loop in
+    omega (arith, pass-stage _ (loop .k) _ _ (loop .inv) (c .before .before .before .before .if3 .taken) (not-false _ (c .before .before .if4 .left)))
+
+array-copy-out-g : tie.Need-array-copy-out-g Inv-loop μ-loop Inv-loop2 μ-loop2
+array-copy-out-g c =
+    let loop = c .before .before .before .before .before .before .loop in
+    pass-stage _ (loop .k) _ _ (loop .inv) (c .before .before .before .before .if3 .taken) (not-false _ (c .before .before .if4 .left))
+
 less-requires : tie.Need-less-requires Inv-loop μ-loop Inv-loop2 μ-loop2
 less-requires c κs = search needs
 
 returns-4 : tie.Need-returns-4 Inv-loop μ-loop Inv-loop2 μ-loop2
 returns-4 c =
-    let loop = c .before .before .before .before .before .before .before .before .before .before .before .before .loop in
-    let less = c .before .before .before .before .before .before .less in
-    pass-no _ (loop .k) _ _ (loop .inv) (c .before .before .before .before .before .before .before .before .before .before .if3 .taken) (not-false _ (c .before .before .before .before .before .before .before .before .if4 .left)) (less .result) (less .ensures) (not-true _ (c .if5 .taken))
+    let loop = c .before .before .before .before .before .before .before .before .before .before .before .before .before .before .before .loop in
+    let less = c .before .before .before .before .before .before .before .less in
+    pass-no _ (loop .k) _ _ (loop .inv) (c .before .before .before .before .before .before .before .before .before .before .before .before .before .if3 .taken) (not-false _ (c .before .before .before .before .before .before .before .before .before .before .before .if4 .left)) (less .result) (less .ensures) (not-true _ (c .if5 .taken))
 
 mul-if7 : tie.Need-mul-if7 Inv-loop μ-loop Inv-loop2 μ-loop2
 mul-if7 c =
-    let loop = c .before .before .before .before .before .before .before .before .before .before .before .before .before .before .loop in
-    let less = c .before .before .before .before .before .before .before .before .less in
-    omega (arith, pass-task _ (loop .k) _ _ (loop .inv) (c .before .before .before .before .before .before .before .before .before .before .before .before .if3 .taken) (not-false _ (c .before .before .before .before .before .before .before .before .before .before .if4 .left)) (less .result) (less .ensures) (not-false _ (c .before .before .if5 .left)) (c .if6 .taken))
+    let loop = c .before .before .before .before .before .before .before .before .before .before .before .before .before .before .before .before .before .loop in
+    let less = c .before .before .before .before .before .before .before .before .before .less in
+    omega (arith, pass-task _ (loop .k) _ _ (loop .inv) (c .before .before .before .before .before .before .before .before .before .before .before .before .before .before .before .if3 .taken) (not-false _ (c .before .before .before .before .before .before .before .before .before .before .before .before .before .if4 .left)) (less .result) (less .ensures) (not-false _ (c .before .before .if5 .left)) (c .if6 .taken))
 
 array-read-if7 : tie.Need-array-read-if7 Inv-loop μ-loop Inv-loop2 μ-loop2
 array-read-if7 c =
-    let loop = c .before .before .before .before .before .before .before .before .before .before .before .before .before .before .loop in
-    let less = c .before .before .before .before .before .before .before .before .less in
-    pass-task _ (loop .k) _ _ (loop .inv) (c .before .before .before .before .before .before .before .before .before .before .before .before .if3 .taken) (not-false _ (c .before .before .before .before .before .before .before .before .before .before .if4 .left)) (less .result) (less .ensures) (not-false _ (c .before .before .if5 .left)) (c .if6 .taken)
+    let loop = c .before .before .before .before .before .before .before .before .before .before .before .before .before .before .before .before .before .loop in
+    let less = c .before .before .before .before .before .before .before .before .before .less in
+    pass-task _ (loop .k) _ _ (loop .inv) (c .before .before .before .before .before .before .before .before .before .before .before .before .before .before .before .if3 .taken) (not-false _ (c .before .before .before .before .before .before .before .before .before .before .before .before .before .if4 .left)) (less .result) (less .ensures) (not-false _ (c .before .before .if5 .left)) (c .if6 .taken)
 
 returns-5 : tie.Need-returns-5 Inv-loop μ-loop Inv-loop2 μ-loop2
 returns-5 c =
-    let loop = c .before .before .before .before .before .before .before .before .before .before .before .before .before .before .before .loop in
-    let less = c .before .before .before .before .before .before .before .before .before .less in
-    pass-twice _ (loop .k) _ _ (loop .inv) (c .before .before .before .before .before .before .before .before .before .before .before .before .before .if3 .taken) (not-false _ (c .before .before .before .before .before .before .before .before .before .before .before .if4 .left)) (less .result) (less .ensures) (not-false _ (c .before .before .before .if5 .left)) (c .before .if6 .taken) (c .if7 .taken)
+    let loop = c .before .before .before .before .before .before .before .before .before .before .before .before .before .before .before .before .before .before .loop in
+    let less = c .before .before .before .before .before .before .before .before .before .before .less in
+    pass-twice _ (loop .k) _ _ (loop .inv) (c .before .before .before .before .before .before .before .before .before .before .before .before .before .before .before .before .if3 .taken) (not-false _ (c .before .before .before .before .before .before .before .before .before .before .before .before .before .before .if4 .left)) (less .result) (less .ensures) (not-false _ (c .before .before .before .if5 .left)) (c .before .if6 .taken) (c .if7 .taken)
 
 mul-counts : tie.Need-mul-counts Inv-loop μ-loop Inv-loop2 μ-loop2
 mul-counts c =
-    let loop = c .before .before .before .before .before .before .before .before .before .before .before .before .before .before .before .loop in
-    let less = c .before .before .before .before .before .before .before .before .before .less in
-    omega (arith, pass-task _ (loop .k) _ _ (loop .inv) (c .before .before .before .before .before .before .before .before .before .before .before .before .before .if3 .taken) (not-false _ (c .before .before .before .before .before .before .before .before .before .before .before .if4 .left)) (less .result) (less .ensures) (not-false _ (c .before .before .before .if5 .left)) (c .before .if6 .taken))
+    let loop = c .before .before .before .before .before .before .before .before .before .before .before .before .before .before .before .before .before .before .loop in
+    let less = c .before .before .before .before .before .before .before .before .before .before .less in
+    omega (arith, pass-task _ (loop .k) _ _ (loop .inv) (c .before .before .before .before .before .before .before .before .before .before .before .before .before .before .before .before .if3 .taken) (not-false _ (c .before .before .before .before .before .before .before .before .before .before .before .before .before .before .if4 .left)) (less .result) (less .ensures) (not-false _ (c .before .before .before .if5 .left)) (c .before .if6 .taken))
 
 array-write-counts : tie.Need-array-write-counts Inv-loop μ-loop Inv-loop2 μ-loop2
 array-write-counts c =
-    let loop = c .before .before .before .before .before .before .before .before .before .before .before .before .before .before .before .loop in
-    let less = c .before .before .before .before .before .before .before .before .before .less in
-    pass-task _ (loop .k) _ _ (loop .inv) (c .before .before .before .before .before .before .before .before .before .before .before .before .before .if3 .taken) (not-false _ (c .before .before .before .before .before .before .before .before .before .before .before .if4 .left)) (less .result) (less .ensures) (not-false _ (c .before .before .before .if5 .left)) (c .before .if6 .taken)
+    let loop = c .before .before .before .before .before .before .before .before .before .before .before .before .before .before .before .before .before .before .loop in
+    let less = c .before .before .before .before .before .before .before .before .before .before .less in
+    pass-task _ (loop .k) _ _ (loop .inv) (c .before .before .before .before .before .before .before .before .before .before .before .before .before .before .before .before .if3 .taken) (not-false _ (c .before .before .before .before .before .before .before .before .before .before .before .before .before .before .if4 .left)) (less .result) (less .ensures) (not-false _ (c .before .before .before .if5 .left)) (c .before .if6 .taken)
 
 add-k : tie.Need-add-k Inv-loop μ-loop Inv-loop2 μ-loop2
 add-k c = search needs
@@ -113,15 +128,15 @@ loop-less c = search needs
 
 loop-again : tie.Need-loop-again Inv-loop μ-loop Inv-loop2 μ-loop2
 loop-again c =
-    let loop = c .before .before .before .before .before .before .before .before .before .before .before .before .before .before .loop in
-    let less = c .before .before .before .before .before .before .before .before .less in
+    let loop = c .before .before .before .before .before .before .before .before .before .before .before .before .before .before .before .before .before .loop in
+    let less = c .before .before .before .before .before .before .before .before .before .less in
     ⊎-elim
     (λ w.
     rw (w .2)
-    (pass-go _ (loop .k) _ _ (loop .inv) (c .before .before .before .before .before .before .before .before .before .before .before .before .if3 .taken) (not-false _ (c .before .before .before .before .before .before .before .before .before .before .if4 .left)) (less .result) (less .ensures) (not-false _ (c .before .before .if5 .left)) (w .0 .taken) (w .1 .left)))
+    (pass-go _ (loop .k) _ _ (loop .inv) (c .before .before .before .before .before .before .before .before .before .before .before .before .before .before .before .if3 .taken) (not-false _ (c .before .before .before .before .before .before .before .before .before .before .before .before .before .if4 .left)) (less .result) (less .ensures) (not-false _ (c .before .before .if5 .left)) (w .0 .taken) (w .1 .left)))
     (λ w.
     rw (w .1)
-    (pass-past _ (loop .k) _ _ (loop .inv) (c .before .before .before .before .before .before .before .before .before .before .before .before .if3 .taken) (not-false _ (c .before .before .before .before .before .before .before .before .before .before .if4 .left)) (less .result) (less .ensures) (not-false _ (c .before .before .if5 .left)) (w .0 .left)))
+    (pass-past _ (loop .k) _ _ (loop .inv) (c .before .before .before .before .before .before .before .before .before .before .before .before .before .before .before .if3 .taken) (not-false _ (c .before .before .before .before .before .before .before .before .before .before .before .before .before .if4 .left)) (less .result) (less .ensures) (not-false _ (c .before .before .if5 .left)) (w .0 .left)))
     (c .if6 .came)
 
 loop2-holds : tie.Need-loop2-holds Inv-loop μ-loop Inv-loop2 μ-loop2
@@ -171,6 +186,8 @@ formed-spec =
     returns-3
     mul-x
     element-copy-out-x
+    mul-g
+    array-copy-out-g
     less-requires
     returns-4
     mul-if7

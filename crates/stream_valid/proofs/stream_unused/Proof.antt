@@ -7,9 +7,12 @@ use Rattle.stream_valid.proofs.stream_unused.Tie as tie
 tuples-unused-requires : tie.Need-tuples-unused-requires
 tuples-unused-requires c κs = search needs
 
+stages-unused-requires : tie.Need-stages-unused-requires
+stages-unused-requires c κs = search needs
+
 returns : tie.Need-returns
 unfolding streamUnused
-returns c = simp (c .before .before .before .before .tuples-unused .ensures)
+returns c = simp (c .before .before .before .before .tuples-unused .ensures, c .before .before .before .stages-unused .ensures)
 
 pub stream-unused-spec : {M : Type 1} → statement M
-stream-unused-spec = tie.close (tie.spec tuples-unused-requires returns)
+stream-unused-spec = tie.close (tie.spec tuples-unused-requires stages-unused-requires returns)

@@ -130,6 +130,33 @@ slice-aggregate-word-14 c = search needs
 word-requires-14 : tie.Need-word-requires-14
 word-requires-14 c κs = search needs
 
+enum-told-15 : tie.Need-enum-told-15
+enum-told-15 c = search needs
+
+slice-aggregate-word-15 : tie.Need-slice-aggregate-word-15
+slice-aggregate-word-15 c = search needs
+
+word-requires-15 : tie.Need-word-requires-15
+word-requires-15 c κs = search needs
+
+enum-told-16 : tie.Need-enum-told-16
+enum-told-16 c = search needs
+
+slice-aggregate-word-16 : tie.Need-slice-aggregate-word-16
+slice-aggregate-word-16 c = search needs
+
+word-requires-16 : tie.Need-word-requires-16
+word-requires-16 c κs = search needs
+
+enum-told-17 : tie.Need-enum-told-17
+enum-told-17 c = search needs
+
+slice-aggregate-word-17 : tie.Need-slice-aggregate-word-17
+slice-aggregate-word-17 c = search needs
+
+word-requires-17 : tie.Need-word-requires-17
+word-requires-17 c κs = search needs
+
 returns : tie.Need-returns
 returns c = rw (c .before .before .enum-told .given .1) (c .word .ensures)
 
@@ -171,6 +198,15 @@ returns-13 c = rw (c .before .before .enum-told13 .given .1) (c .word13 .ensures
 
 returns-14 : tie.Need-returns-14
 returns-14 c = rw (c .before .before .enum-told14 .given .1) (c .word14 .ensures)
+
+returns-15 : tie.Need-returns-15
+returns-15 c = rw (c .before .before .enum-told15 .given .1) (c .word15 .ensures)
+
+returns-16 : tie.Need-returns-16
+returns-16 c = rw (c .before .before .enum-told16 .given .1) (c .word16 .ensures)
+
+returns-17 : tie.Need-returns-17
+returns-17 c = rw (c .before .before .enum-told17 .given .1) (c .word17 .ensures)
 
 pub fault-spec : {M : Type 1} → statement M
 fault-spec =
@@ -218,6 +254,15 @@ fault-spec =
     enum-told-14
     slice-aggregate-word-14
     word-requires-14
+    enum-told-15
+    slice-aggregate-word-15
+    word-requires-15
+    enum-told-16
+    slice-aggregate-word-16
+    word-requires-16
+    enum-told-17
+    slice-aggregate-word-17
+    word-requires-17
     returns
     returns-2
     returns-3
@@ -231,4 +276,7 @@ fault-spec =
     returns-11
     returns-12
     returns-13
-    returns-14)
+    returns-14
+    returns-15
+    returns-16
+    returns-17)

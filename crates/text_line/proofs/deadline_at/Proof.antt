@@ -10,7 +10,6 @@ use Rattle.text_line.proofs.deadline_at.Reads as reads
 use Rattle.text_line.proofs.deadline_at.Lts as lts
 use Rattle.text_line.proofs.bad_line.Reads as bad-line-reads
 use Rattle.text_line.proofs.field_at.Reads as field-at-reads
-use Rattle.text_line.proofs.open.Reads as open-reads
 use Rattle.text_line.proofs.limit_at.Reads as limit-at-reads
 
 -- src/lib.rt:265:30
@@ -26,8 +25,8 @@ enum-known-d : tie.Need-enum-known-d
 enum-known-d c = search needs
 
 -- src/lib.rt:266:48
-open-requires : tie.Need-open-requires
-open-requires c κs = search needs
+with-deadline-requires : tie.Need-with-deadline-requires
+with-deadline-requires c κs = search needs
 
 -- src/lib.rt:266:30
 limit-at-requires : tie.Need-limit-at-requires
@@ -52,7 +51,7 @@ bad-line-requires-2 c κs = search needs
 -- src/lib.rt:262:1
 returns : tie.Need-returns
 unfolding deadlineAt
-returns c = way-is _ _ _ _ _ _ (c .before .before .before .before .before .field-at .ensures) _ _ (c .before .before .before .d .given .1) (limit-of _ _ _ _ _ (c .before .open .ensures) (c .limit-at .ensures))
+returns c = way-is _ _ _ _ _ _ (c .before .before .before .before .before .field-at .ensures) _ _ (c .before .before .before .d .given .1) (limit-of _ _ _ _ _ (c .before .with-deadline .ensures) (c .limit-at .ensures))
 
 -- src/lib.rt:262:1
 returns-2 : tie.Need-returns-2
@@ -71,7 +70,7 @@ deadline-at-spec =
     slice-aggregate-field-at
     field-at-requires
     enum-known-d
-    open-requires
+    with-deadline-requires
     limit-at-requires
     enum-told
     bad-line-requires

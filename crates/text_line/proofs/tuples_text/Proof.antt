@@ -29,7 +29,7 @@ loop-holds c = (search (needs, sized), refl)
 
 -- src/lib.rt:336:13
 returns : tie.Need-returns Inv-loop μ-loop
-returns c = text-end _ _ _ _ _ (c .before .before .loop .inv .1) (inl (search needs))
+returns c = text-end placeText _ _ _ _ _ (c .before .before .loop .inv .1) (inl (search needs))
 
 -- src/lib.rt:338:17
 mul-p : tie.Need-mul-p Inv-loop μ-loop
@@ -53,11 +53,11 @@ loop-less c = search needs
 
 -- src/lib.rt:334:5
 loop-again : tie.Need-loop-again Inv-loop μ-loop
-loop-again c = (c .before .before .before .before .loop .inv .0, text-go _ _ _ _ _ _ noTuple _ (c .before .before .before .before .loop .inv .1) refl (c .tuple-text .ensures) (search needs) (omega arith))
+loop-again c = (c .before .before .before .before .loop .inv .0, text-go placeText _ _ _ _ _ _ noTuple _ (c .before .before .before .before .loop .inv .1) refl (c .tuple-text .ensures) (search needs) (omega arith))
 
 -- src/lib.rt:328:1
 returns-2 : tie.Need-returns-2 Inv-loop μ-loop
-returns-2 c = text-end _ _ _ _ _ (c .before .loop .inv .1) (inr (omega arith))
+returns-2 c = text-end placeText _ _ _ _ _ (c .before .loop .inv .1) (inr (omega arith))
 
 pub tuples-text-spec : {M : Type 1} → statement M
 tuples-text-spec =

@@ -12,10 +12,10 @@ returns : tie.Need-returns
 returns c = space _ _ _ (c .before .before .if1 .taken) (c .before .if2 .taken) (c .put .ensures)
 
 returns-2 : tie.Need-returns-2
-returns-2 c = no-byte _ _ (c .before .before .args .l) (c .if2 .left)
+returns-2 c = no-byte _ _ (c .before .before .args .kept) (c .if2 .left)
 
 returns-3 : tie.Need-returns-3
-returns-3 c = no-gap _ _ (c .before .args .l) (c .if1 .left)
+returns-3 c = no-gap _ _ (c .before .args .kept) (c .if1 .left)
 
 pub spaced-spec : {M : Type 1} → statement M
 spaced-spec = tie.close (tie.spec put-requires returns returns-2 returns-3)

@@ -194,8 +194,9 @@ impl Script<'_> {
                 self.say(format!("reader {byte} {bit}"));
             }
             let before = *self.state();
-            let fault = self.state_fault();
-            self.say(fault);
+            for put in self.state_fault() {
+                self.say(put);
+            }
             self.say("next");
             self.say("where");
             if !self.state().well_formed() {

@@ -1,9 +1,9 @@
 //! Scenes about the console's set.
 
-use second::requests::JITTER_BOTH_WAYS;
+use second::requests::{JITTER_BOTH_WAYS, STAGES};
 use second::set::{
-    Set, Stream, Tuple, GREATEST_COST, GREATEST_CYCLE, GREATEST_DEADLINE, GREATEST_OFFSET,
-    GREATEST_TASK, STREAM_PLACES, TUPLE_PLACES,
+    Set, Stage, Stream, Tuple, GREATEST_COST, GREATEST_CYCLE, GREATEST_DEADLINE, GREATEST_OFFSET,
+    GREATEST_TASK, GREATEST_VERSION, STAGE_PLACES, STREAM_PLACES, TUPLE_PLACES,
 };
 
 use super::{around, near_limit, read_line, Script};
@@ -12,7 +12,7 @@ use crate::sheets;
 
 impl Script<'_> {
     /// Puts a set in rule into the console's set, field by field.
-    fn put_set(&mut self, set: &Set) {
+    pub(super) fn put_set(&mut self, set: &Set) {
         // Seldom what was in the unused places stays there.
         if !self.random.one_in(20) {
             self.say("read 1000");
@@ -24,6 +24,23 @@ impl Script<'_> {
                 puts.push(tuple_line(place, tuple_place, *tuple));
             }
         }
+        if self.in_force(STAGES) && (set.version != 1 || self.random.one_in(8)) {
+            puts.push(format!("version {}", set.version));
+        }
+        self.random.shuffle(&mut puts);
+        for put in puts {
+            self.say(put);
+        }
+        // Behind the others, as `stream` puts the number of stages too.
+        let mut puts = Vec::new();
+        for (place, stream) in set.used_streams().iter().enumerate() {
+            if stream.stage_count > 1 || self.in_force(STAGES) && self.random.one_in(8) {
+                puts.push(stages_line(place, stream));
+            }
+            for (stage_place, stage) in stream.used_stages().iter().enumerate().skip(1) {
+                puts.push(stage_line(place, stage_place, *stage));
+            }
+        }
         self.random.shuffle(&mut puts);
         for put in puts {
             self.say(put);
@@ -31,7 +48,7 @@ impl Script<'_> {
     }
 
     pub(super) fn set_put_together(&mut self) {
-        let set = sets::any(self.random);
+        let set = sets::any(self.random, self.console.requests);
         self.put_set(&set);
         self.questions_about_set();
         if self.random.one_in(2) {
@@ -43,9 +60,9 @@ impl Script<'_> {
     /// A set in rule in which one number is then put at, just below or just above its limit.
     pub(super) fn set_with_one_fault(&mut self) {
         let set = if self.random.one_in(2) {
-            sets::small(self.random)
+            sets::small(self.random, self.console.requests)
         } else {
-            sets::any(self.random)
+            sets::any(self.random, self.console.requests)
         };
         self.put_set(&set);
         if self.random.one_in(4) {
@@ -53,8 +70,9 @@ impl Script<'_> {
         }
         for _ in 0..self.random.between(1, 4) {
             let before = *self.set();
-            let fault = self.set_fault();
-            self.say(fault);
+            for put in self.set_fault() {
+                self.say(put);
+            }
             self.say("valid");
             self.questions_about_set();
             if self.random.one_in(4) {
@@ -65,35 +83,37 @@ impl Script<'_> {
         }
     }
 
-    /// A line that puts one number of the set at, just below or just above its limit.
-    fn set_fault(&mut self) -> String {
+    /// Lines that put one number of the set at, just below or just above its limit.
+    fn set_fault(&mut self) -> Vec<String> {
         let set = *self.set();
         let count = (set.count as usize).min(STREAM_PLACES);
         // The places of the set, and the first that is not.
         let place = self.random.index((count + 1).min(STREAM_PLACES));
         let mut stream = set.streams[place];
         let tuples = (stream.tuple_count as usize).min(TUPLE_PLACES);
-        match self.random.below(10) {
+        let faults = if self.in_force(STAGES) { 18 } else { 10 };
+        let line = match self.random.below(faults) {
+            10.. => return self.stages_fault(place),
             0 => {
                 let count = around(self.random, &[0, set.count, STREAM_PLACES as u32]);
                 format!("streams {count}")
             }
             1 => {
-                stream.task = around(self.random, &[0, GREATEST_TASK]);
-                stream_line(place, &stream)
+                stream.stages[0].task = around(self.random, &[0, GREATEST_TASK]);
+                return stream_lines(place, &stream);
             }
             2 => {
-                stream.cost = around(self.random, &[0, 1, GREATEST_COST]);
-                stream_line(place, &stream)
+                stream.stages[0].cost = around(self.random, &[0, 1, GREATEST_COST]);
+                return stream_lines(place, &stream);
             }
             3 => {
                 stream.deadline = around(self.random, &[0, 1, GREATEST_DEADLINE]);
-                stream_line(place, &stream)
+                return stream_lines(place, &stream);
             }
             4 => {
                 let limits = [0, stream.tuple_count, TUPLE_PLACES as u32];
                 stream.tuple_count = around(self.random, &limits);
-                stream_line(place, &stream)
+                return stream_lines(place, &stream);
             }
             5 => {
                 // The first unused tuple or a later one.
@@ -122,8 +142,8 @@ impl Script<'_> {
                 let field = self.random.pick(&[0, 1, 2, 3]);
                 let value = around(self.random, &[0, 1]);
                 match field {
-                    0 => stream.task = value,
-                    1 => stream.cost = value,
+                    0 => stream.stages[0].task = value,
+                    1 => stream.stages[0].cost = value,
                     2 => stream.deadline = value,
                     _ => stream.tuple_count = value,
                 }
@@ -149,7 +169,137 @@ impl Script<'_> {
                 };
                 tuple_line(place, tuple_place, tuple)
             }
+        };
+        vec![line]
+    }
+
+    /// The same of the numbers that came with stages.
+    fn stages_fault(&mut self, place: usize) -> Vec<String> {
+        let set = *self.set();
+        let mut stream = set.streams[place];
+        let count = (stream.stage_count as usize).min(STAGE_PLACES);
+        // A stage of the stream, and one that is none if there is room.
+        let used = self.random.index(count.max(1));
+        let unused = self.random.index(STAGE_PLACES).max(count.min(3));
+        match self.random.below(11) {
+            0..=1 => vec![format!("version {}", self.version())],
+            2..=3 => {
+                let limits = [0, stream.stage_count, STAGE_PLACES as u32];
+                stream.stage_count = around(self.random, &limits);
+                vec![stages_line(place, &stream)]
+            }
+            4 => {
+                stream.stages[used].task = around(self.random, &[0, GREATEST_TASK]);
+                vec![stage_line(place, used, stream.stages[used])]
+            }
+            5 => {
+                stream.stages[used].cost = around(self.random, &[0, 1, GREATEST_COST]);
+                vec![stage_line(place, used, stream.stages[used])]
+            }
+            6 => {
+                let task = self.random.pick(&[0, 0, 1]);
+                let cost = around(self.random, &[0, 1]);
+                vec![stage_line(place, unused, Stage { task, cost })]
+            }
+            7 => {
+                // One stage more, which only version 2 may have.
+                let task = self.random.between(0, GREATEST_TASK);
+                let cost = self.random.between(1, 6);
+                stream.stage_count = count as u32 + 1;
+                let mut puts = vec![
+                    stage_line(place, count.min(3), Stage { task, cost }),
+                    stages_line(place, &stream),
+                ];
+                self.random.shuffle(&mut puts);
+                puts
+            }
+            // The number of stages becomes 1, and the others stay.
+            8 => vec![stream_line(place, &stream)],
+            9 => {
+                // The other version, with all streams as they are.
+                let other = GREATEST_VERSION + 1 - set.version.min(GREATEST_VERSION);
+                vec![format!("version {other}")]
+            }
+            _ => {
+                // A number in the last places, which few sets use.
+                let place = STREAM_PLACES - 1;
+                let value = around(self.random, &[0, 1]);
+                let mut stage = set.streams[place].stages[unused];
+                match self.random.below(3) {
+                    0 => return vec![format!("stages {place} {value}")],
+                    1 => stage.task = value,
+                    _ => stage.cost = value,
+                }
+                vec![stage_line(place, unused, stage)]
+            }
         }
+    }
+
+    /// A version, mostly one that is none.
+    fn version(&mut self) -> u32 {
+        match self.random.below(4) {
+            0 => self.random.between(0, 16),
+            1 => self
+                .random
+                .pick(&[0, 3, 17, 18, 257, 65_537, 1 << 31, u32::MAX]),
+            _ => around(self.random, &[1, GREATEST_VERSION]),
+        }
+    }
+
+    /// Versions, numbers of stages and stage places of all kinds, with questions between them.
+    pub(super) fn any_stages(&mut self) {
+        let set = sets::small(self.random, self.console.requests);
+        self.put_set(&set);
+        for _ in 0..self.random.between(3, 15) {
+            let places = set.count.clamp(1, STREAM_PLACES as u32 - 1);
+            let place = self.random.between(0, places);
+            match self.random.below(5) {
+                0 => {
+                    let version = self.version();
+                    self.say(format!("version {version}"));
+                }
+                1 => {
+                    let count = match self.random.below(4) {
+                        0 => near_limit(self.random),
+                        _ => self.random.between(0, 5),
+                    };
+                    self.say(format!("stages {place} {count}"));
+                }
+                2..=3 => {
+                    let stage_place = self.random.index(STAGE_PLACES);
+                    let task = match self.random.below(4) {
+                        0 => near_limit(self.random),
+                        _ => self.random.between(0, 3),
+                    };
+                    let cost = match self.random.below(4) {
+                        0 => near_limit(self.random),
+                        _ => self.random.between(0, 5),
+                    };
+                    self.say(stage_line(
+                        place as usize,
+                        stage_place,
+                        Stage { task, cost },
+                    ));
+                }
+                _ => {
+                    let stream = self.set().streams[place as usize];
+                    self.say(stream_line(place as usize, &stream));
+                }
+            }
+            match self.random.below(3) {
+                0 => self.say("valid"),
+                1 => self.questions_about_set(),
+                _ => {
+                    self.say("start");
+                    self.say("post 0");
+                    self.say("unit");
+                }
+            }
+        }
+        if self.random.one_in(2) {
+            self.say("read 1000");
+        }
+        self.say("start");
     }
 
     /// Puts the numbers back that differ from an earlier set.
@@ -158,13 +308,24 @@ impl Script<'_> {
         if now.count != before.count {
             self.say(format!("streams {}", before.count));
         }
-        for place in 0..STREAM_PLACES {
-            let (now, before) = (&now.streams[place], &before.streams[place]);
-            if stream_line(place, now) != stream_line(place, before) {
+        if now.version != before.version {
+            self.say(format!("version {}", before.version));
+        }
+        for (place, before) in before.streams.iter().enumerate() {
+            let stream = now.streams[place];
+            if stream_line(place, &stream) != stream_line(place, before) {
                 self.say(stream_line(place, before));
             }
+            if self.set().streams[place].stage_count != before.stage_count {
+                self.say(stages_line(place, before));
+            }
+            for stage_place in 1..STAGE_PLACES {
+                if stream.stages[stage_place] != before.stages[stage_place] {
+                    self.say(stage_line(place, stage_place, before.stages[stage_place]));
+                }
+            }
             for tuple_place in 0..TUPLE_PLACES {
-                if now.tuples[tuple_place] != before.tuples[tuple_place] {
+                if stream.tuples[tuple_place] != before.tuples[tuple_place] {
                     self.say(tuple_line(place, tuple_place, before.tuples[tuple_place]));
                 }
             }
@@ -173,11 +334,12 @@ impl Script<'_> {
 
     pub(super) fn sheet_read(&mut self) {
         for _ in 0..self.random.between(1, 6) {
-            let set = sets::any(self.random);
+            let requests = self.console.requests;
+            let set = sets::any(self.random, requests);
             let sheet = if self.random.one_in(3) {
                 sheets::of_set(&set)
             } else {
-                sheets::damaged(self.random, &set)
+                sheets::damaged(self.random, &set, requests)
             };
             self.say(read_line(&sheet));
             match self.random.below(4) {
@@ -218,7 +380,7 @@ impl Script<'_> {
                         0 => 0,
                         1 => 1_024,
                         2 => 1_025,
-                        3 => self.random.between(0, 400),
+                        3 => self.random.between(0, 530),
                         4 => sheet.saturating_sub(1),
                         5 => sheet + 1,
                         _ => sheet,
@@ -326,10 +488,31 @@ impl Script<'_> {
 }
 
 fn stream_line(place: usize, stream: &Stream) -> String {
-    format!(
-        "stream {place} {} {} {} {}",
-        stream.task, stream.cost, stream.deadline, stream.tuple_count
-    )
+    let Stage { task, cost } = stream.stages[0];
+    let Stream {
+        deadline,
+        tuple_count,
+        ..
+    } = stream;
+    format!("stream {place} {task} {cost} {deadline} {tuple_count}")
+}
+
+/// The line that puts a stream, and behind it the one that puts its number of stages where that is
+/// not what the first leaves.
+fn stream_lines(place: usize, stream: &Stream) -> Vec<String> {
+    let mut lines = vec![stream_line(place, stream)];
+    if stream.stage_count > 1 {
+        lines.push(stages_line(place, stream));
+    }
+    lines
+}
+
+fn stages_line(place: usize, stream: &Stream) -> String {
+    format!("stages {place} {}", stream.stage_count)
+}
+
+fn stage_line(place: usize, stage_place: usize, stage: Stage) -> String {
+    format!("stage {place} {stage_place} {} {}", stage.task, stage.cost)
 }
 
 fn tuple_line(place: usize, tuple_place: usize, tuple: Tuple) -> String {

@@ -1,7 +1,8 @@
 //! Scenes about the console's state.
 
-use second::requests::REPLAY;
-use second::set::{Stream, GREATEST_TASK, STREAM_PLACES};
+use second::requests::{REPLAY, STAGES};
+use second::set::{Stage, Stream, GREATEST_TASK, STAGE_PLACES, STREAM_PLACES};
+use second::sheet::VERSION_2;
 use second::state::{Message, State, LAST_CLOCK, MESSAGE_PLACES};
 
 use super::{around, near_limit, read_line, Script};
@@ -19,8 +20,8 @@ impl Script<'_> {
             return;
         }
         let set = match self.random.below(3) {
-            0 => sets::any(self.random),
-            _ => sets::small(self.random),
+            0 => sets::any(self.random, self.console.requests),
+            _ => sets::small(self.random, self.console.requests),
         };
         self.say(read_line(&sheets::of_set(&set)));
         self.say("start");
@@ -138,7 +139,15 @@ impl Script<'_> {
             }
         }
         self.random.shuffle(&mut puts);
-        for put in puts {
+        // Behind the others, as `message` puts stage 0.
+        let mut staged: Vec<String> = messages
+            .iter()
+            .enumerate()
+            .filter(|(_, message)| message.stage != 0)
+            .map(|(place, message)| staged_line(place, message))
+            .collect();
+        self.random.shuffle(&mut staged);
+        for put in puts.into_iter().chain(staged) {
             self.say(put);
         }
         self.say("formed");
@@ -173,16 +182,22 @@ impl Script<'_> {
             .map(|posted| {
                 let number = self.random.index(set.count as usize);
                 let stream = &set.streams[number];
-                let started = &mut task_started[stream.task as usize];
+                let place = match stream.stage_count {
+                    1 => 0,
+                    count => self.random.index(count as usize),
+                };
+                let Stage { task, cost } = stream.stages[place];
+                let started = &mut task_started[task as usize];
                 let mut used = 0;
-                if !*started && stream.cost > 1 && self.random.one_in(4) {
+                if !*started && cost > 1 && self.random.one_in(4) {
                     *started = true;
-                    used = self.random.pick(&[1, stream.cost - 1]);
+                    used = self.random.pick(&[1, cost - 1]);
                 }
                 Message {
                     stream: number as u32,
                     deadline: posted + stream.deadline,
                     used,
+                    stage: place as u32,
                 }
             })
             .collect();
@@ -198,8 +213,9 @@ impl Script<'_> {
         }
         for _ in 0..self.random.between(1, 8) {
             let before = *self.state();
-            let fault = self.state_fault();
-            self.say(fault);
+            for put in self.state_fault() {
+                self.say(put);
+            }
             self.say("formed");
             for _ in 0..self.random.between(1, 5) {
                 self.step();
@@ -213,8 +229,8 @@ impl Script<'_> {
         }
     }
 
-    /// A line that puts one number of the state at, just below or just above its limit.
-    pub(super) fn state_fault(&mut self) -> String {
+    /// Lines that put one number of the state at, just below or just above its limit.
+    pub(super) fn state_fault(&mut self) -> Vec<String> {
         let state = *self.state();
         let pending = (state.pending as usize).min(MESSAGE_PLACES);
         let place = self.random.index(pending.max(1));
@@ -224,30 +240,34 @@ impl Script<'_> {
             .streams
             .get(message.stream as usize)
             .unwrap_or(&Stream::UNUSED);
-        match self.random.below(10) {
+        let stage = message.stage.min(STAGE_PLACES as u32 - 1) as usize;
+        let cost = stream.stages[stage].cost;
+        let faults = if self.in_force(STAGES) { 16 } else { 10 };
+        match self.random.below(faults) {
+            10.. => self.staged_fault(place),
             0 => {
                 // The clock at its last, and next to where messages were posted.
                 let posted = message.deadline.saturating_sub(stream.deadline);
                 let clock = around(self.random, &[0, posted, state.clock, LAST_CLOCK]);
-                format!("clock {clock}")
+                vec![format!("clock {clock}")]
             }
             1 => {
                 let limits = [0, state.pending, MESSAGE_PLACES as u32];
-                format!("pending {}", around(self.random, &limits))
+                vec![format!("pending {}", around(self.random, &limits))]
             }
             2 => {
                 let limits = [0, state.set.count, STREAM_PLACES as u32];
                 message.stream = around(self.random, &limits);
-                message_line(place, &message)
+                message_lines(place, &message)
             }
             3 => {
-                message.used = around(self.random, &[0, stream.cost]);
-                message_line(place, &message)
+                message.used = around(self.random, &[0, cost]);
+                message_lines(place, &message)
             }
             4 => {
                 let latest = state.clock.saturating_add(stream.deadline);
                 message.deadline = around(self.random, &[0, stream.deadline, latest]);
-                message_line(place, &message)
+                message_lines(place, &message)
             }
             5..=6 => {
                 // Next to where the one before or the one after was posted.
@@ -265,12 +285,12 @@ impl Script<'_> {
                 let posted = other.deadline.saturating_sub(other_deadline);
                 let limit = posted.saturating_add(stream.deadline);
                 message.deadline = around(self.random, &[limit]);
-                message_line(place, &message)
+                message_lines(place, &message)
             }
             7 => {
                 // Perhaps a second started message of its task.
                 message.used = 1;
-                message_line(place, &message)
+                message_lines(place, &message)
             }
             _ => {
                 // An unused place, the first or the last or any.
@@ -285,7 +305,141 @@ impl Script<'_> {
                     1 => message.deadline = 1,
                     _ => message.used = 1,
                 }
-                message_line(place, &message)
+                message_lines(place, &message)
+            }
+        }
+    }
+
+    /// The same of the stages of messages.
+    fn staged_fault(&mut self, place: usize) -> Vec<String> {
+        let state = *self.state();
+        let pending = (state.pending as usize).min(MESSAGE_PLACES);
+        let mut message = state.messages[place];
+        let streams = &state.set.streams;
+        let count = streams
+            .get(message.stream as usize)
+            .map_or(0, |stream| stream.stage_count);
+        match self.random.below(6) {
+            0..=1 => {
+                message.stage = around(self.random, &[0, message.stage, count, count]);
+                vec![staged_line(place, &message)]
+            }
+            2 => {
+                // Any stage of its stream: perhaps it has used too much for it, or its task has
+                // started another message.
+                message.stage = self.random.between(0, count.saturating_sub(1));
+                vec![staged_line(place, &message)]
+            }
+            3..=4 => {
+                // Started in each stage of its stream, one after the other.
+                let mut lines = Vec::new();
+                message.used = 1;
+                lines.extend(message_lines(place, &message));
+                for stage in 0..count.min(STAGE_PLACES as u32) {
+                    lines.push(format!("staged {place} {stage}"));
+                    lines.push("formed".to_string());
+                    lines.push("choose".to_string());
+                }
+                lines
+            }
+            _ => {
+                // An unused place, the first or the last or any.
+                let place = match self.random.below(3) {
+                    0 => pending.min(MESSAGE_PLACES - 1),
+                    1 => MESSAGE_PLACES - 1,
+                    _ => self.random.index(MESSAGE_PLACES),
+                };
+                let stage = around(self.random, &[1, STAGE_PLACES as u32]);
+                vec![format!("staged {place} {stage}")]
+            }
+        }
+    }
+
+    /// A started state with a set of version 2, of at least so many streams, in which some stream
+    /// has several stages.
+    fn start_with_stages(&mut self, streams: u32) {
+        let set = loop {
+            let set = match self.random.below(3) {
+                0 => sets::any(self.random, self.console.requests),
+                _ => sets::small_of(self.random, VERSION_2),
+            };
+            let has_stages = set.used_streams().iter().any(|s| s.stage_count > 1);
+            if set.count >= streams && has_stages {
+                break set;
+            }
+        };
+        match self.random.below(4) {
+            0 => self.put_set(&set),
+            _ => self.say(read_line(&sheets::of_set(&set))),
+        }
+        self.say("start");
+    }
+
+    /// Messages go through their stages, and are done and cut in them.
+    pub(super) fn stages_run(&mut self) {
+        self.start_with_stages(1);
+        if self.random.one_in(6) {
+            let clock = LAST_CLOCK - self.random.between(0, 20);
+            self.say(format!("clock {clock}"));
+        }
+        let done = self.random.between(1, 8);
+        for _ in 0..self.random.between(10, 120) {
+            match self.random.below(20) {
+                0..=4 => {
+                    let stream = self.stream_number();
+                    self.say(format!("post {stream}"));
+                }
+                5..=15 => {
+                    let unit = if self.random.between(1, 10) <= done {
+                        "done"
+                    } else {
+                        "unit"
+                    };
+                    self.say(unit);
+                }
+                16..=17 => self.say("choose"),
+                18 => self.say("formed"),
+                _ => self.say("state"),
+            }
+        }
+        self.say("state");
+    }
+
+    /// Two messages, mostly of two streams, in all their stages and out of them, both with a used
+    /// unit: not well formed where their stages are of one task.
+    pub(super) fn two_started(&mut self) {
+        self.start_with_stages(2);
+        let set = self.state().set;
+        // What was in unused places may have stayed there.
+        if set.count == 0 {
+            return;
+        }
+        let clock = self.random.between(0, 300);
+        self.say(format!("clock {clock}"));
+        self.say("pending 2");
+        let first = self.random.between(0, set.count - 1);
+        let second = match self.random.below(6) {
+            0 => first,
+            _ => (first + self.random.between(1, set.count)) % set.count,
+        };
+        let counts = [first, second].map(|stream| set.streams[stream as usize].stage_count);
+        for (place, stream) in [first, second].into_iter().enumerate() {
+            let deadline = clock + set.streams[stream as usize].deadline;
+            let used = self.random.pick(&[1, 1, 1, 1, 1, 1, 2, 0]);
+            self.say(format!("message {place} {stream} {deadline} {used}"));
+        }
+        for first in 0..=counts[0] {
+            self.say(format!("staged 0 {first}"));
+            for second in 0..=counts[1] {
+                self.say(format!("staged 1 {second}"));
+                self.say("formed");
+                self.say("choose");
+                if self.random.one_in(4) {
+                    let before = *self.state();
+                    self.step();
+                    self.say("state");
+                    self.put_state_back(&before);
+                }
             }
         }
     }
@@ -300,8 +454,12 @@ impl Script<'_> {
             self.say(format!("pending {}", before.pending));
         }
         for place in 0..MESSAGE_PLACES {
-            if now.messages[place] != before.messages[place] {
-                self.say(message_line(place, &before.messages[place]));
+            let (now, before) = (&now.messages[place], &before.messages[place]);
+            if message_line(place, now) != message_line(place, before) {
+                self.say(message_line(place, before));
+            }
+            if self.state().messages[place].stage != before.stage {
+                self.say(staged_line(place, before));
             }
         }
     }
@@ -312,4 +470,17 @@ fn message_line(place: usize, message: &Message) -> String {
         "message {place} {} {} {}",
         message.stream, message.deadline, message.used
     )
+}
+
+/// The line that puts a message, and behind it the one that puts its stage where that is not 0.
+fn message_lines(place: usize, message: &Message) -> Vec<String> {
+    let mut lines = vec![message_line(place, message)];
+    if message.stage != 0 {
+        lines.push(staged_line(place, message));
+    }
+    lines
+}
+
+fn staged_line(place: usize, message: &Message) -> String {
+    format!("staged {place} {}", message.stage)
 }

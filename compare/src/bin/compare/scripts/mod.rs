@@ -10,7 +10,7 @@ mod about_states;
 mod odd_lines;
 
 use second::console::Console;
-use second::requests::REPLAY;
+use second::requests::{REPLAY, STAGES};
 use second::set::{Set, GREATEST_COST, GREATEST_CYCLE, GREATEST_DEADLINE, GREATEST_OFFSET};
 use second::state::{State, LAST_CLOCK};
 
@@ -68,7 +68,11 @@ impl Script<'_> {
 
     /// Several lines about one thing.
     fn scene(&mut self) {
-        let scenes = if self.in_force(REPLAY) { 52 } else { 40 };
+        let scenes = match self.console.requests {
+            STAGES.. => 63,
+            REPLAY.. => 52,
+            _ => 40,
+        };
         match self.random.below(scenes) {
             0..=2 => self.set_put_together(),
             3..=9 => self.set_with_one_fault(),
@@ -87,7 +91,10 @@ impl Script<'_> {
             43..=44 => self.places(),
             45 => self.replay_on_a_state_with_one_fault(),
             46..=47 => self.recording_about_as_long_as_the_longest(),
-            _ => self.recorded(),
+            48..=51 => self.recorded(),
+            52..=56 => self.stages_run(),
+            57..=59 => self.two_started(),
+            _ => self.any_stages(),
         }
     }
 }
@@ -103,6 +110,7 @@ fn near_limit(random: &mut Random) -> u32 {
         63,
         64,
         378,
+        502,
         1_024,
         GREATEST_COST,
         GREATEST_OFFSET,
@@ -151,7 +159,7 @@ fn hex_line(name: &str, bytes: &[u8]) -> String {
 #[cfg(test)]
 mod tests {
     use super::*;
-    use second::requests::RENDERED;
+    use second::requests::{LESS_STACK, RENDERED};
 
     /// The lines of many scripts.
     fn many_lines(seed: u64, requests: u32) -> Vec<Line> {
@@ -223,27 +231,84 @@ mod tests {
             "\nat ",
             "\nrecorded ",
         ];
+        let of_stages = [" passed ", "\nstaged 0 ", "\nstaged 63 "];
         for requests in 0..=RENDERED {
             let lines = many_lines(1, requests);
             come_up(&lines, &of_document_01);
             if requests >= REPLAY {
                 come_up(&lines, &of_a_replay);
             }
+            if requests >= STAGES {
+                come_up(&lines, &of_stages);
+            }
         }
     }
 
     #[test]
     fn commands_of_a_request_that_is_not_in_force_come_up_seldom_and_are_none() {
-        let lines = many_lines(1, 0);
-        for command in ["recording", "next", "reader", "where", "record"] {
-            let found: Vec<&Line> = lines
-                .iter()
-                .filter(|line| name(line) == command.as_bytes())
-                .collect();
-            assert!(found.iter().all(|line| line.answer == "?\n"), "{command}");
-            let seldom = 10..lines.len() / 50;
-            assert!(seldom.contains(&found.len()), "{command}: {}", found.len());
+        let of_a_replay: &[&str] = &["recording", "next", "reader", "where", "record"];
+        let of_stages: &[&str] = &["version", "stages", "stage", "staged"];
+        for (requests, commands) in [(0, of_a_replay), (0, of_stages), (LESS_STACK, of_stages)] {
+            let lines = many_lines(1, requests);
+            for command in commands {
+                let found: Vec<&Line> = lines
+                    .iter()
+                    .filter(|line| name(line) == command.as_bytes())
+                    .collect();
+                assert!(found.iter().all(|line| line.answer == "?\n"), "{command}");
+                let seldom = 10..lines.len() / 50;
+                assert!(seldom.contains(&found.len()), "{command}: {}", found.len());
+            }
         }
+    }
+
+    #[test]
+    fn sets_and_states_with_stages_are_met_in_rule_and_out_of_it() {
+        let mut random = Random::new(7);
+        let (mut valid, mut invalid) = ([0; 5], [0; 5]);
+        let (mut formed, mut not_formed) = ([0; 4], 0);
+        let mut two_started = [0; 2];
+        for _ in 0..60 {
+            let script = make(&mut random, RENDERED, 500);
+            let mut console = Console::new(RENDERED);
+            for line in script {
+                let set = console.set;
+                let state = console.state;
+                match name(&line) {
+                    b"valid" | b"verdict" | b"demand" | b"write" => {
+                        let most = set.streams.iter().map(|s| s.stage_count.min(4)).max();
+                        let counts = if set.valid() {
+                            &mut valid
+                        } else {
+                            &mut invalid
+                        };
+                        counts[most.unwrap_or(0) as usize] += u32::from(set.version == 2);
+                    }
+                    b"formed" | b"choose" | b"unit" | b"done" if state.well_formed() => {
+                        for message in state.pending_messages() {
+                            formed[message.stage as usize] += 1;
+                        }
+                    }
+                    b"formed" | b"choose" | b"unit" | b"done" => {
+                        not_formed += u32::from(state.messages.iter().any(|m| m.stage != 0));
+                    }
+                    _ => {}
+                }
+                if name(&line) == b"formed" && state.set.valid() && state.pending == 2 {
+                    let both = state.messages[..2].iter().all(|m| m.used == 1);
+                    let of_two = state.messages[0].stream != state.messages[1].stream;
+                    if both && of_two {
+                        two_started[usize::from(state.well_formed())] += 1;
+                    }
+                }
+                assert_eq!(console.line(&line.text), line.answer);
+            }
+        }
+        assert!(valid[1..].iter().all(|&count| count > 30), "{valid:?}");
+        assert!(invalid[1..].iter().all(|&count| count > 30), "{invalid:?}");
+        assert!(formed.iter().all(|&count| count > 100), "{formed:?}");
+        assert!(not_formed > 100, "{not_formed}");
+        assert!(two_started.iter().all(|&c| c > 10), "{two_started:?}");
     }
 
     #[test]

@@ -1,7 +1,7 @@
 //! Scenes of lines with any numbers, and of lines that are no commands.
 
 use second::console::LONGEST_LINE;
-use second::set::{STREAM_PLACES, TUPLE_PLACES};
+use second::set::{STAGE_PLACES, STREAM_PLACES, TUPLE_PLACES};
 use second::state::MESSAGE_PLACES;
 
 use super::{around, hex_line, near_limit, Script};
@@ -76,6 +76,21 @@ const ODD_LINES: &[&[u8]] = &[
     b"record 1025",
     b"record 1025 u",
     b"end",
+    b"version",
+    b"version ",
+    b"version 1 1",
+    b"versions 1",
+    b"stages",
+    b"stages 0",
+    b"stages 0 1 1",
+    b"stage",
+    b"stage 0 0 1",
+    b"stage 0 0 1 1 1",
+    b"staged",
+    b"staged 0",
+    b"staged 0 0 0",
+    b"passed",
+    b"passed 0 0",
     b"#",
     b"// unit",
 ];
@@ -111,6 +126,10 @@ impl Script<'_> {
             ("reader", 2),
             ("where", 0),
             ("record", 1),
+            ("version", 1),
+            ("stages", 2),
+            ("stage", 4),
+            ("staged", 2),
         ]);
         let mut line = name.to_string();
         for place in 0..numbers {
@@ -246,12 +265,21 @@ impl Script<'_> {
             "reader 0 N",
             "record N",
             "record N u",
+            "version N",
+            "stages N 1",
+            "stages 0 N",
+            "stage N 0 0 0",
+            "stage 0 N 0 0",
+            "stage 0 0 N 1",
+            "stage 0 3 0 N",
+            "staged N 0",
+            "staged 63 N",
         ]);
         line.replace('N', number).into_bytes()
     }
 
     fn line_with_odd_hex(&mut self) -> Vec<u8> {
-        let set = sets::small(self.random);
+        let set = sets::small(self.random, self.console.requests);
         let name = self.random.pick(&["read", "recording"]);
         let mut line = hex_line(name, &sheets::of_set(&set)).into_bytes();
         let hex = name.len() + 1;
@@ -268,20 +296,35 @@ impl Script<'_> {
 
     /// An index at, just below or just above its range.
     fn index_out_of_place(&mut self) -> String {
-        match self.random.below(4) {
-            0 => {
+        match self.random.below(8) {
+            0..=1 => {
                 let place = around(self.random, &[STREAM_PLACES as u32 - 1]);
                 format!("stream {place} 0 0 0 0")
             }
-            1 => {
+            2 => {
                 let place = around(self.random, &[STREAM_PLACES as u32 - 1]);
                 let tuple_place = around(self.random, &[0, TUPLE_PLACES as u32 - 1]);
                 format!("once {place} {tuple_place} 0")
             }
-            2 => {
+            3 => {
                 let place = around(self.random, &[0, STREAM_PLACES as u32 - 1]);
                 let tuple_place = around(self.random, &[TUPLE_PLACES as u32 - 1]);
                 format!("every {place} {tuple_place} 0 0")
+            }
+            4 => {
+                let place = around(self.random, &[0, STREAM_PLACES as u32 - 1]);
+                let count = self.random.between(0, 2);
+                format!("stages {place} {count}")
+            }
+            5 => {
+                let place = around(self.random, &[STREAM_PLACES as u32 - 1]);
+                let stage_place = around(self.random, &[0, STAGE_PLACES as u32 - 1]);
+                format!("stage {place} {stage_place} 0 0")
+            }
+            6 => {
+                let place = around(self.random, &[MESSAGE_PLACES as u32 - 1]);
+                let stage = self.random.between(0, 1);
+                format!("staged {place} {stage}")
             }
             _ => {
                 let place = around(self.random, &[MESSAGE_PLACES as u32 - 1]);

@@ -11,7 +11,7 @@ use Rattle.load_check.proofs.dues.dues_at.Statement.{statement}
 use Rattle.load_check.proofs.dues.dues_at.Tie as tie
 
 abbrev Inv-loop : tie.InvT-loop
-Inv-loop costs firsts cycles n i acc₀ k₀ acc k = (k ≤ n) × (acc ≡ sum (dueAt costs firsts cycles i) (below k)) × (acc ≤ k * 281470681743360)
+Inv-loop costs firsts cycles n i acc₀ k₀ acc k = (k ≤ n) × (acc ≡ sum (dueAt costs firsts cycles i) (below k)) × (acc ≤ k * 1125882726973440)
 
 abbrev μ-loop : tie.MeasureT-loop
 μ-loop costs firsts cycles n i acc₀ k₀ acc k = n - k

@@ -14,7 +14,7 @@ use Rattle.load_cycles.proofs.joins.load_of.Statement.{statement}
 use Rattle.load_cycles.proofs.joins.load_of.Tie as tie
 
 abbrev Inv-loop : tie.InvT-loop
-Inv-loop h x n acc₀ k₀ acc k = (length (x .streams) ≡ 16) × (k ≤ n) × (acc ≡ sum (streamLoad h) (take k (x .streams))) × (acc ≤ k * 262140000000)
+Inv-loop h x n acc₀ k₀ acc k = (length (x .streams) ≡ 16) × (k ≤ n) × (acc ≡ sum (streamLoad h) (take k (x .streams))) × (acc ≤ k * 1048560000000)
 
 abbrev μ-loop : tie.MeasureT-loop
 μ-loop h x n acc₀ k₀ acc k = n - k

@@ -1,16 +1,21 @@
 use Prim.Native.Nat.{ℕ, _+_, _-_, _*_, _/_, _%_, _≤_, _<_}
+use mathlib.Core.Bool.{true}
 use mathlib.Core.List.{List}
-use mathlib.Core.Path.{_≡_, refl, sym, ap, subst, _∙_}
+use mathlib.Core.Path.{_≡_, refl, sym, ap, _∙_}
 use lib.ListN.{length, length-set}
 use borrow.Author.Tests.{not-false, not-true}
 use Rattle.laws.specs.Bits.{bits}
-use Rattle.bits.specs.declared.Gathered.{Gathered}
+use Rattle.rules.specs.declared.Set.{Set}
+use Rattle.rules.specs.declared.Stage.{Stage}
+use Rattle.rules.specs.declared.TuplePlace.{TuplePlace}
 use Rattle.sheet_read.specs.declared.Point.{Point}
-use Rattle.sheet_read.specs.Table.{openedOf, refusalOf}
-use Rattle.sheet_read.specs.Reader.{pointAt, refusedOf, ruleOf, run}
+use Rattle.sheet_read.specs.declared.SheetField.{SheetField}
+use Rattle.sheet_read.specs.declared.Carried.{Carried}
+use Rattle.sheet_read.specs.Table.{inRuleOf, openedOf, refusalOf}
+use Rattle.sheet_read.specs.Reader.{pointAt, refusedOf, ruleOf, run, valueAt}
 use Rattle.sheet_read.specs.Kept.{Kept}
 use Rattle.sheet_read.proofs.Rows.{refusal-row}
-use Rattle.sheet_read.proofs.Turns.{ahead-kept, ahead-runs, both-lt, carried, end-le, fits, got-few, got-some, left-none, left-some, refused-stays, rest, rule-stays, rule-tests, stream-room, tuple-room, turn-count, turn-cycle, turn-field, turn-padding, turn-part, turn-refused, turn-stream, turn-tuple, turn-whole, turned, turns-end}
+use Rattle.sheet_read.proofs.Turns.{Behind, Turn, ahead, ahead-kept, ahead-runs, both-lt, carried, end-le, fits, got-few, got-some, left-none, left-some, refused-stays, rest, rule-stays, rule-tests, stage-room, stream-room, tuple-room, turn-cycle, turn-field, turn-padding, turn-part, turn-refused, turn-stage, turn-stages, turn-stream, turn-task, turn-tuple, turn-version, turn-whole, turned, turns-end}
 use native.Mathlib.Omega.{arith}
 use borrow.Author.Needs.{needs}
 use Rattle.sheet_read.proofs.feeding.feed.Statement.{statement}
@@ -20,656 +25,553 @@ use Rattle.sheet_read.proofs.feeding.feed.Lts as lts
 use Rattle.bits.proofs.gather.Reads as gather-reads
 use Rattle.sheet_read.proofs.feeding.front.Reads as front-reads
 use Rattle.sheet_read.proofs.feeding.joined.Reads as joined-reads
+use Rattle.sheet_read.proofs.feeding.no_stages.Reads as no-stages-reads
 use Rattle.sheet_read.proofs.feeding.no_tuples.Reads as no-tuples-reads
 use Rattle.sheet_read.proofs.feeding.refused.Reads as refused-reads
+use Rattle.sheet_read.proofs.feeding.stage_in.Reads as stage-in-reads
 use Rattle.sheet_read.proofs.feeding.stream_in.Reads as stream-in-reads
 use Rattle.sheet_read.proofs.feeding.tuple_of.Reads as tuple-of-reads
 use Rattle.sheet_read.proofs.feeding.wide.Reads as wide-reads
 use Rattle.sheet_read.proofs.table.begun.Reads as begun-reads
+use Rattle.sheet_read.proofs.table.behind.Reads as behind-reads
+use Rattle.sheet_read.proofs.table.following.Reads as following-reads
 use Rattle.sheet_read.proofs.table.in_rule.Reads as in-rule-reads
 use Rattle.sheet_read.proofs.table.opened.Reads as opened-reads
 use Rattle.sheet_read.proofs.table.refusal.Reads as refusal-reads
 use Rattle.sheet_read.proofs.table.rule.Reads as rule-reads
 
 abbrev Inv-loop : tie.InvT-loop
-Inv-loop piece point₀ values₀ places₀ set₀ rule₀ byte₀ bit₀ point values places set rule byte bit =
-    (bit < 8) × (8 * byte + bit ≤ 8 * length piece) × Kept (carried point values places set)
-    × (run (carried point values places set) (rest piece (8 * byte + bit)) ≡ run (carried point₀ values₀ places₀ set₀) (bits piece))
+Inv-loop piece point₀ values₀ stages₀ places₀ set₀ rule₀ byte₀ bit₀ point values stages places set rule byte bit =
+    (bit < 8) × (8 * byte + bit ≤ 8 * length piece) × Kept (carried point values stages places set)
+    × (run (carried point values stages places set) (rest piece (8 * byte + bit)) ≡ run (carried point₀ values₀ stages₀ places₀ set₀) (bits piece))
     × (rule ≡ ruleOf point values)
 
 abbrev μ-loop : tie.MeasureT-loop
-μ-loop piece point₀ values₀ places₀ set₀ rule₀ byte₀ bit₀ point values places set rule byte bit = 8 * length piece - (8 * byte + bit)
+μ-loop piece point₀ values₀ stages₀ places₀ set₀ rule₀ byte₀ bit₀ point values stages places set rule byte bit = 8 * length piece - (8 * byte + bit)
 
--- src/feeding.rt:141:9
+-- ---- what every way through the loop has before it
+
+abbrev claims : lts.Claims
+claims = (
+  rule-reads.Asked,
+  rule-reads.Learnt,
+  gather-reads.Asked,
+  gather-reads.Learnt,
+  joined-reads.Asked,
+  joined-reads.Learnt,
+  in-rule-reads.Asked,
+  in-rule-reads.Learnt,
+  refusal-reads.Asked,
+  refusal-reads.Learnt,
+  refused-reads.Asked,
+  refused-reads.Learnt,
+  tuple-of-reads.Asked,
+  tuple-of-reads.Learnt,
+  wide-reads.Asked,
+  wide-reads.Learnt,
+  begun-reads.Asked,
+  begun-reads.Learnt,
+  stream-in-reads.Asked,
+  stream-in-reads.Learnt,
+  opened-reads.Asked,
+  opened-reads.Learnt,
+  front-reads.Asked,
+  front-reads.Learnt,
+  no-stages-reads.Asked,
+  no-stages-reads.Learnt,
+  no-tuples-reads.Asked,
+  no-tuples-reads.Learnt,
+  stage-in-reads.Asked,
+  stage-in-reads.Learnt,
+  behind-reads.Asked,
+  behind-reads.Learnt,
+  following-reads.Asked,
+  following-reads.Learnt,
+)
+
+-- bits were gathered
+abbrev Came : Type 0
+Came = lts.After-gather claims reads.Pre reads.Post Inv-loop μ-loop
+
+-- the field is whole
+abbrev Whole : Type 0
+Whole = lts.After-joined2 claims reads.Pre reads.Post Inv-loop μ-loop
+
+-- its value is in its rule
+abbrev Ruled : Type 0
+Ruled = lts.Else3 claims reads.Pre reads.Post Inv-loop μ-loop
+
+module _ (a : Came) where
+  abbrev point : Point
+  point = a .before .before .before .loop .point
+
+  abbrev values : List ℕ
+  values = a .before .before .before .loop .values
+
+  abbrev stages : List Stage
+  stages = a .before .before .before .loop .stages
+
+  abbrev places : List TuplePlace
+  places = a .before .before .before .loop .places
+
+  abbrev held : Set
+  held = a .before .before .before .loop .set
+
+  abbrev rule : SheetField
+  rule = a .before .before .before .loop .rule
+
+  abbrev byte : ℕ
+  byte = a .before .before .before .loop .byte
+
+  abbrev bit : ℕ
+  bit = a .before .before .before .loop .bit
+
+  abbrev bytes : List ℕ
+  bytes = a .before .before .before .before .before .before .before .before .before .before .before .args .piece .now
+
+  abbrev first : Carried
+  first = a .before .before .before .before .before .before .before .before .before .before .before .args .s
+
+  -- the place behind the bits
+  abbrev laterByte : ℕ
+  laterByte = byte + (bit + a .gather .result .got) / 8
+
+  abbrev laterBit : ℕ
+  laterBit = (bit + a .gather .result .got) % 8
+
+  turn : Turn point values stages places held bytes (8 * byte + bit) (a .gather .result)
+  turn = turned point values stages places held bytes byte bit (a .gather .result) (a .before .before .before .loop .inv .2) (a .before .if1 .taken) (a .gather .ensures)
+
+  ends : 8 * byte + bit + a .gather .result .got ≤ 8 * length bytes
+  ends = end-le turn (a .before .before .before .loop .inv .1)
+
+  runs-on : run (carried point values stages places held) (rest bytes (8 * byte + bit)) ≡ run first (bits bytes)
+  runs-on = a .before .before .before .loop .inv .3
+
+  rule-is : rule ≡ ruleOf point values
+  rule-is = a .before .before .before .loop .inv .4
+
+  less : 8 * length bytes - (8 * laterByte + laterBit) < 8 * length bytes - (8 * byte + bit)
+  less = omega (arith, ends, got-some turn (omega (arith, both-lt byte (length bytes) 0 (point .left) (a .before .if1 .taken) .0)))
+
+  again : (n : Point) (vs : List ℕ) (gs : List Stage) (ts : List TuplePlace) (x : Set) (r : SheetField) → carried n vs gs ts x ≡ ahead turn → r ≡ ruleOf n vs
+      → Inv-loop bytes (first .point) (first .values) (first .stages) (first .places) (first .set) rule 0 0 n vs gs ts x r laterByte laterBit
+  again n vs gs ts x r e q =
+      (omega arith, omega (arith, ends), ahead-kept turn _ e, ahead-runs turn _ first (8 * laterByte + laterBit) e (omega arith) runs-on, q)
+
+module _ (w : Whole) where
+  abbrev came : Came
+  came = w .before .before .before .before .before
+
+  abbrev new : Point
+  new = w .joined2 .result
+
+  behind : Behind new (values came) (stages came) (places came) (held came) (ahead (turn came))
+  behind = turn-whole (turn came) new (w .joined2 .ensures) (left-none (turn came) new (w .joined2 .ensures) (w .before .if2 .left))
+
+module _ (u : Ruled) where
+  abbrev wholeOf : Whole
+  wholeOf = u .before .before .before
+
+  abbrev cameOf : Came
+  cameOf = came wholeOf
+
+  nine : length (values cameOf) ≡ 9
+  nine = turn cameOf .kept .at .nine
+
+  in-rule : inRuleOf (new wholeOf .row) (new wholeOf .whole) (valueAt (values cameOf) 8) (new wholeOf .acc) ≡ true
+  in-rule = sym (u .before .in-rule .ensures ∙ rule-tests (turn cameOf) (new wholeOf) (wholeOf .joined2 .ensures) (rule cameOf) (rule-is cameOf)) ∙ not-false _ (u .if3 .left)
+
+-- ---- the needs
+
+-- src/feeding.rt
 rule-requires : tie.Need-rule-requires Inv-loop μ-loop
 rule-requires c κs = search needs
 
--- src/feeding.rt:144:5
+-- src/feeding.rt
 loop-holds : tie.Need-loop-holds Inv-loop μ-loop
-loop-holds c =
-    (omega arith, omega arith, c .before .before .before .before .before .before .pre, refl, c .rule .ensures)
+loop-holds c = (omega arith, omega arith, c .before .before .before .before .before .before .before .pre, refl, c .rule .ensures)
 
--- src/feeding.rt:145:13
+-- src/feeding.rt
 gather-requires : tie.Need-gather-requires Inv-loop μ-loop
 gather-requires c κs = search needs
 
--- src/feeding.rt:146:19
+-- src/feeding.rt
 add-end : tie.Need-add-end Inv-loop μ-loop
-add-end c =
-    let a = c in
-    let l = a .before .before .before .before .loop in
-    let t : List ℕ = a .before .before .before .before .before .before .before .before .before .before .before .args .piece .now in
-    let g : Gathered = a .before .gather .result in
-    let w = turned (l .point) (l .values) (l .places) (l .set) t (l .byte) (l .bit) g (l .inv .2) (a .before .before .if1 .taken) (a .before .gather .ensures) in
-    omega (arith, got-few w)
+add-end c = omega (arith, got-few (turn (c .before)))
 
--- src/feeding.rt:147:17
+-- src/feeding.rt
 cast-byte : tie.Need-cast-byte Inv-loop μ-loop
 cast-byte c = search needs
 
--- src/feeding.rt:147:9
+-- src/feeding.rt
 add-byte : tie.Need-add-byte Inv-loop μ-loop
-add-byte c =
-    let l = c .before .before .before .before .loop in
-    let t : List ℕ = c .before .before .before .before .before .before .before .before .before .before .before .args .piece .now in
-    omega (arith, got-few (turned (l .point) (l .values) (l .places) (l .set) t (l .byte) (l .bit) (c .before .gather .result) (l .inv .2) (c .before .before .if1 .taken) (c .before .gather .ensures)), end-le (turned (l .point) (l .values) (l .places) (l .set) t (l .byte) (l .bit) (c .before .gather .result) (l .inv .2) (c .before .before .if1 .taken) (c .before .gather .ensures)) (l .inv .1))
+add-byte c = omega (arith, got-few (turn (c .before)), ends (c .before))
 
--- src/feeding.rt:151:13
+-- src/feeding.rt
 joined-requires : tie.Need-joined-requires Inv-loop μ-loop
-joined-requires c κs =
-    let a = c in
-    let l = a .before .before .before .before .before .before .before .loop in
-    let t : List ℕ = a .before .before .before .before .before .before .before .before .before .before .before .before .before .before .args .piece .now in
-    let g : Gathered = a .before .before .before .before .gather .result in
-    let w = turned (l .point) (l .values) (l .places) (l .set) t (l .byte) (l .bit) g (l .inv .2) (a .before .before .before .before .before .if1 .taken) (a .before .before .before .before .gather .ensures) in
-    fits w
+joined-requires c κs = fits (turn (c .before .before .before .before))
 
--- src/feeding.rt:144:5
+-- src/feeding.rt
 loop-less : tie.Need-loop-less Inv-loop μ-loop
-loop-less c =
-    let a = c in
-    let l = a .before .before .before .before .before .before .before .before .loop in
-    let t : List ℕ = a .before .before .before .before .before .before .before .before .before .before .before .before .before .before .before .args .piece .now in
-    let g : Gathered = a .before .before .before .before .before .gather .result in
-    let w = turned (l .point) (l .values) (l .places) (l .set) t (l .byte) (l .bit) g (l .inv .2) (a .before .before .before .before .before .before .if1 .taken) (a .before .before .before .before .before .gather .ensures) in
-    omega (arith, end-le w (l .inv .1), got-some w (omega (arith, both-lt (l .byte) (length t) 0 (l .point .left) (c .before .before .before .before .before .before .if1 .taken) .0)))
+loop-less c = less (c .before .before .before .before .before)
 
--- src/feeding.rt:144:5
+-- src/feeding.rt
 loop-again : tie.Need-loop-again Inv-loop μ-loop
 loop-again c =
-    let a = c in
-    let l = a .before .before .before .before .before .before .before .before .loop in
-    let t : List ℕ = a .before .before .before .before .before .before .before .before .before .before .before .before .before .before .before .args .piece .now in
-    let g : Gathered = a .before .before .before .before .before .gather .result in
-    let n : Point = a .joined .result in
-    let w = turned (l .point) (l .values) (l .places) (l .set) t (l .byte) (l .bit) g (l .inv .2) (a .before .before .before .before .before .before .if1 .taken) (a .before .before .before .before .before .gather .ensures) in
-    let j = a .joined .ensures in
-    let e = turn-part w n j (left-some w n j (a .before .if2 .taken)) in (
-      omega arith,
-      omega (arith, end-le w (l .inv .1)),
-      ahead-kept w _ e,
-      ahead-runs w _ _ (8 * (l .byte + (l .bit + g .got) / 8) + (l .bit + g .got) % 8) e (omega arith) (l .inv .3),
-      rule-stays w n j (l .rule) (l .inv .4),
-    )
+    let a = c .before .before .before .before .before in
+    again a (c .joined .result) (values a) (stages a) (places a) (held a) (rule a) (turn-part (turn a) (c .joined .result) (c .joined .ensures) (left-some (turn a) (c .joined .result) (c .joined .ensures) (c .before .if2 .taken)))
+    (rule-stays (turn a) (c .joined .result) (c .joined .ensures) (rule a) (rule-is a))
 
--- src/feeding.rt:153:13
+-- src/feeding.rt
 joined-requires-2 : tie.Need-joined-requires-2 Inv-loop μ-loop
-joined-requires-2 c κs =
-    let a = c in
-    let l = a .before .before .before .before .before .before .before .loop in
-    let t : List ℕ = a .before .before .before .before .before .before .before .before .before .before .before .before .before .before .args .piece .now in
-    let g : Gathered = a .before .before .before .before .gather .result in
-    let w = turned (l .point) (l .values) (l .places) (l .set) t (l .byte) (l .bit) g (l .inv .2) (a .before .before .before .before .before .if1 .taken) (a .before .before .before .before .gather .ensures) in
-    fits w
+joined-requires-2 c κs = fits (turn (c .before .before .before .before))
 
--- src/feeding.rt:156:21
+-- src/feeding.rt
 cast-v : tie.Need-cast-v Inv-loop μ-loop
-cast-v c =
-    let a = c .before in
-    let l = a .before .before .before .before .before .before .before .before .loop in
-    let t : List ℕ = a .before .before .before .before .before .before .before .before .before .before .before .before .before .before .before .args .piece .now in
-    let g : Gathered = a .before .before .before .before .before .gather .result in
-    let n : Point = a .joined2 .result in
-    let w = turned (l .point) (l .values) (l .places) (l .set) t (l .byte) (l .bit) g (l .inv .2) (a .before .before .before .before .before .before .if1 .taken) (a .before .before .before .before .before .gather .ensures) in
-    let j = a .joined2 .ensures in
-    let b = turn-whole w n j (left-none w n j (a .before .if2 .left)) in
-    omega (arith, b .small)
+cast-v c = omega (arith, behind (c .before) .small)
 
--- src/feeding.rt:157:17
+-- src/feeding.rt
 in-rule-requires : tie.Need-in-rule-requires Inv-loop μ-loop
 in-rule-requires c κs = search needs
 
--- src/feeding.rt:158:32
+-- src/feeding.rt
 refusal-requires : tie.Need-refusal-requires Inv-loop μ-loop
 refusal-requires c κs = search needs
 
--- src/feeding.rt:158:17
+-- src/feeding.rt
 refused-requires : tie.Need-refused-requires Inv-loop μ-loop
-refused-requires c κs =
-    let a = c .before .before .before .before in
-    let l = a .before .before .before .before .before .before .before .before .loop in
-    let t : List ℕ = a .before .before .before .before .before .before .before .before .before .before .before .before .before .before .before .args .piece .now in
-    let g : Gathered = a .before .before .before .before .before .gather .result in
-    let n : Point = a .joined2 .result in
-    let w = turned (l .point) (l .values) (l .places) (l .set) t (l .byte) (l .bit) g (l .inv .2) (a .before .before .before .before .before .before .if1 .taken) (a .before .before .before .before .before .gather .ensures) in
-    let j = a .joined2 .ensures in
-    let b = turn-whole w n j (left-none w n j (a .before .if2 .left)) in
-    (b .at .few, b .at .streams)
+refused-requires c κs = (behind (c .before .before .before .before) .at .few, behind (c .before .before .before .before) .at .streams)
 
--- src/feeding.rt:158:17
+-- src/feeding.rt
 returns : tie.Need-returns Inv-loop μ-loop
 returns c =
-    let a = c .before .before .before .before .before in
-    let l = a .before .before .before .before .before .before .before .before .loop in
-    let t : List ℕ = a .before .before .before .before .before .before .before .before .before .before .before .before .before .before .before .args .piece .now in
-    let g : Gathered = a .before .before .before .before .before .gather .result in
-    let n : Point = a .joined2 .result in
-    let w = turned (l .point) (l .values) (l .places) (l .set) t (l .byte) (l .bit) g (l .inv .2) (a .before .before .before .before .before .before .if1 .taken) (a .before .before .before .before .before .gather .ensures) in
-    let j = a .joined2 .ensures in
-    let b = turn-whole w n j (left-none w n j (a .before .if2 .left)) in
-    let q = c .before .before .before .in-rule .ensures ∙ rule-tests w n j (l .rule) (l .inv .4) in
-    let s = sym q ∙ not-true _ (c .before .before .if3 .taken) in
-    let e = c .refused .ensures ∙ ap refusedOf (c .before .refusal .ensures) in
-    e ∙ refused-stays (refusalOf (n .row)) _ t (8 * (l .byte + (l .bit + g .got) / 8) + (l .bit + g .got) % 8) (refusal-row (n .row) .0) (ahead-runs w _ _ (8 * (l .byte + (l .bit + g .got) / 8) + (l .bit + g .got) % 8) (turn-refused b s) (omega arith) (l .inv .3))
+    let w = c .before .before .before .before .before in
+    let a = came w in
+    let s = sym (c .before .before .before .in-rule .ensures ∙ rule-tests (turn a) (new w) (w .joined2 .ensures) (rule a) (rule-is a)) ∙ not-true _ (c .before .before .if3 .taken) in
+    c .refused .ensures ∙ ap refusedOf (c .before .refusal .ensures)
+    ∙ refused-stays (refusalOf (new w .row)) _ (bytes a) (8 * laterByte a + laterBit a) (refusal-row (new w .row) .0)
+    (ahead-runs (turn a) _ _ (8 * laterByte a + laterBit a) (turn-refused (behind w) s) (omega arith) (runs-on a))
 
--- src/feeding.rt:161:38
+-- src/feeding.rt
 array-read-tuple-of : tie.Need-array-read-tuple-of Inv-loop μ-loop
-array-read-tuple-of c =
-    let a = c .before .before .before .before in
-    let l = a .before .before .before .before .before .before .before .before .loop in
-    let t : List ℕ = a .before .before .before .before .before .before .before .before .before .before .before .before .before .before .before .args .piece .now in
-    let g : Gathered = a .before .before .before .before .before .gather .result in
-    let w = turned (l .point) (l .values) (l .places) (l .set) t (l .byte) (l .bit) g (l .inv .2) (a .before .before .before .before .before .before .if1 .taken) (a .before .before .before .before .before .gather .ensures) in
-    omega (arith, w .kept .at .eight)
+array-read-tuple-of c = omega (arith, nine (c .before))
 
--- src/feeding.rt:161:29
+-- src/feeding.rt
 tuple-of-requires : tie.Need-tuple-of-requires Inv-loop μ-loop
 tuple-of-requires c κs = search needs
 
--- src/feeding.rt:161:17
+-- src/feeding.rt
 mul-places : tie.Need-mul-places Inv-loop μ-loop
-mul-places c =
-    let a = c .before .before .before .before .before in
-    let l = a .before .before .before .before .before .before .before .before .loop in
-    let t : List ℕ = a .before .before .before .before .before .before .before .before .before .before .before .before .before .before .before .args .piece .now in
-    let g : Gathered = a .before .before .before .before .before .gather .result in
-    let n : Point = a .joined2 .result in
-    let w = turned (l .point) (l .values) (l .places) (l .set) t (l .byte) (l .bit) g (l .inv .2) (a .before .before .before .before .before .before .if1 .taken) (a .before .before .before .before .before .gather .ensures) in
-    let j = a .joined2 .ensures in
-    let b = turn-whole w n j (left-none w n j (a .before .if2 .left)) in
-    let q = c .before .before .before .in-rule .ensures ∙ rule-tests w n j (l .rule) (l .inv .4) in
-    let r = sym q ∙ not-false _ (c .before .before .if3 .left) in
-    omega (arith, tuple-room b r (c .before .if4 .taken))
+mul-places c = omega (arith, tuple-room (behind (wholeOf (c .before .before))) (in-rule (c .before .before)) (c .before .if4 .taken))
 
--- src/feeding.rt:161:17
+-- src/feeding.rt
 array-set-from-places : tie.Need-array-set-from-places Inv-loop μ-loop
-array-set-from-places c =
-    let a = c .before .before .before .before .before in
-    let l = a .before .before .before .before .before .before .before .before .loop in
-    let t : List ℕ = a .before .before .before .before .before .before .before .before .before .before .before .before .before .before .before .args .piece .now in
-    let g : Gathered = a .before .before .before .before .before .gather .result in
-    let n : Point = a .joined2 .result in
-    let w = turned (l .point) (l .values) (l .places) (l .set) t (l .byte) (l .bit) g (l .inv .2) (a .before .before .before .before .before .before .if1 .taken) (a .before .before .before .before .before .gather .ensures) in
-    let j = a .joined2 .ensures in
-    let b = turn-whole w n j (left-none w n j (a .before .if2 .left)) in
-    let q = c .before .before .before .in-rule .ensures ∙ rule-tests w n j (l .rule) (l .inv .4) in
-    let r = sym q ∙ not-false _ (c .before .before .if3 .left) in
-    tuple-room b r (c .before .if4 .taken)
+array-set-from-places c = tuple-room (behind (wholeOf (c .before .before))) (in-rule (c .before .before)) (c .before .if4 .taken)
 
--- src/feeding.rt:162:29
+-- src/feeding.rt
 array-read-wide : tie.Need-array-read-wide Inv-loop μ-loop
-array-read-wide c =
-    let a = c .before .before .before .before .before in
-    let l = a .before .before .before .before .before .before .before .before .loop in
-    let t : List ℕ = a .before .before .before .before .before .before .before .before .before .before .before .before .before .before .before .args .piece .now in
-    let g : Gathered = a .before .before .before .before .before .gather .result in
-    let w = turned (l .point) (l .values) (l .places) (l .set) t (l .byte) (l .bit) g (l .inv .2) (a .before .before .before .before .before .before .if1 .taken) (a .before .before .before .before .before .gather .ensures) in
-    omega (arith, w .kept .at .eight)
+array-read-wide c = omega (arith, nine (c .before .before))
 
--- src/feeding.rt:162:24
+-- src/feeding.rt
 wide-requires : tie.Need-wide-requires Inv-loop μ-loop
 wide-requires c κs = search needs
 
--- src/feeding.rt:163:21
+-- src/feeding.rt
 array-write-values : tie.Need-array-write-values Inv-loop μ-loop
-array-write-values c =
-    let a = c .before .before .before .before .before .before .before in
-    let l = a .before .before .before .before .before .before .before .before .loop in
-    let t : List ℕ = a .before .before .before .before .before .before .before .before .before .before .before .before .before .before .before .args .piece .now in
-    let g : Gathered = a .before .before .before .before .before .gather .result in
-    let w = turned (l .point) (l .values) (l .places) (l .set) t (l .byte) (l .bit) g (l .inv .2) (a .before .before .before .before .before .before .if1 .taken) (a .before .before .before .before .before .gather .ensures) in
-    omega (arith, w .kept .at .eight)
+array-write-values c = omega (arith, nine (c .before .before .before .before))
 
--- src/feeding.rt:164:21
+-- src/feeding.rt
 array-write-values-2 : tie.Need-array-write-values-2 Inv-loop μ-loop
-array-write-values-2 c =
-    let a = c .before .before .before .before .before .before .before in
-    let l = a .before .before .before .before .before .before .before .before .loop in
-    let t : List ℕ = a .before .before .before .before .before .before .before .before .before .before .before .before .before .before .before .args .piece .now in
-    let g : Gathered = a .before .before .before .before .before .gather .result in
-    let w = turned (l .point) (l .values) (l .places) (l .set) t (l .byte) (l .bit) g (l .inv .2) (a .before .before .before .before .before .before .if1 .taken) (a .before .before .before .before .before .gather .ensures) in
-    omega (arith, length-set (l .values) 6 0, w .kept .at .eight)
+array-write-values-2 c = omega (arith, length-set (values (cameOf (c .before .before .before .before))) 7 0, nine (c .before .before .before .before))
 
--- src/feeding.rt:165:56
+-- src/feeding.rt
 add-begun : tie.Need-add-begun Inv-loop μ-loop
-add-begun c =
-    let a = c .before .before .before .before .before .before .before in
-    let l = a .before .before .before .before .before .before .before .before .loop in
-    let t : List ℕ = a .before .before .before .before .before .before .before .before .before .before .before .before .before .before .before .args .piece .now in
-    let g : Gathered = a .before .before .before .before .before .gather .result in
-    let n : Point = a .joined2 .result in
-    let w = turned (l .point) (l .values) (l .places) (l .set) t (l .byte) (l .bit) g (l .inv .2) (a .before .before .before .before .before .before .if1 .taken) (a .before .before .before .before .before .gather .ensures) in
-    let j = a .joined2 .ensures in
-    let b = turn-whole w n j (left-none w n j (a .before .if2 .left)) in
-    let q = c .before .before .before .before .before .in-rule .ensures ∙ rule-tests w n j (l .rule) (l .inv .4) in
-    let r = sym q ∙ not-false _ (c .before .before .before .before .if3 .left) in
-    omega (arith, tuple-room b r (c .before .before .before .if4 .taken))
+add-begun c = omega (arith, tuple-room (behind (wholeOf (c .before .before .before .before))) (in-rule (c .before .before .before .before)) (c .before .before .before .if4 .taken))
 
--- src/feeding.rt:165:21
+-- src/feeding.rt
 begun-requires : tie.Need-begun-requires Inv-loop μ-loop
 begun-requires c κs = search needs
 
--- src/feeding.rt:166:21
+-- src/feeding.rt
 rule-requires-2 : tie.Need-rule-requires-2 Inv-loop μ-loop
 rule-requires-2 c κs = search needs
 
--- src/feeding.rt:144:5
+-- src/feeding.rt
 loop-less-2 : tie.Need-loop-less-2 Inv-loop μ-loop
-loop-less-2 c =
-    let a = c .before .before .before .before .before .before .before .before .before in
-    let l = a .before .before .before .before .before .before .before .before .loop in
-    let t : List ℕ = a .before .before .before .before .before .before .before .before .before .before .before .before .before .before .before .args .piece .now in
-    let g : Gathered = a .before .before .before .before .before .gather .result in
-    let w = turned (l .point) (l .values) (l .places) (l .set) t (l .byte) (l .bit) g (l .inv .2) (a .before .before .before .before .before .before .if1 .taken) (a .before .before .before .before .before .gather .ensures) in
-    omega (arith, end-le w (l .inv .1), got-some w (omega (arith, both-lt (l .byte) (length t) 0 (l .point .left) (c .before .before .before .before .before .before .before .before .before .before .before .before .before .before .before .if1 .taken) .0)))
+loop-less-2 c = less (c .before .before .before .before .before .before .before .before .before .before .before .before .before .before)
 
--- src/feeding.rt:144:5
+-- src/feeding.rt
 loop-again-2 : tie.Need-loop-again-2 Inv-loop μ-loop
 loop-again-2 c =
-    let a = c .before .before .before .before .before .before .before .before .before in
-    let l = a .before .before .before .before .before .before .before .before .loop in
-    let t : List ℕ = a .before .before .before .before .before .before .before .before .before .before .before .before .before .before .before .args .piece .now in
-    let g : Gathered = a .before .before .before .before .before .gather .result in
-    let n : Point = a .joined2 .result in
-    let w = turned (l .point) (l .values) (l .places) (l .set) t (l .byte) (l .bit) g (l .inv .2) (a .before .before .before .before .before .before .if1 .taken) (a .before .before .before .before .before .gather .ensures) in
-    let j = a .joined2 .ensures in
-    let b = turn-whole w n j (left-none w n j (a .before .if2 .left)) in
-    let q = c .before .before .before .before .before .before .before .in-rule .ensures ∙ rule-tests w n j (l .rule) (l .inv .4) in
-    let r = sym q ∙ not-false _ (c .before .before .before .before .before .before .if3 .left) in
-    let e = turn-tuple b r (c .before .before .before .before .before .if4 .taken) (c .before .before .before .before .tuple-of .result) (c .before .before .before .before .tuple-of .ensures) (omega (arith, c .before .before .before .wide .ensures, c .before .before .if5 .taken)) (c .before .begun .result) (c .before .begun .ensures) in (
-      omega arith,
-      omega (arith, end-le w (l .inv .1)),
-      ahead-kept w _ e,
-      ahead-runs w _ _ (8 * (l .byte + (l .bit + g .got) / 8) + (l .bit + g .got) % 8) e (omega arith) (l .inv .3),
-      c .rule2 .ensures,
-    )
+    let u = c .before .before .before .before .before .before in
+    let a = cameOf u in
+    again a (c .before .begun .result) _ _ _ _ _ (turn-tuple (behind (wholeOf u)) (in-rule u) (c .before .before .before .before .before .if4 .taken) (c .before .before .before .before .tuple-of .result) (c .before .before .before .before .tuple-of .ensures) (omega (arith, c .before .before .before .wide .ensures, c .before .before .if5 .taken)) (c .before .begun .result) (c .before .begun .ensures)) (c .rule2 .ensures)
 
--- src/feeding.rt:169:56
+-- src/feeding.rt
 add-stream-in : tie.Need-add-stream-in Inv-loop μ-loop
-add-stream-in c =
-    let a = c .before .before .before .before .before .before .before in
-    let l = a .before .before .before .before .before .before .before .before .loop in
-    let t : List ℕ = a .before .before .before .before .before .before .before .before .before .before .before .before .before .before .before .args .piece .now in
-    let g : Gathered = a .before .before .before .before .before .gather .result in
-    let n : Point = a .joined2 .result in
-    let w = turned (l .point) (l .values) (l .places) (l .set) t (l .byte) (l .bit) g (l .inv .2) (a .before .before .before .before .before .before .if1 .taken) (a .before .before .before .before .before .gather .ensures) in
-    let j = a .joined2 .ensures in
-    let b = turn-whole w n j (left-none w n j (a .before .if2 .left)) in
-    let q = c .before .before .before .before .before .in-rule .ensures ∙ rule-tests w n j (l .rule) (l .inv .4) in
-    let r = sym q ∙ not-false _ (c .before .before .before .before .if3 .left) in
-    omega (arith, tuple-room b r (c .before .before .before .if4 .taken))
+add-stream-in c = omega (arith, tuple-room (behind (wholeOf (c .before .before .before .before))) (in-rule (c .before .before .before .before)) (c .before .before .before .if4 .taken))
 
--- src/feeding.rt:169:38
+-- src/feeding.rt
 stream-in-requires : tie.Need-stream-in-requires Inv-loop μ-loop
 stream-in-requires c κs = search needs
 
--- src/feeding.rt:169:21
-mul-t46 : tie.Need-mul-t46 Inv-loop μ-loop
-mul-t46 c =
-    let a = c .before .before .before .before .before .before .before .before in
-    let l = a .before .before .before .before .before .before .before .before .loop in
-    let t : List ℕ = a .before .before .before .before .before .before .before .before .before .before .before .before .before .before .before .args .piece .now in
-    let g : Gathered = a .before .before .before .before .before .gather .result in
-    let n : Point = a .joined2 .result in
-    let w = turned (l .point) (l .values) (l .places) (l .set) t (l .byte) (l .bit) g (l .inv .2) (a .before .before .before .before .before .before .if1 .taken) (a .before .before .before .before .before .gather .ensures) in
-    let j = a .joined2 .ensures in
-    let b = turn-whole w n j (left-none w n j (a .before .if2 .left)) in
-    let q = c .before .before .before .before .before .before .in-rule .ensures ∙ rule-tests w n j (l .rule) (l .inv .4) in
-    let r = sym q ∙ not-false _ (c .before .before .before .before .before .if3 .left) in
-    omega (arith, stream-room b r (c .before .before .before .before .if4 .taken))
+-- src/feeding.rt
+mul-t48 : tie.Need-mul-t48 Inv-loop μ-loop
+mul-t48 c = omega (arith, stream-room (behind (wholeOf (c .before .before .before .before .before))) (in-rule (c .before .before .before .before .before)) (c .before .before .before .before .if4 .taken))
 
--- src/feeding.rt:169:21
+-- src/feeding.rt
 element-set-from-set : tie.Need-element-set-from-set Inv-loop μ-loop
-element-set-from-set c =
-    let a = c .before .before .before .before .before .before .before .before in
-    let l = a .before .before .before .before .before .before .before .before .loop in
-    let t : List ℕ = a .before .before .before .before .before .before .before .before .before .before .before .before .before .before .before .args .piece .now in
-    let g : Gathered = a .before .before .before .before .before .gather .result in
-    let n : Point = a .joined2 .result in
-    let w = turned (l .point) (l .values) (l .places) (l .set) t (l .byte) (l .bit) g (l .inv .2) (a .before .before .before .before .before .before .if1 .taken) (a .before .before .before .before .before .gather .ensures) in
-    let j = a .joined2 .ensures in
-    let b = turn-whole w n j (left-none w n j (a .before .if2 .left)) in
-    let q = c .before .before .before .before .before .before .in-rule .ensures ∙ rule-tests w n j (l .rule) (l .inv .4) in
-    let r = sym q ∙ not-false _ (c .before .before .before .before .before .if3 .left) in
-    stream-room b r (c .before .before .before .before .if4 .taken)
+element-set-from-set c = stream-room (behind (wholeOf (c .before .before .before .before .before))) (in-rule (c .before .before .before .before .before)) (c .before .before .before .before .if4 .taken)
 
--- src/feeding.rt:170:33
+-- src/feeding.rt
 add-set : tie.Need-add-set Inv-loop μ-loop
-add-set c =
-    let a = c .before .before .before .before .before .before .before .before in
-    let l = a .before .before .before .before .before .before .before .before .loop in
-    let t : List ℕ = a .before .before .before .before .before .before .before .before .before .before .before .before .before .before .before .args .piece .now in
-    let g : Gathered = a .before .before .before .before .before .gather .result in
-    let n : Point = a .joined2 .result in
-    let w = turned (l .point) (l .values) (l .places) (l .set) t (l .byte) (l .bit) g (l .inv .2) (a .before .before .before .before .before .before .if1 .taken) (a .before .before .before .before .before .gather .ensures) in
-    let j = a .joined2 .ensures in
-    let b = turn-whole w n j (left-none w n j (a .before .if2 .left)) in
-    let q = c .before .before .before .before .before .before .in-rule .ensures ∙ rule-tests w n j (l .rule) (l .inv .4) in
-    let r = sym q ∙ not-false _ (c .before .before .before .before .before .if3 .left) in
-    omega (arith, stream-room b r (c .before .before .before .before .if4 .taken))
+add-set c = omega (arith, stream-room (behind (wholeOf (c .before .before .before .before .before))) (in-rule (c .before .before .before .before .before)) (c .before .before .before .before .if4 .taken))
 
--- src/feeding.rt:171:56
+-- src/feeding.rt
 add-opened : tie.Need-add-opened Inv-loop μ-loop
-add-opened c =
-    let a = c .before .before .before .before .before .before .before .before in
-    let l = a .before .before .before .before .before .before .before .before .loop in
-    let t : List ℕ = a .before .before .before .before .before .before .before .before .before .before .before .before .before .before .before .args .piece .now in
-    let g : Gathered = a .before .before .before .before .before .gather .result in
-    let n : Point = a .joined2 .result in
-    let w = turned (l .point) (l .values) (l .places) (l .set) t (l .byte) (l .bit) g (l .inv .2) (a .before .before .before .before .before .before .if1 .taken) (a .before .before .before .before .before .gather .ensures) in
-    let j = a .joined2 .ensures in
-    let b = turn-whole w n j (left-none w n j (a .before .if2 .left)) in
-    let q = c .before .before .before .before .before .before .in-rule .ensures ∙ rule-tests w n j (l .rule) (l .inv .4) in
-    let r = sym q ∙ not-false _ (c .before .before .before .before .before .if3 .left) in
-    omega (arith, stream-room b r (c .before .before .before .before .if4 .taken))
+add-opened c = omega (arith, stream-room (behind (wholeOf (c .before .before .before .before .before))) (in-rule (c .before .before .before .before .before)) (c .before .before .before .before .if4 .taken))
 
--- src/feeding.rt:171:68
+-- src/feeding.rt
 array-read-wide-2 : tie.Need-array-read-wide-2 Inv-loop μ-loop
-array-read-wide-2 c =
-    let a = c .before .before .before .before .before .before .before .before in
-    let l = a .before .before .before .before .before .before .before .before .loop in
-    let t : List ℕ = a .before .before .before .before .before .before .before .before .before .before .before .before .before .before .before .args .piece .now in
-    let g : Gathered = a .before .before .before .before .before .gather .result in
-    let w = turned (l .point) (l .values) (l .places) (l .set) t (l .byte) (l .bit) g (l .inv .2) (a .before .before .before .before .before .before .if1 .taken) (a .before .before .before .before .before .gather .ensures) in
-    omega (arith, w .kept .at .eight)
+array-read-wide-2 c = omega (arith, nine (c .before .before .before .before .before))
 
--- src/feeding.rt:171:63
+-- src/feeding.rt
 wide-requires-2 : tie.Need-wide-requires-2 Inv-loop μ-loop
 wide-requires-2 c κs = search needs
 
--- src/feeding.rt:171:42
+-- src/feeding.rt
 opened-requires : tie.Need-opened-requires Inv-loop μ-loop
 opened-requires c κs = search needs
 
--- src/feeding.rt:171:21
+-- src/feeding.rt
 begun-requires-2 : tie.Need-begun-requires-2 Inv-loop μ-loop
 begun-requires-2 c κs = search needs
 
--- src/feeding.rt:172:30
+-- src/feeding.rt
 front-requires : tie.Need-front-requires Inv-loop μ-loop
 front-requires c κs = search needs
 
--- src/feeding.rt:173:30
+-- src/feeding.rt
+no-stages-requires : tie.Need-no-stages-requires Inv-loop μ-loop
+no-stages-requires c κs = search needs
+
+-- src/feeding.rt
 no-tuples-requires : tie.Need-no-tuples-requires Inv-loop μ-loop
 no-tuples-requires c κs = search needs
 
--- src/feeding.rt:174:21
+-- src/feeding.rt
 rule-requires-3 : tie.Need-rule-requires-3 Inv-loop μ-loop
 rule-requires-3 c κs = search needs
 
--- src/feeding.rt:144:5
+-- src/feeding.rt
 loop-less-3 : tie.Need-loop-less-3 Inv-loop μ-loop
-loop-less-3 c =
-    let a = c .before .before .before .before .before .before .before .before .before .before .before .before .before .before in
-    let l = a .before .before .before .before .before .before .before .before .loop in
-    let t : List ℕ = a .before .before .before .before .before .before .before .before .before .before .before .before .before .before .before .args .piece .now in
-    let g : Gathered = a .before .before .before .before .before .gather .result in
-    let w = turned (l .point) (l .values) (l .places) (l .set) t (l .byte) (l .bit) g (l .inv .2) (a .before .before .before .before .before .before .if1 .taken) (a .before .before .before .before .before .gather .ensures) in
-    omega (arith, end-le w (l .inv .1), got-some w (omega (arith, both-lt (l .byte) (length t) 0 (l .point .left) (c .before .before .before .before .before .before .before .before .before .before .before .before .before .before .before .before .before .before .before .before .if1 .taken) .0)))
+loop-less-3 c = less (c .before .before .before .before .before .before .before .before .before .before .before .before .before .before .before .before .before .before .before .before)
 
--- src/feeding.rt:144:5
+-- src/feeding.rt
 loop-again-3 : tie.Need-loop-again-3 Inv-loop μ-loop
 loop-again-3 c =
-    let a = c .before .before .before .before .before .before .before .before .before .before .before .before .before .before in
-    let l = a .before .before .before .before .before .before .before .before .loop in
-    let t : List ℕ = a .before .before .before .before .before .before .before .before .before .before .before .before .before .before .before .args .piece .now in
-    let g : Gathered = a .before .before .before .before .before .gather .result in
-    let n : Point = a .joined2 .result in
-    let w = turned (l .point) (l .values) (l .places) (l .set) t (l .byte) (l .bit) g (l .inv .2) (a .before .before .before .before .before .before .if1 .taken) (a .before .before .before .before .before .gather .ensures) in
-    let j = a .joined2 .ensures in
-    let b = turn-whole w n j (left-none w n j (a .before .if2 .left)) in
-    let q = c .before .before .before .before .before .before .before .before .before .before .before .before .in-rule .ensures ∙ rule-tests w n j (l .rule) (l .inv .4) in
-    let r = sym q ∙ not-false _ (c .before .before .before .before .before .before .before .before .before .before .before .if3 .left) in
-    let e = turn-stream b r (c .before .before .before .before .before .before .before .before .before .before .if4 .taken) (c .before .before .before .before .before .before .before .before .before .tuple-of .result) (c .before .before .before .before .before .before .before .before .before .tuple-of .ensures) (omega (arith, c .before .before .before .before .before .before .before .before .wide .ensures, c .before .before .before .before .before .before .before .if5 .left)) (c .before .before .before .before .before .before .stream-in .result) (c .before .before .before .begun2 .result) (c .before .before .front .result) (c .before .no-tuples .result) (c .before .before .before .before .before .before .stream-in .ensures)
-    (c .before .before .before .begun2 .ensures ∙ ap (λ (i : ℕ). pointAt i 0) (c .before .before .before .before .opened .ensures ∙ ap (openedOf (l .set .count + 1)) (c .before .before .before .before .before .wide2 .ensures))) (c .before .before .front .ensures) (c .before .no-tuples .ensures) in (
-      omega arith,
-      omega (arith, end-le w (l .inv .1)),
-      ahead-kept w _ e,
-      ahead-runs w _ _ (8 * (l .byte + (l .bit + g .got) / 8) + (l .bit + g .got) % 8) e (omega arith) (l .inv .3),
-      c .rule3 .ensures,
-    )
+    let u = c .before .before .before .before .before .before .before .before .before .before .before .before in
+    let a = cameOf u in
+    again a (c .before .before .before .before .begun2 .result) _ _ _ _ _ (turn-stream (behind (wholeOf u)) (in-rule u) (c .before .before .before .before .before .before .before .before .before .before .before .if4 .taken) (c .before .before .before .before .before .before .before .before .before .before .tuple-of .result) (c .before .before .before .before .before .before .before .before .before .before .tuple-of .ensures) (omega (arith, c .before .before .before .before .before .before .before .before .before .wide .ensures, c .before .before .before .before .before .before .before .before .if5 .left)) (c .before .before .before .before .before .before .before .stream-in .result) (c .before .before .before .before .begun2 .result) (c .before .before .before .front .result) (c .before .before .no-stages .result) (c .before .no-tuples .result) (c .before .before .before .before .before .before .before .stream-in .ensures)
+    (c .before .before .before .before .begun2 .ensures ∙ ap (λ (i : ℕ). pointAt i 0) (c .before .before .before .before .before .opened .ensures ∙ ap (openedOf (held a .version) (held a .count + 1)) (c .before .before .before .before .before .before .wide2 .ensures))) (c .before .before .before .front .ensures) (c .before .before .no-stages .ensures) (c .before .no-tuples .ensures)) (c .rule3 .ensures)
 
--- src/feeding.rt:178:17
+-- src/feeding.rt
 array-write-values-3 : tie.Need-array-write-values-3 Inv-loop μ-loop
-array-write-values-3 c =
-    let a = c .before .before .before .before .before in
-    let l = a .before .before .before .before .before .before .before .before .loop in
-    let t : List ℕ = a .before .before .before .before .before .before .before .before .before .before .before .before .before .before .before .args .piece .now in
-    let g : Gathered = a .before .before .before .before .before .gather .result in
-    let w = turned (l .point) (l .values) (l .places) (l .set) t (l .byte) (l .bit) g (l .inv .2) (a .before .before .before .before .before .before .if1 .taken) (a .before .before .before .before .before .gather .ensures) in
-    omega (arith, w .kept .at .eight)
+array-write-values-3 c = omega (arith, nine (c .before .before))
 
--- src/feeding.rt:179:17
+-- src/feeding.rt
 begun-requires-3 : tie.Need-begun-requires-3 Inv-loop μ-loop
 begun-requires-3 c κs = search needs
 
--- src/feeding.rt:180:17
+-- src/feeding.rt
 rule-requires-4 : tie.Need-rule-requires-4 Inv-loop μ-loop
 rule-requires-4 c κs = search needs
 
--- src/feeding.rt:144:5
+-- src/feeding.rt
 loop-less-4 : tie.Need-loop-less-4 Inv-loop μ-loop
-loop-less-4 c =
-    let a = c .before .before .before .before .before .before .before in
-    let l = a .before .before .before .before .before .before .before .before .loop in
-    let t : List ℕ = a .before .before .before .before .before .before .before .before .before .before .before .before .before .before .before .args .piece .now in
-    let g : Gathered = a .before .before .before .before .before .gather .result in
-    let w = turned (l .point) (l .values) (l .places) (l .set) t (l .byte) (l .bit) g (l .inv .2) (a .before .before .before .before .before .before .if1 .taken) (a .before .before .before .before .before .gather .ensures) in
-    omega (arith, end-le w (l .inv .1), got-some w (omega (arith, both-lt (l .byte) (length t) 0 (l .point .left) (c .before .before .before .before .before .before .before .before .before .before .before .before .before .if1 .taken) .0)))
+loop-less-4 c = less (c .before .before .before .before .before .before .before .before .before .before .before .before)
 
--- src/feeding.rt:144:5
+-- src/feeding.rt
 loop-again-4 : tie.Need-loop-again-4 Inv-loop μ-loop
 loop-again-4 c =
-    let a = c .before .before .before .before .before .before .before in
-    let l = a .before .before .before .before .before .before .before .before .loop in
-    let t : List ℕ = a .before .before .before .before .before .before .before .before .before .before .before .before .before .before .before .args .piece .now in
-    let g : Gathered = a .before .before .before .before .before .gather .result in
-    let n : Point = a .joined2 .result in
-    let w = turned (l .point) (l .values) (l .places) (l .set) t (l .byte) (l .bit) g (l .inv .2) (a .before .before .before .before .before .before .if1 .taken) (a .before .before .before .before .before .gather .ensures) in
-    let j = a .joined2 .ensures in
-    let b = turn-whole w n j (left-none w n j (a .before .if2 .left)) in
-    let q = c .before .before .before .before .before .in-rule .ensures ∙ rule-tests w n j (l .rule) (l .inv .4) in
-    let r = sym q ∙ not-false _ (c .before .before .before .before .if3 .left) in
-    let e = turn-cycle b r (c .before .before .if6 .taken) (c .before .begun3 .result) (c .before .begun3 .ensures) in (
-      omega arith,
-      omega (arith, end-le w (l .inv .1)),
-      ahead-kept w _ e,
-      ahead-runs w _ _ (8 * (l .byte + (l .bit + g .got) / 8) + (l .bit + g .got) % 8) e (omega arith) (l .inv .3),
-      c .rule4 .ensures,
-    )
+    let u = c .before .before .before .before in
+    let a = cameOf u in
+    again a (c .before .begun3 .result) _ _ _ _ _ (turn-cycle (behind (wholeOf u)) (in-rule u) (c .before .before .if6 .taken) (c .before .begun3 .result) (c .before .begun3 .ensures)) (c .rule4 .ensures)
 
--- src/feeding.rt:182:17
+-- src/feeding.rt
 array-write-values-4 : tie.Need-array-write-values-4 Inv-loop μ-loop
-array-write-values-4 c =
-    let a = c .before .before .before .before .before .before in
-    let l = a .before .before .before .before .before .before .before .before .loop in
-    let t : List ℕ = a .before .before .before .before .before .before .before .before .before .before .before .before .before .before .before .args .piece .now in
-    let g : Gathered = a .before .before .before .before .before .gather .result in
-    let w = turned (l .point) (l .values) (l .places) (l .set) t (l .byte) (l .bit) g (l .inv .2) (a .before .before .before .before .before .before .if1 .taken) (a .before .before .before .before .before .gather .ensures) in
-    omega (arith, w .kept .at .eight)
+array-write-values-4 c = omega (arith, nine (c .before .before .before))
 
--- src/feeding.rt:183:55
-wide-requires-3 : tie.Need-wide-requires-3 Inv-loop μ-loop
-wide-requires-3 c κs = search needs
-
--- src/feeding.rt:183:38
-opened-requires-2 : tie.Need-opened-requires-2 Inv-loop μ-loop
-opened-requires-2 c κs = search needs
-
--- src/feeding.rt:183:17
+-- src/feeding.rt
 begun-requires-4 : tie.Need-begun-requires-4 Inv-loop μ-loop
 begun-requires-4 c κs = search needs
 
--- src/feeding.rt:184:17
+-- src/feeding.rt
 rule-requires-5 : tie.Need-rule-requires-5 Inv-loop μ-loop
 rule-requires-5 c κs = search needs
 
--- src/feeding.rt:144:5
+-- src/feeding.rt
 loop-less-5 : tie.Need-loop-less-5 Inv-loop μ-loop
-loop-less-5 c =
-    let a = c .before .before .before .before .before .before .before .before .before .before in
-    let l = a .before .before .before .before .before .before .before .before .loop in
-    let t : List ℕ = a .before .before .before .before .before .before .before .before .before .before .before .before .before .before .before .args .piece .now in
-    let g : Gathered = a .before .before .before .before .before .gather .result in
-    let w = turned (l .point) (l .values) (l .places) (l .set) t (l .byte) (l .bit) g (l .inv .2) (a .before .before .before .before .before .before .if1 .taken) (a .before .before .before .before .before .gather .ensures) in
-    omega (arith, end-le w (l .inv .1), got-some w (omega (arith, both-lt (l .byte) (length t) 0 (l .point .left) (c .before .before .before .before .before .before .before .before .before .before .before .before .before .before .before .before .if1 .taken) .0)))
+loop-less-5 c = less (c .before .before .before .before .before .before .before .before .before .before .before .before .before)
 
--- src/feeding.rt:144:5
+-- src/feeding.rt
 loop-again-5 : tie.Need-loop-again-5 Inv-loop μ-loop
 loop-again-5 c =
-    let a = c .before .before .before .before .before .before .before .before .before .before in
-    let l = a .before .before .before .before .before .before .before .before .loop in
-    let t : List ℕ = a .before .before .before .before .before .before .before .before .before .before .before .before .before .before .before .args .piece .now in
-    let g : Gathered = a .before .before .before .before .before .gather .result in
-    let n : Point = a .joined2 .result in
-    let w = turned (l .point) (l .values) (l .places) (l .set) t (l .byte) (l .bit) g (l .inv .2) (a .before .before .before .before .before .before .if1 .taken) (a .before .before .before .before .before .gather .ensures) in
-    let j = a .joined2 .ensures in
-    let b = turn-whole w n j (left-none w n j (a .before .if2 .left)) in
-    let q = c .before .before .before .before .before .before .before .before .in-rule .ensures ∙ rule-tests w n j (l .rule) (l .inv .4) in
-    let r = sym q ∙ not-false _ (c .before .before .before .before .before .before .before .if3 .left) in
-    let e = turn-count b r (c .before .before .before .before .if7 .taken) (c .before .begun4 .result) (c .before .begun4 .ensures ∙ ap (λ (i : ℕ). pointAt i (n .tuples)) (c .before .before .opened2 .ensures ∙ ap (openedOf 0) (c .before .before .before .wide3 .ensures))) in (
-      omega arith,
-      omega (arith, end-le w (l .inv .1)),
-      ahead-kept w _ e,
-      ahead-runs w _ _ (8 * (l .byte + (l .bit + g .got) / 8) + (l .bit + g .got) % 8) e (omega arith) (l .inv .3),
-      c .rule5 .ensures,
-    )
+    let u = c .before .before .before .before .before in
+    let a = cameOf u in
+    again a (c .before .begun4 .result) _ _ _ _ _ (turn-task (behind (wholeOf u)) (in-rule u) (c .before .before .if7 .taken) (c .before .begun4 .result) (c .before .begun4 .ensures)) (c .rule5 .ensures)
 
--- src/feeding.rt:186:17
-mul-values : tie.Need-mul-values Inv-loop μ-loop
-mul-values c =
-    omega (arith, c .if8 .taken)
+-- src/feeding.rt
+array-read-stage-in : tie.Need-array-read-stage-in Inv-loop μ-loop
+array-read-stage-in c = omega (arith, nine (c .before .before .before .before))
 
--- src/feeding.rt:186:17
+-- src/feeding.rt
+stage-in-requires : tie.Need-stage-in-requires Inv-loop μ-loop
+stage-in-requires c κs = search needs
+
+-- src/feeding.rt
+mul-stages : tie.Need-mul-stages Inv-loop μ-loop
+mul-stages c = omega (arith, stage-room (behind (wholeOf (c .before .before .before .before .before))) (in-rule (c .before .before .before .before .before)) (c .before .if8 .taken))
+
+-- src/feeding.rt
+array-set-from-stages : tie.Need-array-set-from-stages Inv-loop μ-loop
+array-set-from-stages c = stage-room (behind (wholeOf (c .before .before .before .before .before))) (in-rule (c .before .before .before .before .before)) (c .before .if8 .taken)
+
+-- src/feeding.rt
 array-write-values-5 : tie.Need-array-write-values-5 Inv-loop μ-loop
-array-write-values-5 c =
-    let a = c .before .before .before .before .before .before .before in
-    let l = a .before .before .before .before .before .before .before .before .loop in
-    let t : List ℕ = a .before .before .before .before .before .before .before .before .before .before .before .before .before .before .before .args .piece .now in
-    let g : Gathered = a .before .before .before .before .before .gather .result in
-    let w = turned (l .point) (l .values) (l .places) (l .set) t (l .byte) (l .bit) g (l .inv .2) (a .before .before .before .before .before .before .if1 .taken) (a .before .before .before .before .before .gather .ensures) in
-    omega (arith, w .kept .at .eight, c .if8 .taken)
+array-write-values-5 c = omega (arith, nine (c .before .before .before .before .before))
 
--- src/feeding.rt:187:38
+-- src/feeding.rt
+array-read-wide-3 : tie.Need-array-read-wide-3 Inv-loop μ-loop
+array-read-wide-3 c = omega (arith, length-set (values (cameOf (c .before .before .before .before .before))) 4 0, nine (c .before .before .before .before .before))
+
+-- src/feeding.rt
+wide-requires-3 : tie.Need-wide-requires-3 Inv-loop μ-loop
+wide-requires-3 c κs = search needs
+
+-- src/feeding.rt
 add-begun-2 : tie.Need-add-begun-2 Inv-loop μ-loop
-add-begun-2 c =
-    omega (arith, c .if8 .taken)
+add-begun-2 c = omega (arith, stage-room (behind (wholeOf (c .before .before .before .before .before .before .before))) (in-rule (c .before .before .before .before .before .before .before)) (c .before .before .before .if8 .taken))
 
--- src/feeding.rt:187:17
+-- src/feeding.rt
 begun-requires-5 : tie.Need-begun-requires-5 Inv-loop μ-loop
 begun-requires-5 c κs = search needs
 
--- src/feeding.rt:188:17
+-- src/feeding.rt
 rule-requires-6 : tie.Need-rule-requires-6 Inv-loop μ-loop
 rule-requires-6 c κs = search needs
 
--- src/feeding.rt:144:5
+-- src/feeding.rt
 loop-less-6 : tie.Need-loop-less-6 Inv-loop μ-loop
-loop-less-6 c =
-    let a = c .before .before .before .before .before .before .before .before .before in
-    let l = a .before .before .before .before .before .before .before .before .loop in
-    let t : List ℕ = a .before .before .before .before .before .before .before .before .before .before .before .before .before .before .before .args .piece .now in
-    let g : Gathered = a .before .before .before .before .before .gather .result in
-    let w = turned (l .point) (l .values) (l .places) (l .set) t (l .byte) (l .bit) g (l .inv .2) (a .before .before .before .before .before .before .if1 .taken) (a .before .before .before .before .before .gather .ensures) in
-    omega (arith, end-le w (l .inv .1), got-some w (omega (arith, both-lt (l .byte) (length t) 0 (l .point .left) (c .before .before .before .before .before .before .before .before .before .before .before .before .before .before .before .if1 .taken) .0)))
+loop-less-6 c = less (c .before .before .before .before .before .before .before .before .before .before .before .before .before .before .before .before .before)
 
--- src/feeding.rt:144:5
+-- src/feeding.rt
 loop-again-6 : tie.Need-loop-again-6 Inv-loop μ-loop
 loop-again-6 c =
-    let a = c .before .before .before .before .before .before .before .before .before in
-    let l = a .before .before .before .before .before .before .before .before .loop in
-    let t : List ℕ = a .before .before .before .before .before .before .before .before .before .before .before .before .before .before .before .args .piece .now in
-    let g : Gathered = a .before .before .before .before .before .gather .result in
-    let n : Point = a .joined2 .result in
-    let w = turned (l .point) (l .values) (l .places) (l .set) t (l .byte) (l .bit) g (l .inv .2) (a .before .before .before .before .before .before .if1 .taken) (a .before .before .before .before .before .gather .ensures) in
-    let j = a .joined2 .ensures in
-    let b = turn-whole w n j (left-none w n j (a .before .if2 .left)) in
-    let q = c .before .before .before .before .before .before .before .in-rule .ensures ∙ rule-tests w n j (l .rule) (l .inv .4) in
-    let r = sym q ∙ not-false _ (c .before .before .before .before .before .before .if3 .left) in
-    let e = turn-field b r (c .before .before .before .before .before .if4 .left) (c .before .before .before .if7 .left) (c .before .begun5 .result) (c .before .begun5 .ensures) in (
-      omega arith,
-      omega (arith, end-le w (l .inv .1)),
-      ahead-kept w _ e,
-      ahead-runs w _ _ (8 * (l .byte + (l .bit + g .got) / 8) + (l .bit + g .got) % 8) e (omega arith) (l .inv .3),
-      c .rule6 .ensures,
-    )
+    let u = c .before .before .before .before .before .before .before .before .before in
+    let a = cameOf u in
+    again a (c .before .begun5 .result) _ _ _ _ _ (turn-stage (behind (wholeOf u)) (in-rule u) (c .before .before .before .before .before .if8 .taken) (c .before .before .before .before .stage-in .result) (c .before .before .before .before .stage-in .ensures) (omega (arith, c .before .before .before .wide3 .ensures, c .before .before .if9 .taken)) (c .before .begun5 .result) (c .before .begun5 .ensures)) (c .rule6 .ensures)
 
--- src/feeding.rt:190:38
-add-begun-3 : tie.Need-add-begun-3 Inv-loop μ-loop
-add-begun-3 c =
-    let a = c .before .before .before .before .before .before .before in
-    let l = a .before .before .before .before .before .before .before .before .loop in
-    let t : List ℕ = a .before .before .before .before .before .before .before .before .before .before .before .before .before .before .before .args .piece .now in
-    let g : Gathered = a .before .before .before .before .before .gather .result in
-    let n : Point = a .joined2 .result in
-    let w = turned (l .point) (l .values) (l .places) (l .set) t (l .byte) (l .bit) g (l .inv .2) (a .before .before .before .before .before .before .if1 .taken) (a .before .before .before .before .before .gather .ensures) in
-    let j = a .joined2 .ensures in
-    let b = turn-whole w n j (left-none w n j (a .before .if2 .left)) in
-    omega (arith, b .row)
+-- src/feeding.rt
+behind-requires : tie.Need-behind-requires Inv-loop μ-loop
+behind-requires c κs = search needs
 
--- src/feeding.rt:190:17
+-- src/feeding.rt
 begun-requires-6 : tie.Need-begun-requires-6 Inv-loop μ-loop
 begun-requires-6 c κs = search needs
 
--- src/feeding.rt:191:17
+-- src/feeding.rt
 rule-requires-7 : tie.Need-rule-requires-7 Inv-loop μ-loop
 rule-requires-7 c κs = search needs
 
--- src/feeding.rt:144:5
+-- src/feeding.rt
 loop-less-7 : tie.Need-loop-less-7 Inv-loop μ-loop
-loop-less-7 c =
-    let a = c .before .before .before .before .before .before .before .before .before in
-    let l = a .before .before .before .before .before .before .before .before .loop in
-    let t : List ℕ = a .before .before .before .before .before .before .before .before .before .before .before .before .before .before .before .args .piece .now in
-    let g : Gathered = a .before .before .before .before .before .gather .result in
-    let w = turned (l .point) (l .values) (l .places) (l .set) t (l .byte) (l .bit) g (l .inv .2) (a .before .before .before .before .before .before .if1 .taken) (a .before .before .before .before .before .gather .ensures) in
-    omega (arith, end-le w (l .inv .1), got-some w (omega (arith, both-lt (l .byte) (length t) 0 (l .point .left) (c .before .before .before .before .before .before .before .before .before .before .before .before .before .before .before .if1 .taken) .0)))
+loop-less-7 c = less (c .before .before .before .before .before .before .before .before .before .before .before .before .before .before .before .before .before .before)
 
--- src/feeding.rt:144:5
+-- src/feeding.rt
 loop-again-7 : tie.Need-loop-again-7 Inv-loop μ-loop
 loop-again-7 c =
-    let a = c .before .before .before .before .before .before .before .before .before in
-    let l = a .before .before .before .before .before .before .before .before .loop in
-    let t : List ℕ = a .before .before .before .before .before .before .before .before .before .before .before .before .before .before .before .args .piece .now in
-    let g : Gathered = a .before .before .before .before .before .gather .result in
-    let n : Point = a .joined2 .result in
-    let w = turned (l .point) (l .values) (l .places) (l .set) t (l .byte) (l .bit) g (l .inv .2) (a .before .before .before .before .before .before .if1 .taken) (a .before .before .before .before .before .gather .ensures) in
-    let j = a .joined2 .ensures in
-    let b = turn-whole w n j (left-none w n j (a .before .if2 .left)) in
-    let q = c .before .before .before .before .before .before .before .in-rule .ensures ∙ rule-tests w n j (l .rule) (l .inv .4) in
-    let r = sym q ∙ not-false _ (c .before .before .before .before .before .before .if3 .left) in
-    let e = turn-padding b r (c .before .before .if8 .left) (c .before .begun6 .result) (c .before .begun6 .ensures) in (
-      omega arith,
-      omega (arith, end-le w (l .inv .1)),
-      ahead-kept w _ e,
-      ahead-runs w _ _ (8 * (l .byte + (l .bit + g .got) / 8) + (l .bit + g .got) % 8) e (omega arith) (l .inv .3),
-      c .rule7 .ensures,
-    )
+    let u = c .before .before .before .before .before .before .before .before .before .before in
+    let a = cameOf u in
+    again a (c .before .begun6 .result) _ _ _ _ _ (turn-stages (behind (wholeOf u)) (in-rule u) (c .before .before .before .before .before .before .if8 .taken) (c .before .before .before .before .before .stage-in .result) (c .before .before .before .before .before .stage-in .ensures) (omega (arith, c .before .before .before .before .wide3 .ensures, c .before .before .before .if9 .left)) (c .before .begun6 .result) (c .before .begun6 .ensures ∙ ap (λ (i : ℕ). pointAt i 0) (c .before .before .behind .ensures))) (c .rule7 .ensures)
 
--- src/feeding.rt:133:1
+-- src/feeding.rt
+begun-requires-7 : tie.Need-begun-requires-7 Inv-loop μ-loop
+begun-requires-7 c κs = search needs
+
+-- src/feeding.rt
+rule-requires-8 : tie.Need-rule-requires-8 Inv-loop μ-loop
+rule-requires-8 c κs = search needs
+
+-- src/feeding.rt
+loop-less-8 : tie.Need-loop-less-8 Inv-loop μ-loop
+loop-less-8 c = less (c .before .before .before .before .before .before .before .before .before .before .before .before .before .before .before)
+
+-- src/feeding.rt
+loop-again-8 : tie.Need-loop-again-8 Inv-loop μ-loop
+loop-again-8 c =
+    let u = c .before .before .before .before .before .before .before in
+    let a = cameOf u in
+    again a (c .before .begun7 .result) _ _ _ _ _ (turn-version (behind (wholeOf u)) (in-rule u) (c .before .before .if10 .taken) (c .before .begun7 .result) (c .before .begun7 .ensures)) (c .rule8 .ensures)
+
+-- src/feeding.rt
+mul-values : tie.Need-mul-values Inv-loop μ-loop
+mul-values c = omega (arith, c .if11 .taken)
+
+-- src/feeding.rt
+array-write-values-6 : tie.Need-array-write-values-6 Inv-loop μ-loop
+array-write-values-6 c = omega (arith, nine (c .before .before .before .before .before .before), c .if11 .taken)
+
+-- src/feeding.rt
+following-requires : tie.Need-following-requires Inv-loop μ-loop
+following-requires c κs = search needs
+
+-- src/feeding.rt
+begun-requires-8 : tie.Need-begun-requires-8 Inv-loop μ-loop
+begun-requires-8 c κs = search needs
+
+-- src/feeding.rt
+rule-requires-9 : tie.Need-rule-requires-9 Inv-loop μ-loop
+rule-requires-9 c κs = search needs
+
+-- src/feeding.rt
+loop-less-9 : tie.Need-loop-less-9 Inv-loop μ-loop
+loop-less-9 c = less (c .before .before .before .before .before .before .before .before .before .before .before .before .before .before .before .before .before)
+
+-- src/feeding.rt
+loop-again-9 : tie.Need-loop-again-9 Inv-loop μ-loop
+loop-again-9 c =
+    let u = c .before .before .before .before .before .before .before .before .before in
+    let a = cameOf u in
+    again a (c .before .begun8 .result) _ _ _ _ _ (turn-field (behind (wholeOf u)) (in-rule u) (c .before .before .before .before .before .before .before .before .if4 .left) (c .before .before .before .before .before .if8 .left) (c .before .before .before .before .if10 .left) (c .before .begun8 .result) (c .before .begun8 .ensures ∙ ap (λ (i : ℕ). pointAt i (new (wholeOf u) .whole)) (c .before .before .following .ensures))) (c .rule9 .ensures)
+
+-- src/feeding.rt
+add-begun-3 : tie.Need-add-begun-3 Inv-loop μ-loop
+add-begun-3 c = omega (arith, behind (wholeOf (c .before .before .before .before .before .before)) .row)
+
+-- src/feeding.rt
+begun-requires-9 : tie.Need-begun-requires-9 Inv-loop μ-loop
+begun-requires-9 c κs = search needs
+
+-- src/feeding.rt
+rule-requires-10 : tie.Need-rule-requires-10 Inv-loop μ-loop
+rule-requires-10 c κs = search needs
+
+-- src/feeding.rt
+loop-less-10 : tie.Need-loop-less-10 Inv-loop μ-loop
+loop-less-10 c = less (c .before .before .before .before .before .before .before .before .before .before .before .before .before .before .before .before)
+
+-- src/feeding.rt
+loop-again-10 : tie.Need-loop-again-10 Inv-loop μ-loop
+loop-again-10 c =
+    let u = c .before .before .before .before .before .before .before .before in
+    let a = cameOf u in
+    again a (c .before .begun9 .result) _ _ _ _ _ (turn-padding (behind (wholeOf u)) (in-rule u) (c .before .before .if11 .left) (c .before .begun9 .result) (c .before .begun9 .ensures)) (c .rule10 .ensures)
+
+-- src/feeding.rt
 returns-2 : tie.Need-returns-2 Inv-loop μ-loop
-returns-2 c =
-    turns-end _ _ _ _ _ _ (c .before .before .loop .byte) (c .before .before .loop .bit) (c .if1 .left) (c .before .before .loop .inv .3)
+returns-2 c = turns-end _ _ _ _ _ _ _ (c .before .before .loop .byte) (c .before .before .loop .bit) (c .if1 .left) (c .before .before .loop .inv .3)
 
 pub feed-spec : {M : Type 1} → statement M
 feed-spec =
@@ -707,7 +609,7 @@ feed-spec =
     loop-again-2
     add-stream-in
     stream-in-requires
-    mul-t46
+    mul-t48
     element-set-from-set
     add-set
     add-opened
@@ -716,6 +618,7 @@ feed-spec =
     opened-requires
     begun-requires-2
     front-requires
+    no-stages-requires
     no-tuples-requires
     rule-requires-3
     loop-less-3
@@ -726,22 +629,41 @@ feed-spec =
     loop-less-4
     loop-again-4
     array-write-values-4
-    wide-requires-3
-    opened-requires-2
     begun-requires-4
     rule-requires-5
     loop-less-5
     loop-again-5
-    mul-values
+    array-read-stage-in
+    stage-in-requires
+    mul-stages
+    array-set-from-stages
     array-write-values-5
+    array-read-wide-3
+    wide-requires-3
     add-begun-2
     begun-requires-5
     rule-requires-6
     loop-less-6
     loop-again-6
-    add-begun-3
+    behind-requires
     begun-requires-6
     rule-requires-7
     loop-less-7
     loop-again-7
+    begun-requires-7
+    rule-requires-8
+    loop-less-8
+    loop-again-8
+    mul-values
+    array-write-values-6
+    following-requires
+    begun-requires-8
+    rule-requires-9
+    loop-less-9
+    loop-again-9
+    add-begun-3
+    begun-requires-9
+    rule-requires-10
+    loop-less-10
+    loop-again-10
     returns-2)

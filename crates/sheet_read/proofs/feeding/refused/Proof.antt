@@ -1,6 +1,7 @@
-use mathlib.Core.Path.{ap, ap₂, _∙_}
+use mathlib.Core.Path.{ap₂, _∙_}
 use mathlib.Core.List.{List}
 use Rattle.rules.specs.declared.Set.{Set}
+use Rattle.rules.specs.declared.Stage.{Stage}
 use Rattle.rules.specs.declared.TuplePlace.{TuplePlace}
 use Rattle.rules.specs.Streams.{emptySet}
 use Rattle.sheet_read.specs.declared.Point.{Point}
@@ -12,12 +13,17 @@ use Rattle.sheet_read.proofs.feeding.refused.Tie as tie
 use Rattle.sheet_read.proofs.feeding.refused.Reads as reads
 use Rattle.sheet_read.proofs.feeding.refused.Lts as lts
 use Rattle.sheet_read.proofs.feeding.cleared.Reads as cleared-reads
+use Rattle.sheet_read.proofs.feeding.no_stages.Reads as no-stages-reads
 use Rattle.sheet_read.proofs.feeding.no_tuples.Reads as no-tuples-reads
 use Rattle.sheet_read.proofs.table.begun.Reads as begun-reads
 
 -- src/feeding.rt:126:16
 begun-requires : tie.Need-begun-requires
 begun-requires c κs = search needs
+
+-- src/feeding.rt:128:17
+no-stages-requires : tie.Need-no-stages-requires
+no-stages-requires c κs = search needs
 
 -- src/feeding.rt:128:17
 no-tuples-requires : tie.Need-no-tuples-requires
@@ -31,8 +37,8 @@ cleared-requires c κs = search needs
 returns : tie.Need-returns
 unfolding refusedOf
 returns c =
-    ap₂ (λ (p : Point) (x : Set). record { point = p; values = noValues; places = c .before .no-tuples .result; set = x }) (c .before .before .begun .ensures) (c .cleared .ensures)
-    ∙ ap (λ (ts : List TuplePlace). record { point = pointAt (c .before .before .before .args .f) 0; values = noValues; places = ts; set = emptySet }) (c .before .no-tuples .ensures)
+    ap₂ (λ (p : Point) (x : Set). record { point = p; values = noValues; stages = c .before .before .no-stages .result; places = c .before .no-tuples .result; set = x }) (c .before .before .before .begun .ensures) (c .cleared .ensures)
+    ∙ ap₂ (λ (gs : List Stage) (ts : List TuplePlace). record { point = pointAt (c .before .before .before .before .args .f) 0; values = noValues; stages = gs; places = ts; set = emptySet }) (c .before .before .no-stages .ensures) (c .before .no-tuples .ensures)
 
 pub refused-spec : {M : Type 1} → statement M
-refused-spec = tie.close (tie.spec begun-requires no-tuples-requires cleared-requires returns)
+refused-spec = tie.close (tie.spec begun-requires no-stages-requires no-tuples-requires cleared-requires returns)

@@ -14,7 +14,7 @@ row-requires c κs = search needs
 
 -- src/table.rt:111:1
 returns : tie.Need-returns
-returns c = ap (λ (r : SheetField). record { row = c .before .args .f; tuples = c .before .args .n; acc = 0; left = r .width }) (c .row .ensures)
+returns c = ap (λ (r : SheetField). record { row = c .before .args .f; whole = c .before .args .n; acc = 0; left = r .width }) (c .row .ensures)
 
 pub begun-spec : {M : Type 1} → statement M
 begun-spec = tie.close (tie.spec row-requires returns)

@@ -41,6 +41,10 @@ field-requires-7 c κs = search needs
 field-requires-8 : tie.Need-field-requires-8
 field-requires-8 c κs = search needs
 
+-- src/table.rt
+field-requires-9 : tie.Need-field-requires-9
+field-requires-9 c κs = search needs
+
 -- src/table.rt:38:9
 returns : tie.Need-returns
 unfolding rowOf
@@ -79,38 +83,43 @@ returns-7 c = c .field7 .ensures ∙ ap rowOf (sym (c .before .match .keys7))
 -- src/table.rt:38:9
 returns-8 : tie.Need-returns-8
 unfolding rowOf
-returns-8 c =
-    let r = c .before .match .rest in
-    c .field8 .ensures ∙ ap rowOf (sym (last-value _ (c .before .before .if1 .taken) (r .0 .0 .0 .0 .0 .0 .1) (r .0 .0 .0 .0 .0 .1) (r .0 .0 .0 .0 .1) (r .0 .0 .0 .1) (r .0 .0 .1) (r .0 .1) (r .1)))
+returns-8 c = c .field8 .ensures ∙ ap rowOf (sym (c .before .match .keys8))
 
--- src/table.rt:50:9
-field-requires-9 : tie.Need-field-requires-9
-field-requires-9 c κs = search needs
-
--- src/table.rt:50:9
+-- src/table.rt:38:9
 returns-9 : tie.Need-returns-9
-returns-9 c = c .field9 .ensures ∙ sym (refused-row _ (c .before .if2 .taken))
+unfolding rowOf
+returns-9 c =
+    let r = c .before .match .rest in
+    c .field9 .ensures ∙ ap rowOf (sym (last-value _ (c .before .before .if1 .taken) (r .0 .0 .0 .0 .0 .0 .0 .1) (r .0 .0 .0 .0 .0 .0 .1) (r .0 .0 .0 .0 .0 .1) (r .0 .0 .0 .0 .1) (r .0 .0 .0 .1) (r .0 .0 .1) (r .0 .1) (r .1)))
+
+-- src/table.rt:50:9
+field-requires-10 : tie.Need-field-requires-10
+field-requires-10 c κs = search needs
+
+-- src/table.rt:50:9
+returns-10 : tie.Need-returns-10
+returns-10 c = c .field10 .ensures ∙ sym (refused-row _ (c .before .if2 .taken))
 
 -- src/table.rt:52:13
 sub-if3 : tie.Need-sub-if3
 sub-if3 c = search needs
 
 -- src/table.rt:52:27
-field-requires-10 : tie.Need-field-requires-10
-field-requires-10 c κs = search needs
-
--- src/table.rt:52:51
 field-requires-11 : tie.Need-field-requires-11
 field-requires-11 c κs = search needs
 
--- src/table.rt:34:1
-returns-10 : tie.Need-returns-10
-unfolding rowOf
-returns-10 c = c .field10 .ensures ∙ ap rowOf (sym (c .before .if3 .taken))
+-- src/table.rt:52:51
+field-requires-12 : tie.Need-field-requires-12
+field-requires-12 c κs = search needs
 
 -- src/table.rt:34:1
 returns-11 : tie.Need-returns-11
-returns-11 c = c .field11 .ensures ∙ sym (padding-row _ (c .before .before .before .if1 .left) (c .before .before .if2 .left) (c .before .if3 .left))
+unfolding rowOf
+returns-11 c = c .field11 .ensures ∙ ap rowOf (sym (c .before .if3 .taken))
+
+-- src/table.rt:34:1
+returns-12 : tie.Need-returns-12
+returns-12 c = c .field12 .ensures ∙ sym (padding-row _ (c .before .before .before .if1 .left) (c .before .before .if2 .left) (c .before .if3 .left))
 
 pub row-spec : {M : Type 1} → statement M
 row-spec =
@@ -124,6 +133,7 @@ row-spec =
     field-requires-6
     field-requires-7
     field-requires-8
+    field-requires-9
     returns
     returns-2
     returns-3
@@ -132,10 +142,11 @@ row-spec =
     returns-6
     returns-7
     returns-8
-    field-requires-9
     returns-9
-    sub-if3
     field-requires-10
-    field-requires-11
     returns-10
-    returns-11)
+    sub-if3
+    field-requires-11
+    field-requires-12
+    returns-11
+    returns-12)
