@@ -55,7 +55,7 @@ mul-g c =
 array-copy-out-g : tie.Need-array-copy-out-g Inv-loop μ-loop Inv-loop2 μ-loop2
 array-copy-out-g c =
     let loop = c .before .before .before .before .before .loop in
-    stage-in (loop .inv .opened) (loop .k) (c .before .before .before .if1 .taken)
+    omega (arith, stage-in (loop .inv .opened) (loop .k) (c .before .before .before .if1 .taken))
 
 goes-first-requires : tie.Need-goes-first-requires Inv-loop μ-loop Inv-loop2 μ-loop2
 goes-first-requires c κs = search needs
@@ -108,7 +108,7 @@ mul-g-2 c =
 array-copy-out-g-2 : tie.Need-array-copy-out-g-2 Inv-loop μ-loop Inv-loop2 μ-loop2
 array-copy-out-g-2 c =
     let loop = c .before .before .before .before .before .before .before .loop2 in
-    stage-in (loop .inv .opened) (loop .k) (c .before .before .before .before .before .if3 .taken)
+    omega (arith, stage-in (loop .inv .opened) (loop .k) (c .before .before .before .before .before .if3 .taken))
 
 add-ends : tie.Need-add-ends Inv-loop μ-loop Inv-loop2 μ-loop2
 add-ends c =

@@ -79,7 +79,7 @@ mul-g c =
 array-copy-out-g : tie.Need-array-copy-out-g Inv-loop μ-loop Inv-loop2 μ-loop2
 array-copy-out-g c =
     let loop = c .before .before .before .before .before .before .loop in
-    pass-stage _ (loop .k) _ _ (loop .inv) (c .before .before .before .before .if3 .taken) (not-false _ (c .before .before .if4 .left))
+    omega (arith, pass-stage _ (loop .k) _ _ (loop .inv) (c .before .before .before .before .if3 .taken) (not-false _ (c .before .before .if4 .left)))
 
 less-requires : tie.Need-less-requires Inv-loop μ-loop Inv-loop2 μ-loop2
 less-requires c κs = search needs
