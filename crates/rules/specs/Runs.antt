@@ -194,7 +194,6 @@ AtCost S d finished = suc (d .stage) ≡ streamAt S (d .stream) .depth
 AtCost S d cut = d .used ≡ stageAt (streamAt S (d .stream)) (d .stage) .cost
 
 -- the departure is that of this message, in time
-
 pub record LeftInTime (S : Set) (p : Accepted) (d : Departure) : Type 0 where
   pub same : d .number ≡ p .number
   pub stream : d .stream ≡ p .stream
