@@ -53,7 +53,7 @@ module _ (f : ℕ → ℕ) (a : ℕ) where
       record { from = omega (arith, l .from); before = omega (arith, l .before); that = l .that; above = l .above; first = none-join i k n (l .first) }
 
 -- the first late length is one
-same-first : (f : ℕ → ℕ) (a e d i j w u : ℕ) → FirstLate f a e i w → FirstLate f a d j u → i ≡ j
+pub same-first : (f : ℕ → ℕ) (a e d i j w u : ℕ) → FirstLate f a e i w → FirstLate f a d j u → i ≡ j
 same-first f a e d i j w u x y =
     elim (decLt i j) [ yes z ↦ absurd (one z) | no g ↦ elim (decLt j i) [ yes z ↦ absurd (two z) | no k ↦ omega arith ] ]
   where
@@ -323,7 +323,7 @@ calls-fall p ns t v f (goes {q = q} {k = k} {t = u} {ns = ms} g c) =
     record { e = rest .e; lengths = rest .lengths; falls = rest .falls; count = omega (arith, rest .count) }
 
 -- where the verdict falls from the first length on, it is document 01's
-fall-verdict : (x : Set) (e : ℕ) (v : Verdict) → Lengths x e → FallsFrom (streamsOf x) 1 e v → VerdictOf x v
+pub fall-verdict : (x : Set) (e : ℕ) (v : Verdict) → Lengths x e → FallsFrom (streamsOf x) 1 e v → VerdictOf x v
 unfolding VerdictOf
 fall-verdict x e Accept l f = rw (l .ok) (accepts (streamsOf x) (l .h) (l .opens) fits)
   where

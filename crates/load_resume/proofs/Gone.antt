@@ -1,0 +1,90 @@
+-- From what a call finds to what it answers.
+-- Assumes nothing.
+use Prim.Native.Nat.{ℕ, _+_, _-_, _≤_, _<_, min}
+use native.Mathlib.Omega.{arith}
+use mathlib.Core.Path.{_≡_, refl, ap, subst}
+use Rattle.rules.specs.declared.Set.{Set}
+use Rattle.rules.specs.declared.Refusal.the-variants.{IllFormed}
+use Rattle.rules.specs.declared.Verdict.{Verdict}
+use Rattle.rules.specs.declared.Verdict.the-variants.{Accept, Late}
+use Rattle.rules.specs.declared.Position.{Position}
+use Rattle.rules.specs.declared.OpenAnswer.the-variants.{Opened, Stops}
+use Rattle.rules.specs.declared.GoAnswer.the-variants.{Next, Falls, Refused}
+use Rattle.rules.specs.declared.GoResult.{GoResult}
+use Rattle.rules.specs.Streams.{streamsOf, valid}
+use Rattle.rules.specs.Load.{demand, NoneLate, FirstLate}
+use Rattle.rules.specs.Resumed.{at, noPosition, Resumes, StopsWith, OpenBy, stopped, before, behind, GoesOn, Ends, GoBy, GoOf}
+use Rattle.load_cycles.specs.declared.Opening.{Opening}
+use Rattle.load_cycles.specs.declared.Opening.the-variants.{Stops as Stopped, Until}
+use Rattle.load_cycles.specs.Openings.{UpTo, OpeningOf}
+use Rattle.load_check.specs.declared.Found.{Found}
+use Rattle.load_check.specs.declared.Found.the-variants.{Clear, Late as FoundLate, Refused as FoundRefused}
+use Rattle.load_check.specs.Lengths.{FoundOf}
+
+-- ---- the opening
+
+pub opens-stop : (x : Set) {b : Opening} {v : Verdict} {p : Position} → OpeningOf x b → b ≡ Stopped v → p ≡ noPosition → OpenBy x (Stops v) p
+opens-stop x o e n = (subst (OpeningOf x) e o, n)
+
+pub opens-at : (x : Set) {b : Opening} {e : ℕ} → OpeningOf x b → b ≡ Until e → OpenBy x Opened (at x 1)
+opens-at x {e = e} o i = let u : UpTo x e = subst (OpeningOf x) i o in ((u .last, u .lengths), refl)
+
+-- ---- a call that is refused
+
+pub barred-stop : (p : Position) {b : Opening} {v : Verdict} (n : ℕ) → OpeningOf (p .set) b → b ≡ Stopped v → GoBy p n (Refused IllFormed) p
+barred-stop p {v = v} n o e = let s : StopsWith (p .set) v = subst (OpeningOf (p .set)) e o in (refl, refl, stopped s)
+
+pub barred-before : (p : Position) {b : Opening} {e : ℕ} (n : ℕ) → OpeningOf (p .set) b → b ≡ Until e → p .next < 1 → GoBy p n (Refused IllFormed) p
+barred-before p {e = e} n o i h = let u : UpTo (p .set) e = subst (OpeningOf (p .set)) i o in (refl, refl, before (u .lengths) h)
+
+pub barred-behind : (p : Position) {b : Opening} {e : ℕ} (n : ℕ) → OpeningOf (p .set) b → b ≡ Until e → e ≤ p .next → GoBy p n (Refused IllFormed) p
+barred-behind p {e = e} n o i h = let u : UpTo (p .set) e = subst (OpeningOf (p .set)) i o in (refl, refl, behind (u .lengths) (omega (arith, u .end)))
+
+-- ---- a call that tests
+
+module _ (x : Set) (from n end : ℕ) (u : UpTo x end) (low : 1 ≤ from) (high : from < end) where
+  resumes : Resumes (at x from) (u .last)
+  resumes = record { lengths = u .lengths; named = record { low = low; high = omega (arith, u .end) } }
+
+  clear : (stop : ℕ) {f : Found} → FoundOf x from stop f → f ≡ Clear → NoneLate (demand (streamsOf x)) from stop
+  unfolding FoundOf
+  clear stop r j = rw (u .lengths .ok) at (subst (FoundOf x from stop) j r)
+
+  pub goes-on : (count : ℕ) {f : Found} → count ≡ min (end - from) n → FoundOf x from (from + count) f → f ≡ Clear → from + count < end
+      → GoBy (at x from) n (Next count) (at x (from + count))
+  goes-on count q r j more =
+      (u .last, resumes, record { number = omega arith; next = refl; left = omega (arith, u .end); clear = clear (from + count) r j })
+
+  pub accepts : (count : ℕ) {f : Found} → count ≡ min (end - from) n → FoundOf x from (from + count) f → f ≡ Clear → end ≤ from + count
+      → GoBy (at x from) n (Falls count Accept) noPosition
+  accepts count q r j done =
+      let e : from + count ≡ u .last + 1 = omega (arith, u .end) in
+      (u .last, resumes, record { number = omega arith; count = e; falls = subst (NoneLate (demand (streamsOf x)) from) e (clear (from + count) r j); none = refl })
+
+  late : (stop i w : ℕ) {f : Found} → FoundOf x from stop f → f ≡ FoundLate i w → FirstLate (demand (streamsOf x)) from stop i w
+  unfolding FoundOf
+  late stop i w r j = rw (u .lengths .ok) at (subst (FoundOf x from stop) j r)
+
+  pub is-late : (count i w k : ℕ) {f : Found} → count ≡ min (end - from) n → FoundOf x from (from + count) f → f ≡ FoundLate i w → from + k ≡ i + 1
+      → GoBy (at x from) n (Falls k (Late i w)) noPosition
+  is-late count i w k q r j s =
+      let l : FirstLate (demand (streamsOf x)) from (from + count) i w = late (from + count) i w r j in
+      (u .last,
+      resumes,
+      record {
+        number = omega (arith, l .before);
+        count = s;
+        falls = record { from = l .from; before = omega (arith, l .before, u .end); that = l .that; above = l .above; first = l .first };
+        none = refl;
+      })
+
+  -- a late length is one of those tested
+  pub late-in : (count i w : ℕ) {f : Found} → count ≡ min (end - from) n → FoundOf x from (from + count) f → f ≡ FoundLate i w → (from ≤ i) × (i < end)
+  late-in count i w q r j =
+      let l : FirstLate (demand (streamsOf x)) from (from + count) i w = late (from + count) i w r j in
+      (l .from, omega (arith, l .before))
+
+  -- its set is valid
+  pub not-refused : (stop : ℕ) {f : Found} {why : _} → FoundOf x from stop f → f ≡ FoundRefused why → ⊥
+  unfolding FoundOf
+  not-refused stop r j = rw (u .lengths .ok) at (subst (FoundOf x from stop) j r)
