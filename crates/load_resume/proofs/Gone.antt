@@ -2,7 +2,7 @@
 -- Assumes nothing.
 use Prim.Native.Nat.{ℕ, _+_, _-_, _≤_, _<_, min}
 use native.Mathlib.Omega.{arith}
-use mathlib.Core.Path.{_≡_, refl, ap, subst}
+use mathlib.Core.Path.{_≡_, refl, subst, sym}
 use Rattle.rules.specs.declared.Set.{Set}
 use Rattle.rules.specs.declared.Refusal.the-variants.{IllFormed}
 use Rattle.rules.specs.declared.Verdict.{Verdict}
@@ -20,6 +20,10 @@ use Rattle.load_cycles.specs.Openings.{UpTo, OpeningOf}
 use Rattle.load_check.specs.declared.Found.{Found}
 use Rattle.load_check.specs.declared.Found.the-variants.{Clear, Late as FoundLate, Refused as FoundRefused}
 use Rattle.load_check.specs.Lengths.{FoundOf}
+
+-- what a function hands back is what it is told to be
+pub as-is : (p : Position) (n : ℕ) {r s : GoResult} → r ≡ s → GoOf p n s → GoOf p n r
+as-is p n e g = subst (GoOf p n) (sym e) g
 
 -- ---- the opening
 
@@ -68,15 +72,16 @@ module _ (x : Set) (from n end : ℕ) (u : UpTo x end) (low : 1 ≤ from) (high 
   pub is-late : (count i w k : ℕ) {f : Found} → count ≡ min (end - from) n → FoundOf x from (from + count) f → f ≡ FoundLate i w → from + k ≡ i + 1
       → GoBy (at x from) n (Falls k (Late i w)) noPosition
   is-late count i w k q r j s =
-      let l : FirstLate (demand (streamsOf x)) from (from + count) i w = late (from + count) i w r j in
-      (u .last,
-      resumes,
-      record {
-        number = omega (arith, l .before);
-        count = s;
-        falls = record { from = l .from; before = omega (arith, l .before, u .end); that = l .that; above = l .above; first = l .first };
-        none = refl;
-      })
+      let l : FirstLate (demand (streamsOf x)) from (from + count) i w = late (from + count) i w r j in (
+        u .last,
+        resumes,
+        record {
+          number = omega (arith, l .before);
+          count = s;
+          falls = record { from = l .from; before = omega (arith, l .before, u .end); that = l .that; above = l .above; first = l .first };
+          none = refl;
+        },
+      )
 
   -- a late length is one of those tested
   pub late-in : (count i w : ℕ) {f : Found} → count ≡ min (end - from) n → FoundOf x from (from + count) f → f ≡ FoundLate i w → (from ≤ i) × (i < end)

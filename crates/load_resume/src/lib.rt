@@ -19,10 +19,7 @@ fn no_position() -> Position
     ensures { λ r. ⌜ r ≡ noPosition ⌝ }
 {
     let set = stream_valid::empty_set();
-    Position {
-        set,
-        next: 0,
-    }
+    Position { set, next: 0 }
 }
 
 // 7, 8 and overload are answered here, before any length. Else the position is the set at length 1.
@@ -79,7 +76,10 @@ fn goes(x: Set, from: u32, count: u32) -> GoResult
     requires { ⌜ from + count ≤ 4294967295 ⌝ }
     ensures { λ r. ⌜ r ≡ record { answer = GoAnswer.Next count; position = at x (from + count) } ⌝ }
 {
-    let position = Position { set: x, next: from + count };
+    let position = Position {
+        set: x,
+        next: from + count,
+    };
     GoResult {
         answer: GoAnswer::Next(count),
         position,

@@ -9,7 +9,7 @@ use Rattle.rules.specs.declared.OpenResult.{OpenResult}
 use Rattle.rules.specs.declared.GoResult.{GoResult}
 use Rattle.rules.specs.Streams.{emptySet, noStreams}
 use Rattle.rules.specs.Load.{greatestDeadline, streamOffset, greatestOffset, lastLength}
-use Rattle.rules.specs.Numbers.{Says, openSays, goSays, accept, late, overload, refused, opened, tested, settled}
+use Rattle.rules.specs.Numbers.{Says, openSays, goSays, overload, refused, opened, tested, tested-accept, tested-late}
 use Rattle.rules.specs.Resumed.{at, noPosition, OpenOf, GoOf}
 use Rattle.rules.proofs.Examples.{setB, computed}
 use Rattle.rules.proofs.Cycles.{hOf}
@@ -45,14 +45,14 @@ abbrev pub called : List Row
 called =
     opens (pair 0 6) opened
     ∷ goes (pair 0 6) 1 3 (tested 3 4) ∷ goes (pair 0 6) 4 0 (tested 0 4) ∷ goes (pair 0 6) 4 1 (tested 1 5)
-    ∷ goes (pair 0 6) 5 100 (settled 1 (late 5 7)) ∷ goes (pair 0 6) 1 100 (settled 5 (late 5 7))
-    ∷ goes (pair 0 6) 6 1 (settled 1 (late 6 7)) ∷ goes (pair 0 6) 8 100 (settled 33 accept)
-    ∷ goes (pair 0 6) 7 0 (tested 0 7) ∷ goes (pair 0 6) 40 1 (settled 1 accept) ∷ goes (pair 0 6) 41 1 (refused 12) ∷ goes (pair 0 6) 46 1 (refused 12)
-    ∷ goes unitEach 1 2 (settled 2 accept) ∷ goes unitEach 1 1 (tested 1 2) ∷ goes unitEach 2 1 (settled 1 accept) ∷ goes unitEach 2 100 (settled 1 accept)
+    ∷ goes (pair 0 6) 5 100 (tested-late 1 5 7) ∷ goes (pair 0 6) 1 100 (tested-late 5 5 7)
+    ∷ goes (pair 0 6) 6 1 (tested-late 1 6 7) ∷ goes (pair 0 6) 8 100 (tested-accept 33)
+    ∷ goes (pair 0 6) 7 0 (tested 0 7) ∷ goes (pair 0 6) 40 1 (tested-accept 1) ∷ goes (pair 0 6) 41 1 (refused 12) ∷ goes (pair 0 6) 46 1 (refused 12)
+    ∷ goes unitEach 1 2 (tested-accept 2) ∷ goes unitEach 1 1 (tested 1 2) ∷ goes unitEach 2 1 (tested-accept 1) ∷ goes unitEach 2 100 (tested-accept 1)
     ∷ goes unitEach 3 1 (refused 12) ∷ goes unitEach 0 1 (refused 12) ∷ goes unitEach 0 0 (refused 12)
     ∷ opens unitTwice overload ∷ goes unitTwice 1 1 (refused 12) ∷ opens longCycles (refused 8) ∷ goes longCycles 1 0 (refused 12)
     ∷ opens broken (refused 7) ∷ goes broken 5 1 (refused 12)
-    ∷ opens emptySet opened ∷ goes emptySet 1 0 (tested 0 1) ∷ goes emptySet 1 1 (settled 1 accept) ∷ goes emptySet 0 1 (refused 12)
+    ∷ opens emptySet opened ∷ goes emptySet 1 0 (tested 0 1) ∷ goes emptySet 1 1 (tested-accept 1) ∷ goes emptySet 0 1 (refused 12)
     ∷ opens setB opened
     ∷ []
 

@@ -76,7 +76,8 @@ pub data Says : Type 0 where
   recorded : (bytes : ℕ) → Says
   opened : Says
   tested : (lengths next : ℕ) → Says
-  settled : (lengths : ℕ) (verdict : Says) → Says
+  tested-accept : (lengths : ℕ) → Says
+  tested-late : (lengths length demand : ℕ) → Says
 
 abbrev pub startSays : StartAnswer → Says
 startSays Started = started
@@ -144,10 +145,17 @@ abbrev pub openSays : OpenAnswer → Says
 openSays Opened = opened
 openSays (Stops v) = verdictSays v
 
--- "the count of lengths tested stands in the answer", with the next length, which the position has, or with the verdict; 12
+-- "the count of lengths tested stands in the answer", with the verdict; overload and a refusal never fall behind a length
+abbrev pub fallSays : ℕ → Verdict → Says
+fallSays k Accept = tested-accept k
+fallSays k (Late i w) = tested-late k i w
+fallSays k Overload = overload
+fallSays k (VerdictRefused why) = refused (number why)
+
+-- with the next length, which the position has, or with the verdict; 12
 abbrev pub goAnswerSays : GoAnswer → (next : ℕ) → Says
 goAnswerSays (Next k) i = tested k i
-goAnswerSays (Falls k v) i = settled k (verdictSays v)
+goAnswerSays (Falls k v) i = fallSays k v
 goAnswerSays (GoRefused why) i = refused (number why)
 
 abbrev pub goSays : GoResult → Says

@@ -1,56 +1,44 @@
+-- `load_resume::go` meets its contract. Assumes nothing.
+use mathlib.Core.Path.{subst}
+use Rattle.load_cycles.specs.Openings.{OpeningOf}
+use Rattle.load_resume.proofs.Gone.{as-is, barred-stop, barred-before, barred-behind}
 use native.Mathlib.Omega.{arith}
 use borrow.Author.Needs.{needs}
 use Rattle.load_resume.proofs.go.Statement.{statement}
 use Rattle.load_resume.proofs.go.Tie as tie
-use Rattle.load_resume.proofs.go.Reads as reads
-use Rattle.load_resume.proofs.go.Lts as lts
-use Rattle.load_cycles.proofs.begin.Reads as begin-reads
-use Rattle.load_resume.proofs.go_until.Reads as go-until-reads
-use Rattle.load_resume.proofs.refuses.Reads as refuses-reads
 
--- src/lib.rt:126:9
 begin-requires : tie.Need-begin-requires
 begin-requires c κs = search needs
 
--- src/lib.rt:128:30
 enum-told : tie.Need-enum-told
 enum-told c = search needs
 
--- src/lib.rt:128:30
 refuses-requires : tie.Need-refuses-requires
 refuses-requires c κs = search needs
 
--- src/lib.rt:129:24
 enum-known-begun : tie.Need-enum-known-begun
 enum-known-begun c = search needs
 
--- src/lib.rt:131:17
 refuses-requires-2 : tie.Need-refuses-requires-2
 refuses-requires-2 c κs = search needs
 
--- src/lib.rt:131:17
 returns : tie.Need-returns
-returns c = ?
+returns c = as-is (c .before .before .before .before .before .before .before .args .p) (c .before .before .before .before .before .before .before .args .n) (c .refuses2 .ensures) (barred-before (c .before .before .before .before .before .before .before .args .p) (c .before .before .before .before .before .before .before .args .n) (c .before .before .before .before .before .begin .ensures) (c .before .before .before .begun .given .1) (c .before .if1 .taken))
 
--- src/lib.rt:134:17
 go-until-requires : tie.Need-go-until-requires
-go-until-requires c κs = ?
+go-until-requires c κs = (subst (OpeningOf (c .before .before .before .before .before .before .before .args .p .set)) (c .before .before .before .begun .given .1) (c .before .before .before .before .before .begin .ensures), omega arith, omega arith)
 
--- src/lib.rt:136:17
 refuses-requires-3 : tie.Need-refuses-requires-3
 refuses-requires-3 c κs = search needs
 
--- src/lib.rt:121:1
 returns-2 : tie.Need-returns-2
-returns-2 c = ?
+returns-2 c = as-is (c .before .before .before .before .before .args .p) (c .before .before .before .before .before .args .n) (c .refuses .ensures) (barred-stop (c .before .before .before .before .before .args .p) (c .before .before .before .before .before .args .n) (c .before .before .before .begin .ensures) (c .before .enum-told .given .1))
 
--- src/lib.rt:121:1
 returns-3 : tie.Need-returns-3
 returns-3 c = search needs
 
--- src/lib.rt:121:1
 returns-4 : tie.Need-returns-4
-returns-4 c = ?
+returns-4 c = as-is (c .before .before .before .before .before .before .before .before .args .p) (c .before .before .before .before .before .before .before .before .args .n) (c .refuses3 .ensures) (barred-behind (c .before .before .before .before .before .before .before .before .args .p) (c .before .before .before .before .before .before .before .before .args .n) (c .before .before .before .before .before .before .begin .ensures) (c .before .before .before .before .begun .given .1) (omega arith))
 
 pub go-spec : {M : Type 1} → statement M
 go-spec =
