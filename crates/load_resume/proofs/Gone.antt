@@ -2,18 +2,24 @@
 -- Assumes nothing.
 use Prim.Native.Nat.{ℕ, _+_, _-_, _≤_, _<_, min}
 use native.Mathlib.Omega.{arith}
-use mathlib.Core.Path.{_≡_, refl, subst, sym}
+use mathlib.Core.Path.{_≡_, refl, ap, subst, sym}
 use Rattle.rules.specs.declared.Set.{Set}
+use Rattle.rules.specs.declared.Refusal.{Refusal}
 use Rattle.rules.specs.declared.Refusal.the-variants.{IllFormed}
 use Rattle.rules.specs.declared.Verdict.{Verdict}
 use Rattle.rules.specs.declared.Verdict.the-variants.{Accept, Late}
 use Rattle.rules.specs.declared.Position.{Position}
+use Rattle.rules.specs.declared.OpenAnswer.{OpenAnswer}
+use Rattle.rules.specs.declared.OpenResult.{OpenResult}
+use Rattle.rules.specs.declared.GoAnswer.{GoAnswer}
 use Rattle.rules.specs.declared.OpenAnswer.the-variants.{Opened, Stops}
 use Rattle.rules.specs.declared.GoAnswer.the-variants.{Next, Falls, Refused}
 use Rattle.rules.specs.declared.GoResult.{GoResult}
 use Rattle.rules.specs.Streams.{streamsOf, valid}
-use Rattle.rules.specs.Load.{demand, NoneLate, FirstLate}
-use Rattle.rules.specs.Resumed.{at, noPosition, Resumes, StopsWith, OpenBy, stopped, before, behind, GoesOn, Ends, GoBy, GoOf}
+use Rattle.rules.specs.Load.{demand, lastLength, VerdictOf, NoneLate, FirstLate}
+use Rattle.rules.specs.Resumed.{Lengths, at, noPosition, Resumes, StopsWith, OpenBy, OpenOf, stopped, before, behind, GoBy, GoOf, Underway}
+use Rattle.rules.proofs.Resumed.{underway-opened, underway-next, underway-falls, underway-goes}
+use Rattle.load_cycles.proofs.Bounds.{deadlines-fit, offsets-fit}
 use Rattle.load_cycles.specs.declared.Opening.{Opening}
 use Rattle.load_cycles.specs.declared.Opening.the-variants.{Stops as Stopped, Until}
 use Rattle.load_cycles.specs.Openings.{UpTo, OpeningOf}
@@ -93,3 +99,43 @@ module _ (x : Set) (from n end : ℕ) (u : UpTo x end) (low : 1 ≤ from) (high 
   pub not-refused : (stop : ℕ) {f : Found} {why : _} → FoundOf x from stop f → f ≡ FoundRefused why → ⊥
   unfolding FoundOf
   not-refused stop r j = rw (u .lengths .ok) at (subst (FoundOf x from stop) j r)
+
+-- ---- calls one after the other
+
+-- no set has more lengths
+last-fits : (x : Set) (e : ℕ) → Lengths x e → e ≤ 1300000
+unfolding lastLength
+last-fits x e l =
+    omega (arith, l .last, l .opens .short, deadlines-fit (streamsOf x) (l .opens .streams), offsets-fit (streamsOf x) (l .opens .streams))
+
+module _ (x : Set) (p : Position) (n : ℕ) (r : GoResult) (u : Underway x p) (g : GoOf p n r) where
+  pub on-next : {k : ℕ} → r .answer ≡ Next k → Underway x (r .position)
+  on-next {k} e = underway-next x p (r .position) n k u (subst (λ (a : GoAnswer). GoBy p n a (r .position)) e g)
+
+  -- the lengths that are left fall
+  pub on-less : {k : ℕ} → r .answer ≡ Next k → 0 < n → 1300000 - r .position .next < 1300000 - p .next
+  on-less {k} e h =
+      let y : GoBy p n (Next k) (r .position) = subst (λ (a : GoAnswer). GoBy p n a (r .position)) e g in
+      omega (arith, y .2 .number, y .2 .left, ap (λ (q : Position). q .next) (y .2 .next), last-fits (p .set) (y .0) (y .1 .lengths))
+
+  pub on-falls : {k : ℕ} {v : Verdict} → r .answer ≡ Falls k v → VerdictOf x v
+  on-falls {k} {v} e = underway-falls x p (r .position) n k v u (subst (λ (a : GoAnswer). GoBy p n a (r .position)) e g)
+
+  pub on-goes : {why : Refusal} → r .answer ≡ Refused why → ⊥
+  on-goes e = underway-goes x p (r .position) n u (subst (λ (a : GoAnswer). GoBy p n a (r .position)) e g)
+
+-- the opening's position begins a check of its set, which is the one that was opened
+pub begins : (x : Set) (r : OpenResult) → OpenOf x r → r .answer ≡ Opened → Underway (r .position .set) (r .position)
+begins x r o e =
+    let y : OpenBy x Opened (r .position) = subst (λ (a : OpenAnswer). OpenBy x a (r .position)) e o in
+    subst (λ (s : Set). Underway s (r .position)) (sym (ap (λ (q : Position). q .set) (y .1))) (underway-opened x (r .position) y)
+
+pub of-set : (x : Set) (r : OpenResult) (v : Verdict) → OpenOf x r → r .answer ≡ Opened → VerdictOf (r .position .set) v → VerdictOf x v
+of-set x r v o e y =
+    let z : OpenBy x Opened (r .position) = subst (λ (a : OpenAnswer). OpenBy x a (r .position)) e o in
+    subst (λ (s : Set). VerdictOf s v) (ap (λ (q : Position). q .set) (z .1)) y
+
+pub stops : (x : Set) (r : OpenResult) {v : Verdict} → OpenOf x r → r .answer ≡ Stops v → VerdictOf x v
+stops x r {v} o e =
+    let y : OpenBy x (Stops v) (r .position) = subst (λ (a : OpenAnswer). OpenBy x a (r .position)) e o in
+    y .0 .verdict

@@ -1,7 +1,8 @@
 // The check in calls: it is opened, and then each call tests a given number of lengths, until the verdict falls.
 ghost use mathlib.Core.Path.{_≡_};
 ghost use Prim.Native.Nat.{_+_, _≤_, _<_, min};
-ghost use Rattle.rules.specs.Resumed.{at, noPosition, OpenOf, GoOf};
+ghost use Rattle.rules.specs.Load.{VerdictOf};
+ghost use Rattle.rules.specs.Resumed.{at, noPosition, OpenOf, GoOf, Underway};
 ghost use Rattle.load_cycles.specs.Openings.{UpTo};
 use load_check::Found;
 use load_cycles::Opening;
@@ -134,6 +135,51 @@ pub fn go(p: Position, n: u32) -> GoResult
                 go_until(x, from, n, end)
             } else {
                 refuses(p)
+            }
+        }
+    }
+}
+
+// ---- the work divided among calls
+
+// Calls with the number n, one after the other, until the verdict falls.
+fn call_by_call(begun: Position, n: u32) -> Verdict
+    requires { ⌜ (Underway (begun .set) begun) × (0 < n) ⌝ }
+    ensures { λ r. ⌜ VerdictOf (begun .set) r ⌝ }
+{
+    let mut p = begun;
+    loop {
+        let r = go(p, n);
+        let a = r.answer;
+        match a {
+            GoAnswer::Next(_) => {
+                let next = r.position;
+                p = next;
+            }
+            GoAnswer::Falls(_, v) => {
+                return v;
+            }
+            GoAnswer::Refused(why) => {
+                return Verdict::Refused(why);
+            }
+        }
+    }
+}
+
+// The verdict of a set, by calls with the number n. With 0 no call would come further, so that it is taken as 1.
+pub fn in_calls(x: Set, n: u32) -> Verdict
+    ensures { λ r. ⌜ VerdictOf x r ⌝ }
+{
+    let opened = open(x);
+    let a = opened.answer;
+    let position = opened.position;
+    match a {
+        OpenAnswer::Stops(v) => v,
+        OpenAnswer::Opened => {
+            if n == 0 {
+                call_by_call(position, 1)
+            } else {
+                call_by_call(position, n)
             }
         }
     }

@@ -13,6 +13,7 @@ use Rattle.laws.specs.Lists.{sum}
 use Rattle.laws.proofs.Sums.{by-test}
 use Rattle.rules.specs.declared.Stream.{Stream}
 use Rattle.rules.specs.declared.Set.{Set}
+use Rattle.rules.specs.declared.Refusal.{Refusal}
 use Rattle.rules.specs.declared.Refusal.the-variants.{OutOfRule, LongCycles, IllFormed}
 use Rattle.rules.specs.declared.Verdict.{Verdict}
 use Rattle.rules.specs.declared.Verdict.the-variants.{Accept, Late, Overload, Refused}
@@ -26,7 +27,7 @@ use Rattle.rules.specs.declared.GoResult.{GoResult}
 use Rattle.rules.specs.Streams.{streamsOf, valid}
 use Rattle.rules.specs.Valid.{Between}
 use Rattle.rules.specs.Load.{demand, load, lastLength, longestH, Opens, JudgedByH, VerdictIf, VerdictOf, NoneLate, FirstLate}
-use Rattle.rules.specs.Resumed.{Lengths, at, noPosition, Resumes, Early, StopsWith, OpenBy, OpenOf, Barred, stopped, before, behind, GoesOn, past, FallsFrom, Ends, GoBy, GoOf, Only12, PositionsKept, TwelveExactly, Stand, next, fallen, Calls, none, goes, falls, itself, together, AnyDivision, NoVerdictYet, LongEnough, OneCall}
+use Rattle.rules.specs.Resumed.{Lengths, at, noPosition, Resumes, Early, StopsWith, OpenBy, OpenOf, Barred, stopped, before, behind, GoesOn, past, FallsFrom, Ends, GoBy, GoOf, Only12, PositionsKept, TwelveExactly, Underway, Stand, next, fallen, Calls, none, goes, falls, itself, together, AnyDivision, NoVerdictYet, LongEnough, OneCall}
 use Rattle.rules.proofs.Valid.{valid-set}
 use Rattle.rules.proofs.Cycles.{hOf, h-of}
 use Rattle.rules.proofs.Judge.{Fits, fits-one, accepts, is-late, overloads}
@@ -451,3 +452,32 @@ twelve-exactly p n r g = go (r .answer) (r .position) g
     go (Next k) q y = record { given = λ s. absurd (let z : _≡_ {A = ℕ} 0 1 = cc in omega arith); broken = λ f. absurd (f (y .0) (y .1)); alone = tt }
     go (Falls k v) q y = record { given = λ s. absurd (let z : _≡_ {A = ℕ} 0 1 = cc in omega arith); broken = λ f. absurd (f (y .0) (y .1)); alone = tt }
     go (GoRefused why) q y = record { given = λ s e z. not-barred p e (y .2) z; broken = λ f. ap GoRefused (y .0); alone = y .0 }
+
+-- ---- a check under way
+
+pub underway-opened : (x : Set) (p : Position) → OpenBy x Opened p → Underway x p
+underway-opened x p o =
+    subst (Underway x) (sym (o .1))
+    (record { same = refl; last = o .0 .0; resumes = begun x (o .0 .0) (o .0 .1); clear = none-yet (demand (streamsOf x)) 1 })
+
+-- the set of a position as the check's own
+clear-own : (x : Set) (p : Position) → Underway x p → Clear p
+clear-own x p u = subst (λ (y : Set). NoneLate (demand (streamsOf y)) 1 (p .next)) (sym (u .same)) (u .clear)
+
+pub underway-next : (x : Set) (p q : Position) (n k : ℕ) → Underway x p → GoBy p n (Next k) q → Underway x q
+underway-next x p q n k u g =
+    subst (Underway x) (sym (g .2 .next))
+    (record {
+      same = u .same;
+      last = g .0;
+      resumes = record { lengths = g .1 .lengths; named = record { low = omega (arith, g .1 .named .low); high = g .2 .left } };
+      clear = subst (λ (y : Set). NoneLate (demand (streamsOf y)) 1 (p .next + k)) (u .same) (none-join (demand (streamsOf (p .set))) 1 (p .next) (p .next + k) (clear-own x p u) (g .2 .clear));
+    })
+
+pub underway-falls : (x : Set) (p q : Position) (n k : ℕ) (v : Verdict) → Underway x p → GoBy p n (Falls k v) q → VerdictOf x v
+underway-falls x p q n k v u g =
+    let d : Fallen p k v = calls-fall p (n ∷ []) k v (clear-own x p u) (falls g) in
+    subst (λ (y : Set). VerdictOf y v) (u .same) (fall-verdict (p .set) (d .e) v (d .lengths) (d .falls))
+
+pub underway-goes : (x : Set) (p q : Position) (n : ℕ) {why : Refusal} → Underway x p → GoBy p n (GoRefused why) q → ⊥
+underway-goes x p q n u g = not-barred p (u .last) (g .2) (u .resumes)

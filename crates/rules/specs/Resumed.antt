@@ -133,6 +133,13 @@ pub record TwelveExactly (p : Position) (n : ℕ) (r : GoResult) : Type 0 where
 
 -- ---- the work divided among calls
 
+-- a check of the set x has come to the position p: none of the lengths before it is late
+pub record Underway (x : Set) (p : Position) : Type 0 where
+  pub same : p .set ≡ x
+  pub last : ℕ
+  pub resumes : Resumes p last
+  pub clear : NoneLate (demand (streamsOf x)) 1 (p .next)
+
 -- where calls have come to: a position, or the verdict
 pub data Stand : Type 0 where
   next : Position → Stand
