@@ -1,27 +1,23 @@
+-- `check_lines::parts_onto` meets its contract. Assumes nothing.
+use Rattle.page.proofs.Prints.{room-less}
+use Rattle.check_lines.specs.Told.{sixteenRoom, partsRoom}
+use Rattle.check_lines.proofs.Shown.{room-behind, both-onto}
 use native.Mathlib.Omega.{arith}
 use borrow.Author.Needs.{needs}
 use Rattle.check_lines.proofs.parts_onto.Statement.{statement}
 use Rattle.check_lines.proofs.parts_onto.Tie as tie
-use Rattle.check_lines.proofs.parts_onto.Reads as reads
-use Rattle.check_lines.proofs.parts_onto.Lts as lts
-use Rattle.check_lines.proofs.streams_onto.Reads as streams-onto-reads
-use Rattle.check_lines.proofs.tasks_onto.Reads as tasks-onto-reads
 
--- src/lib.rt:73:9
 streams-onto-requires : tie.Need-streams-onto-requires
-streams-onto-requires c κs = ?
+streams-onto-requires c κs = room-less (c .before .before .args .out .now) (c .before .before .args .at) sixteenRoom partsRoom (c .before .before .pre) (omega arith)
 
--- src/lib.rt:74:5
 tasks-onto-requires : tie.Need-tasks-onto-requires
-tasks-onto-requires c κs = ?
+tasks-onto-requires c κs = room-behind (c .before .before .before .before .before .before .args .x) (c .before .before .before .before .before .before .args .i) (c .before .before .before .before .before .before .args .out .now) (c .before .before .before .before .before .before .args .at) _ _ (c .before .before .before .before .before .before .pre) (c .before .before .before .streams-onto .ensures)
 
--- src/lib.rt:69:1
 same-length : tie.Need-same-length
 same-length c = search needs
 
--- src/lib.rt:69:1
 returns : tie.Need-returns
-returns c = ?
+returns c = both-onto (c .before .before .before .before .before .before .before .before .before .args .x) (c .before .before .before .before .before .before .before .before .before .args .i) (c .before .before .before .before .before .before .before .before .before .args .out .now) (c .before .before .before .before .before .before .before .before .before .args .at) _ _ (c .before .before .before .before .before .before .before .before .before .pre) (c .before .before .before .before .before .before .streams-onto .ensures) _ _ (c .before .before .tasks-onto .ensures)
 
 pub parts-onto-spec : {M : Type 1} → statement M
 parts-onto-spec =

@@ -1,36 +1,26 @@
-use native.Mathlib.Omega.{arith}
+-- `check_lines::show` meets its contract. Assumes nothing.
+use Rattle.check_lines.proofs.Shown.{room-for-parts, all-onto, no-room-for-all}
 use borrow.Author.Needs.{needs}
 use Rattle.check_lines.proofs.show.Statement.{statement}
 use Rattle.check_lines.proofs.show.Tie as tie
-use Rattle.check_lines.proofs.show.Reads as reads
-use Rattle.check_lines.proofs.show.Lts as lts
-use Rattle.answer_words.proofs.verdict_line.Reads as verdict-line-reads
-use Rattle.check_lines.proofs.made_onto.Reads as made-onto-reads
-use Rattle.page.proofs.append.Reads as append-reads
 
--- src/lib.rt:95:39
 verdict-line-requires : tie.Need-verdict-line-requires
 verdict-line-requires c κs = search needs
 
--- src/lib.rt:95:13
 append-requires : tie.Need-append-requires
 append-requires c κs = search needs
 
--- src/lib.rt:96:9
 made-onto-requires : tie.Need-made-onto-requires
-made-onto-requires c κs = ?
+made-onto-requires c κs = room-for-parts (c .before .before .before .before .before .before .before .before .args .x) (c .before .before .before .before .before .before .before .before .args .v) (c .before .before .before .before .before .before .before .before .args .out .now) (c .before .before .before .before .verdict-line .result) _ _ (c .before .before .before .before .before .before .if1 .taken) (c .before .before .before .before .verdict-line .ensures) (c .before .before .before .append .ensures)
 
--- src/lib.rt:91:1
 same-length : tie.Need-same-length
 same-length c = search needs
 
--- src/lib.rt:91:1
 returns : tie.Need-returns
-returns c = ?
+returns c = all-onto (c .before .before .before .before .before .before .before .before .before .before .before .args .x) (c .before .before .before .before .before .before .before .before .before .before .before .args .v) (c .before .before .before .before .before .before .before .before .before .before .before .args .out .now) (c .before .before .before .before .before .before .before .verdict-line .result) _ _ (c .before .before .before .before .before .before .before .before .before .if1 .taken) (c .before .before .before .before .before .before .before .verdict-line .ensures) (c .before .before .before .before .before .before .append .ensures) _ _ (c .before .before .made-onto .ensures)
 
--- src/lib.rt:91:1
 returns-2 : tie.Need-returns-2
-returns-2 c = ?
+returns-2 c = no-room-for-all (c .before .before .args .x) (c .before .before .args .v) (c .before .before .args .out .now) (c .if1 .left)
 
 pub show-spec : {M : Type 1} → statement M
 show-spec =
