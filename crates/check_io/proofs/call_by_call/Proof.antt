@@ -1,57 +1,47 @@
+-- `check_io::call_by_call` meets its contract: the check is under way until the verdict falls, and the lengths that are left fall. Assumes nothing.
+use Prim.Native.Nat.{_-_}
+use Rattle.rules.specs.Resumed.{Underway}
+use Rattle.load_resume.proofs.Gone.{on-next, on-less, on-falls, on-goes}
 use native.Mathlib.Omega.{arith}
 use borrow.Author.Needs.{needs}
 use Rattle.check_io.proofs.call_by_call.Statement.{statement}
 use Rattle.check_io.proofs.call_by_call.Tie as tie
-use Rattle.check_io.proofs.call_by_call.Reads as reads
-use Rattle.check_io.proofs.call_by_call.Lts as lts
-use Rattle.check_io.proofs.tell.Reads as tell-reads
-use Rattle.load_resume.proofs.go.Reads as go-reads
 
 abbrev Inv-loop : tie.InvT-loop
-Inv-loop all p₀ p = ?
+Inv-loop all p₀ p = Underway (p₀ .set) p
 
 abbrev μ-loop : tie.MeasureT-loop
-μ-loop all p₀ p = ?
+μ-loop all p₀ p = 1300000 - p .next
 
--- src/lib.rt:37:5
 loop-holds : tie.Need-loop-holds Inv-loop μ-loop
-loop-holds c = ?
+loop-holds c = c .pre
 
--- src/lib.rt:38:13
 go-requires : tie.Need-go-requires Inv-loop μ-loop
-go-requires c κs = ?
+go-requires c κs = search needs
 
--- src/lib.rt:42:21
 enum-told : tie.Need-enum-told Inv-loop μ-loop
-enum-told c = ?
+enum-told c = search needs
 
--- src/lib.rt:43:17
 tell-requires : tie.Need-tell-requires Inv-loop μ-loop
-tell-requires c κs = ?
+tell-requires c κs = search needs
 
--- src/lib.rt:37:5
 loop-less : tie.Need-loop-less Inv-loop μ-loop
-loop-less c = ?
+loop-less c = on-less (c .before .before .before .before .before .before .args .begun .set) (c .before .before .before .before .before .loop .p) 50000 (c .before .before .before .before .go .result) (c .before .before .before .before .before .loop .inv) (c .before .before .before .before .go .ensures) (c .before .before .enum-told .given .1) (omega arith)
 
--- src/lib.rt:37:5
 loop-again : tie.Need-loop-again Inv-loop μ-loop
-loop-again c = ?
+loop-again c = on-next (c .before .before .before .before .before .before .args .begun .set) (c .before .before .before .before .before .loop .p) 50000 (c .before .before .before .before .go .result) (c .before .before .before .before .before .loop .inv) (c .before .before .before .before .go .ensures) (c .before .before .enum-told .given .1)
 
--- src/lib.rt:46:32
 enum-known-a : tie.Need-enum-known-a Inv-loop μ-loop
-enum-known-a c = ?
+enum-known-a c = search needs
 
--- src/lib.rt:47:17
 returns : tie.Need-returns Inv-loop μ-loop
-returns c = ?
+returns c = on-falls (c .before .before .before .before .before .args .begun .set) (c .before .before .before .before .loop .p) 50000 (c .before .before .before .go .result) (c .before .before .before .before .loop .inv) (c .before .before .before .go .ensures) (c .before .a .given .1)
 
--- src/lib.rt:49:31
 enum-known-a-2 : tie.Need-enum-known-a-2 Inv-loop μ-loop
-enum-known-a-2 c = ?
+enum-known-a-2 c = search needs
 
--- src/lib.rt:50:17
 returns-2 : tie.Need-returns-2 Inv-loop μ-loop
-returns-2 c = ?
+returns-2 c = absurd (on-goes (c .before .before .before .before .before .args .begun .set) (c .before .before .before .before .loop .p) 50000 (c .before .before .before .go .result) (c .before .before .before .before .loop .inv) (c .before .before .before .go .ensures) (c .before .a2 .given .1))
 
 pub call-by-call-spec : {M : Type 1} → statement M
 call-by-call-spec =
