@@ -29,7 +29,10 @@ pub fn part_line(p: Part) -> Line
         Part::Nothing => line::blank(),
         Part::Due(k, c, e) => {
             let front = line::one(line::blank(), b"stream", k as u64);
-            line::put(line::one(line::one(front, b" cost", c), b" times", e), b'\n')
+            line::put(
+                line::one(line::one(front, b" cost", c), b" times", e),
+                b'\n',
+            )
         }
         Part::Blocks(t, b) => {
             let front = line::one(line::blank(), b"task", t as u64);
@@ -80,7 +83,13 @@ fn made_onto(x: Set, v: Verdict, out: &mut [u8], at: usize) -> usize
     ensures { λ r. ⌜ Onto (now (out .entry)) at (madeOf x v) r (now (out .exit)) ⌝ }
 {
     match v {
-        Verdict::Late(i, _) => { if i <= 4294967295 { parts_onto(x, i as u32, out, at) } else { at } }
+        Verdict::Late(i, _) => {
+            if i <= 4294967295 {
+                parts_onto(x, i as u32, out, at)
+            } else {
+                at
+            }
+        }
         Verdict::Accept => at,
         Verdict::Overload => at,
         Verdict::Refused(_) => at,
