@@ -12,9 +12,8 @@ use Rattle.console_names.specs.declared.SetCommand.the-variants.{Read, S
 use Rattle.console_names.specs.declared.StateCommand.the-variants.{Start, Clock, Pending, Message, Post, Unit, Done, Staged}
 use Rattle.console_names.specs.declared.Question.the-variants as ask
 use Rattle.console_names.specs.declared.ReplayCommand.the-variants.{Recording, Next, Reader, Where}
-use Rattle.console_names.specs.declared.CheckCommand.the-variants.{Open, Go, Resume}
 use Rattle.console_names.specs.declared.Command.{Command}
-use Rattle.console_names.specs.declared.Command.the-variants.{Unknown, Set, State, Ask, Replay, Record, Check}
+use Rattle.console_names.specs.declared.Command.the-variants.{Unknown, Set, State, Ask, Replay, Record}
 use Rattle.console_names.specs.declared.Text.{Text}
 use Rattle.console_names.specs.declared.Text.the-variants.{Nothing, Hex, Steps}
 use Rattle.console_names.specs.declared.Row.{Row}
@@ -123,16 +122,6 @@ replayRow w =
     ∷ []
     )
 
--- **CR 7**
-unfoldable pub checkRow : List ℕ → Row → Row
-checkRow w =
-    among w (
-    row "open" (Check Open) []
-    ∷ row "go" (Check Go) (top ∷ [])
-    ∷ row "resume" (Check Resume) (top ∷ [])
-    ∷ []
-    )
-
 -- "A line that is not one of those below .. prints `?`"
 unfoldable pub rowOf : List ℕ → Row
-rowOf w = checkRow w (replayRow w (questionRow w (stateRow w (setRow w (asks Unknown [])))))
+rowOf w = replayRow w (questionRow w (stateRow w (setRow w (asks Unknown []))))

@@ -1,7 +1,7 @@
 // The console's commands by name, in groups, and what each asks for.
 ghost use mathlib.Core.Path.{_≡_};
 ghost use mathlib.Core.List.{_∷_, []};
-ghost use Rattle.console_names.specs.Rows.{mostBytes, ifNamed, setRow, stateRow, questionRow, replayRow, checkRow, rowOf};
+ghost use Rattle.console_names.specs.Rows.{mostBytes, ifNamed, setRow, stateRow, questionRow, replayRow, rowOf};
 
 // The commands that change the set.
 pub enum SetCommand {
@@ -48,13 +48,6 @@ pub enum ReplayCommand {
     Where,
 }
 
-// The commands of a check in calls.
-pub enum CheckCommand {
-    Open,
-    Go,
-    Resume,
-}
-
 // What a line asks for.
 pub enum Command {
     // An empty line.
@@ -67,7 +60,6 @@ pub enum Command {
     Replay(ReplayCommand),
     // The recording of a trace.
     Record,
-    Check(CheckCommand),
 }
 
 // What stands behind a command's numbers.
@@ -247,32 +239,10 @@ fn replay_row(w: &[u8], other: Row) -> Row
     r
 }
 
-fn of_check(k: CheckCommand, count: usize, most: [u32; NUMBERS]) -> Row
-    ensures { λ r. ⌜ r ≡ record { command = Command.Check k; count = count; most = most; text = Text.Nothing } ⌝ }
-{
-    asks(Command::Check(k), count, most)
-}
-
-fn check_row(w: &[u8], other: Row) -> Row
-    ensures { λ r. ⌜ r ≡ checkRow (now (w .entry)) other ⌝ }
-{
-    let mut r = other;
-    let open = of_check(CheckCommand::Open, 0, [0; NUMBERS]);
-    r = named(w, b"open", open, r);
-    let go = of_check(CheckCommand::Go, 1, [TOP, 0, 0, 0, 0]);
-    r = named(w, b"go", go, r);
-    let resume = of_check(CheckCommand::Resume, 1, [TOP, 0, 0, 0, 0]);
-    r = named(w, b"resume", resume, r);
-    r
-}
-
 // The row of the command that has this name.
 pub fn row_of(w: &[u8]) -> Row
     ensures { λ r. ⌜ r ≡ rowOf (now (w .entry)) ⌝ }
 {
     let none = asks(Command::Unknown, 0, [0; NUMBERS]);
-    check_row(
-        w,
-        replay_row(w, question_row(w, state_row(w, set_row(w, none)))),
-    )
+    replay_row(w, question_row(w, state_row(w, set_row(w, none))))
 }

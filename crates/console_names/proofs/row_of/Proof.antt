@@ -1,7 +1,7 @@
 -- `console_names::row_of` meets its contract.
 -- Assumes nothing.
 use mathlib.Core.Path.{ap, _∙_}
-use Rattle.console_names.specs.Rows.{setRow, stateRow, questionRow, replayRow, checkRow, rowOf}
+use Rattle.console_names.specs.Rows.{setRow, stateRow, questionRow, replayRow, rowOf}
 use borrow.Author.Needs.{needs}
 use Rattle.console_names.proofs.row_of.Statement.{statement}
 use Rattle.console_names.proofs.row_of.Tie as tie
@@ -21,19 +21,14 @@ question-row-requires c κs = search needs
 replay-row-requires : tie.Need-replay-row-requires
 replay-row-requires c κs = search needs
 
-check-row-requires : tie.Need-check-row-requires
-check-row-requires c κs = search needs
-
 returns : tie.Need-returns
 unfolding rowOf
 returns c =
-    let r = c .before in
-    let q = r .before in
+    let q = c .before in
     let set = q .before .before in
-    c .check-row .ensures
-    ∙ ap (checkRow _) (r .replay-row .ensures
+    c .replay-row .ensures
     ∙ ap (replayRow _) (q .question-row .ensures
-    ∙ ap (questionRow _) (q .before .state-row .ensures ∙ ap (stateRow _) (set .set-row .ensures ∙ ap (setRow _) (set .before .asks .ensures)))))
+    ∙ ap (questionRow _) (q .before .state-row .ensures ∙ ap (stateRow _) (set .set-row .ensures ∙ ap (setRow _) (set .before .asks .ensures))))
 
 pub row-of-spec : {M : Type 1} → statement M
 row-of-spec =
@@ -44,5 +39,4 @@ row-of-spec =
     state-row-requires
     question-row-requires
     replay-row-requires
-    check-row-requires
     returns)
