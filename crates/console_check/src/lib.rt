@@ -20,10 +20,7 @@ pub fn first() -> Position
     ensures { λ r. ⌜ r ≡ firstPosition ⌝ }
 {
     let set = stream_valid::empty_set();
-    Position {
-        set,
-        next: 1,
-    }
+    Position { set, next: 1 }
 }
 
 // With a verdict the position stays.
@@ -39,10 +36,7 @@ fn opened(x: Set, p: Position) -> CheckAfter
             position: next,
             line,
         },
-        OpenAnswer::Stops(_) => CheckAfter {
-            position: p,
-            line,
-        },
+        OpenAnswer::Stops(_) => CheckAfter { position: p, line },
     }
 }
 
@@ -59,14 +53,8 @@ fn gone(p: Position, n: u32) -> CheckAfter
             position: next,
             line,
         },
-        GoAnswer::Falls(_, _) => CheckAfter {
-            position: p,
-            line,
-        },
-        GoAnswer::Refused(_) => CheckAfter {
-            position: p,
-            line,
-        },
+        GoAnswer::Falls(_, _) => CheckAfter { position: p, line },
+        GoAnswer::Refused(_) => CheckAfter { position: p, line },
     }
 }
 
