@@ -21,6 +21,18 @@ pub fn long_check(tuples: u32) -> Vec<u8> {
     sheet(&streams)
 }
 
+/// A full set with H = 1,000 and 2,000 lengths that is accepted: 16 streams of so many tuples, on 5 tasks.
+pub fn short_check(tuples: u32) -> Vec<u8> {
+    let place = |j: u32| Tuple::Every {
+        cycle: 1_000,
+        offset: j * 10 / (tuples - 1).max(1) * 3,
+    };
+    let streams: Vec<Stream> = (0..16)
+        .map(|k| stream(k % 5, 1, 970 - k * 10, tuples, place))
+        .collect();
+    sheet(&streams)
+}
+
 /// A set for the steps: so many streams of so many tuples, costs that no run here uses up.
 pub fn steps_set(streams: u32, tuples: u32) -> Vec<u8> {
     let place = |j: u32| Tuple::Every {

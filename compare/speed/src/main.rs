@@ -121,6 +121,27 @@ fn main() -> ExitCode {
             plain::verdict(&sheet)
         });
     }
+    for (tuples, n) in [(1, 12_000), (4, 12_091)] {
+        let sheet = inputs::long_check(tuples);
+        let what = format!(
+            "load check, the same, in 100 calls, beside the proved one in one, {}",
+            size(16, tuples)
+        );
+        table.row(&what, Some(1.1), &|| proved::in_calls(&sheet, n), &|| {
+            proved::verdict(&sheet)
+        });
+    }
+    for tuples in [1, 4] {
+        let sheet = inputs::short_check(tuples);
+        let what = format!(
+            "load check, accepted, 2,000 lengths, a call for each, beside the proved one in one, {}",
+            size(16, tuples)
+        );
+        assert_eq!(proved::verdict(&sheet), 0, "{what}: not accepted");
+        table.row(&what, None, &|| proved::in_calls(&sheet, 1), &|| {
+            proved::verdict(&sheet)
+        });
+    }
     let sheet = inputs::long_check(4);
     assert_eq!(sheet.len(), 378);
     let what = "reading a full sheet of 378 bytes, plain reader by bytes";

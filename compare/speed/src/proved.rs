@@ -3,6 +3,7 @@
 extern "C" {
     fn sheet_read(bytes: *const u8, bytes_len: usize, k: usize) -> u64;
     fn sheet_verdict(bytes: *const u8, bytes_len: usize) -> u64;
+    fn sheet_in_calls(bytes: *const u8, bytes_len: usize, n: u32) -> u64;
     fn sheet_run(bytes: *const u8, bytes_len: usize, calls: *const u8, calls_len: usize) -> u64;
 }
 
@@ -16,6 +17,12 @@ pub fn read(sheet: &[u8], k: usize) -> u64 {
 pub fn verdict(sheet: &[u8]) -> u64 {
     // SAFETY: as above.
     unsafe { sheet_verdict(sheet.as_ptr(), sheet.len()) }
+}
+
+/// The same number as `verdict`, by calls that test n lengths each.
+pub fn in_calls(sheet: &[u8], n: u32) -> u64 {
+    // SAFETY: as above.
+    unsafe { sheet_in_calls(sheet.as_ptr(), sheet.len(), n) }
 }
 
 /// How many are pending, and the clock, after the calls.

@@ -9,7 +9,7 @@ use Rattle.rules.specs.declared.Tuple.{Tuple}
 use Rattle.rules.specs.declared.Tuple.the-variants.{Once, Every}
 use Rattle.rules.specs.declared.ReadAnswer.{ReadAnswer}
 use Rattle.rules.specs.declared.ReadAnswer.the-variants.{Read, Refused}
-use Rattle.rules.specs.Numbers.{Says, number, refused, refused-with-0, started, posted, none, runs, ran, passed, done, cut, idle, gives, tuples, accept, late, overload, read, wrote, ended, recorded}
+use Rattle.rules.specs.Numbers.{Says, number, refused, refused-with-0, started, posted, none, runs, ran, passed, done, cut, idle, gives, tuples, accept, late, overload, read, wrote, ended, recorded, opened, tested, tested-accept, tested-late}
 use Rattle.ascii.specs.Decimal.{letters, decimalOf, signedOf, spaced}
 use Rattle.ascii.proofs.Digits.{digits-short}
 use Rattle.line.specs.Line.{lineRoom}
@@ -63,6 +63,17 @@ says-short read = omega arith
 says-short (wrote n) = omega (arith, one (letters "wrote") n)
 says-short ended = omega arith
 says-short (recorded n) = omega (arith, one (letters "recorded") n)
+says-short opened = omega arith
+says-short (tested k i) =
+    omega (arith, length-append (letters "tested" ++ spaced (decimalOf k)) (letters " next" ++ spaced (decimalOf i)), one (letters "tested") k, one (letters " next") i)
+says-short (tested-accept k) = omega (arith, length-append (letters "tested" ++ spaced (decimalOf k)) (letters " accept"), one (letters "tested") k)
+says-short (tested-late k i w) =
+    omega (
+      arith,
+      length-append (letters "tested" ++ spaced (decimalOf k)) (letters " late" ++ spaced (decimalOf i) ++ spaced (decimalOf w)),
+      one (letters "tested") k,
+      two (letters " late") i w,
+    )
 
 pub read-short : (a : ReadAnswer) (n : ℕ) → length (readWords a n) ≤ 95
 read-short Read n = omega (arith, one (letters "set") n)

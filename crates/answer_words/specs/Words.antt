@@ -8,7 +8,7 @@ use Rattle.rules.specs.declared.ReadAnswer.{ReadAnswer}
 use Rattle.rules.specs.declared.ReadAnswer.the-variants.{Read, Refused}
 use Rattle.rules.specs.declared.ReplayAnswer.{ReplayAnswer}
 use Rattle.rules.specs.declared.ReplayAnswer.the-variants.{Called, Ended, Refused as NoStep}
-use Rattle.rules.specs.Numbers.{Says, callSays, number, refused, refused-with-0, started, posted, none, runs, ran, passed, done, cut, idle, gives, tuples, accept, late, overload, read, wrote, ended, recorded}
+use Rattle.rules.specs.Numbers.{Says, callSays, number, refused, refused-with-0, started, posted, none, runs, ran, passed, done, cut, idle, gives, tuples, accept, late, overload, read, wrote, ended, recorded, opened, tested, tested-accept, tested-late}
 use Rattle.rules.specs.Runs.{Step}
 use Rattle.ascii.specs.Decimal.{letters, decimalOf, signedOf, spaced, newline}
 
@@ -44,6 +44,10 @@ says read = letters "read"
 says (wrote n) = letters "wrote" ++ nr n
 says ended = letters "end"
 says (recorded n) = letters "recorded" ++ nr n
+says opened = letters "open"
+says (tested k i) = letters "tested" ++ nr k ++ (letters " next" ++ nr i)
+says (tested-accept k) = letters "tested" ++ nr k ++ letters " accept"
+says (tested-late k i w) = letters "tested" ++ nr k ++ (letters " late" ++ nr i ++ nr w)
 
 -- "Prints `set N` with the number of streams .. or `refused N`"
 abbrev pub readWords : ReadAnswer → ℕ → List ℕ

@@ -1,10 +1,12 @@
 // What the programs print: a refusal, and the lines of a trace; the words of specs/Words.antt.
 ghost use mathlib.Core.Path.{_≡_};
-ghost use Rattle.rules.specs.Numbers.{number, refused as Refused-with, postSays, unitSays, callSays, verdictSays};
+ghost use Rattle.rules.specs.Numbers.{number, refused as Refused-with, postSays, unitSays, callSays, verdictSays, openSays, fallSays, goAnswerSays};
 ghost use Rattle.line.specs.Line.{holding, puts};
 ghost use Rattle.answer_words.specs.Words.{says, lineOf, stepLine, replayLine};
 use line::Line;
 use rules::CallAnswer;
+use rules::GoAnswer;
+use rules::OpenAnswer;
 use rules::PostAnswer;
 use rules::Refusal;
 use rules::ReplayAnswer;
@@ -89,4 +91,43 @@ pub fn replay_line(clock: u32, a: ReplayAnswer) -> Line
         ReplayAnswer::Ended => line::put(line::word(line::blank(), b"end"), b'\n'),
         ReplayAnswer::Refused(why) => verdict_line(Verdict::Refused(why)),
     }
+}
+
+// ---- a check in calls
+
+pub fn open_line(a: OpenAnswer) -> Line
+    ensures { λ r. ⌜ r ≡ holding (lineOf (says (openSays a))) ⌝ }
+{
+    match a {
+        OpenAnswer::Opened => line::put(line::word(line::blank(), b"open"), b'\n'),
+        OpenAnswer::Stops(v) => verdict_line(v),
+    }
+}
+
+fn fall_words(l: Line, k: u32, v: Verdict) -> Line
+    ensures { λ r. ⌜ r ≡ puts l (says (fallSays k v)) ⌝ }
+{
+    match v {
+        Verdict::Accept => line::word(line::one(l, b"tested", k as u64), b" accept"),
+        Verdict::Late(i, w) => line::two(line::one(l, b"tested", k as u64), b" late", i, w),
+        Verdict::Overload => line::word(l, b"overload"),
+        Verdict::Refused(why) => refused(l, why),
+    }
+}
+
+fn go_words(l: Line, a: GoAnswer, next: u32) -> Line
+    ensures { λ r. ⌜ r ≡ puts l (says (goAnswerSays a next)) ⌝ }
+{
+    match a {
+        GoAnswer::Next(k) => line::one(line::one(l, b"tested", k as u64), b" next", next as u64),
+        GoAnswer::Falls(k, v) => fall_words(l, k, v),
+        GoAnswer::Refused(why) => refused(l, why),
+    }
+}
+
+// What a call answers, and the next length where there is one.
+pub fn go_line(a: GoAnswer, next: u32) -> Line
+    ensures { λ r. ⌜ r ≡ holding (lineOf (says (goAnswerSays a next))) ⌝ }
+{
+    line::put(go_words(line::blank(), a, next), b'\n')
 }

@@ -48,6 +48,13 @@ pub enum ReplayCommand {
     Where,
 }
 
+// The commands of a check in calls.
+pub enum CheckCommand {
+    Open,
+    Go,
+    Resume,
+}
+
 // What a line asks for.
 pub enum Command {
     // An empty line.

@@ -1,8 +1,10 @@
 // Questions about a sheet for a caller in another language: bytes come in, one number goes out.
 ghost use mathlib.Core.Path.{_≡_};
 ghost use Rattle.rules.specs.Sheet.{readOf};
+ghost use Rattle.load_check.specs.Sheets.{SheetVerdict};
 ghost use Rattle.exports.specs.Codes.{halves, answerNumber, readCode, kindOf, lengthOf, verdictCode, VerdictOfSheet, runCode};
 use rules::ReadAnswer;
+use rules::Set;
 use rules::Verdict;
 
 // Two numbers in one, each by its lowest 32 bits.
@@ -68,6 +70,28 @@ pub extern "C" fn sheet_verdict(bytes: &[u8]) -> u64
     let a = r.answer;
     let set = r.set;
     let v = load_check::sheet_verdict(a, set);
+    in_halves(kind_of(v), length_of(v))
+}
+
+// The verdict of what a sheet reads as, by calls that test n lengths each.
+fn verdict_in_calls(a: ReadAnswer, set: Set, n: u32) -> Verdict
+    ensures { λ r. ⌜ SheetVerdict a set r ⌝ }
+{
+    match a {
+        ReadAnswer::Read => load_resume::in_calls(set, n),
+        ReadAnswer::Refused(why) => Verdict::Refused(why),
+    }
+}
+
+// The same number as `sheet_verdict`, by calls that test n lengths each.
+#[no_mangle]
+pub extern "C" fn sheet_in_calls(bytes: &[u8], n: u32) -> u64
+    ensures { λ r. ⌜ VerdictOfSheet (readOf (now (bytes .entry))) r ⌝ }
+{
+    let r = sheet_read::read(bytes);
+    let a = r.answer;
+    let set = r.set;
+    let v = verdict_in_calls(a, set, n);
     in_halves(kind_of(v), length_of(v))
 }
 

@@ -1,39 +1,18 @@
--- Lengths that are tested in order, and ranges that are joined.
+-- Lengths that are tested in order.
 -- Assumes nothing.
-use Prim.Native.Nat.{ℕ, _+_, _≤_, _<_}
-use native.Mathlib.Decide.{decLt}
+use Prim.Native.Nat.{ℕ, _≤_, _<_}
 use native.Mathlib.Omega.{arith}
-use mathlib.Core.Path.{_≡_, subst, sym, _∙_}
+use mathlib.Core.Path.{_≡_, subst, _∙_}
 use mathlib.Core.List.{List}
 use Rattle.rules.specs.declared.Stream.{Stream}
-use Rattle.rules.specs.declared.Verdict.the-variants.{Accept, Late}
-use Rattle.rules.specs.Load.{demand, JudgedByH, lastLength, Opens}
-use Rattle.rules.proofs.Judge.{Fits, fits-one, accepts, is-late}
+use Rattle.rules.specs.Load.{demand, NoneLate, FirstLate}
 use Rattle.load_check.specs.declared.Rows.{Rows}
 use Rattle.load_check.specs.declared.Tested.{Tested}
 use Rattle.load_check.specs.declared.Tested.the-variants.{Clear, Late as FoundLate}
 use Rattle.load_check.specs.Dues.{RowsOf}
 use Rattle.load_check.specs.Blocked.{blockingsOf, NextDeadline}
-use Rattle.load_check.specs.Lengths.{NoneLate, FirstLate, TestedBy, rowsWith, Spanned, Ranged}
+use Rattle.load_check.specs.Lengths.{TestedBy, rowsWith, Spanned, Ranged}
 use Rattle.load_check.proofs.Steady.{same-demand}
-
-module _ (f : ℕ → ℕ) (a : ℕ) where
-  pub none-yet : NoneLate f a a
-  none-yet j p q = absurd (omega arith)
-
-  pub none-more : (i : ℕ) → NoneLate f a i → f i ≤ i → NoneLate f a (i + 1)
-  none-more i n p j x y =
-      elim (decLt j i) [ yes z ↦ n j x z | no g ↦ subst (λ (k : ℕ). f k ≤ k) (same g) p ]
-    where
-      same : ¬ (j < i) → i ≡ j
-      same g = omega arith
-
-  pub none-join : (i e : ℕ) → NoneLate f a i → NoneLate f i e → NoneLate f a e
-  none-join i e n m j x y = elim (decLt j i) [ yes z ↦ n j x z | no g ↦ m j (omega arith) y ]
-
-  pub late-join : {i e e′ k w : ℕ} → NoneLate f a i → FirstLate f i e k w → a ≤ i → e ≤ e′ → FirstLate f a e′ k w
-  late-join {i} {e} {e′} {k} {w} n l p q =
-      record { from = omega (arith, l .from); before = omega (arith, l .before); that = l .that; above = l .above; first = none-join i k n (l .first) }
 
 -- the length i is late, with nothing late before it
 pub late-at : (f : ℕ → ℕ) (a e i w : ℕ) → w ≡ f i → a ≤ i → i < e → i < w → NoneLate f a i → FirstLate f a e i w
@@ -57,17 +36,3 @@ pub span-range : {ss : List Stream} {t : Rows} {b i e stop : ℕ} {f : Tested} (
 span-range {ss} {t} {b} {i} {e} {stop} r rows n eb s q h =
     tested-same (rowsWith t b) (demand ss) i stop (λ j p q. same-demand i j stop p q ss t b (n .apart) rows eb (omega (arith, n .near))) r
     (subst (Spanned t b i stop) q s)
-
--- ---- from the lengths to the verdict
-
-pub range-accepts : (ss : List Stream) (h e : ℕ) → Opens ss h → e ≡ lastLength ss h + 1 → Ranged ss 1 e Clear → JudgedByH ss Accept
-range-accepts ss h e o q n = accepts ss h o fits
-  where
-    fits : Fits ss (lastLength ss h + 1)
-    fits j p = elim (decLt j 1) [ yes z ↦ fits-one ss (o .streams) j z | no g ↦ n j (omega arith) (omega arith) ]
-
-pub range-late : (ss : List Stream) (h e i w : ℕ) → Opens ss h → Ranged ss 1 e (FoundLate i w) → JudgedByH ss (Late i w)
-range-late ss h e i w o l = subst (λ (v : ℕ). JudgedByH ss (Late i v)) (sym (l .that)) (is-late ss h o i fits (l .above))
-  where
-    fits : Fits ss i
-    fits j p = elim (decLt j 1) [ yes z ↦ fits-one ss (o .streams) j z | no g ↦ l .first j (omega arith) p ]

@@ -19,7 +19,7 @@ use Rattle.rules.specs.Streams.{streamsOf, valid}
 use Rattle.rules.specs.Load.{has, urgent, blocks, blocking, demand, demandOf}
 use Rattle.load_check.specs.declared.Rows.{Rows}
 use Rattle.load_check.specs.Dues.{rowsDue, RowsOf}
-use Rattle.load_check.specs.Blocked.{blockingsOf, Apart, ApartFrom, Nearer}
+use Rattle.load_check.specs.Blocked.{blockingsOf, blockingOf, Apart, ApartFrom, Nearer}
 use Rattle.load_check.specs.Lengths.{rowsWith}
 
 -- ---- looking for the next deadline
@@ -82,3 +82,13 @@ demand-is x t i a b ok rows h p q = rw ok (ap Number (omega (arith, rows .say i 
 pub demand-refused : (x : Set) (i : ℕ) → valid x ≡ false → Refused OutOfRule ≡ demandOf x i
 unfolding demandOf
 demand-refused x i bad = rw bad
+
+-- ---- the blocking of a task as an answer
+
+pub blocking-is : (x : Set) (i t : ℕ) {n : ℕ} → valid x ≡ true → n ≡ blocking (streamsOf x) i t → Number n ≡ blockingOf x i t
+unfolding blockingOf
+blocking-is x i t ok e = rw ok (ap Number e)
+
+pub blocking-refused : (x : Set) (i t : ℕ) → valid x ≡ false → Refused OutOfRule ≡ blockingOf x i t
+unfolding blockingOf
+blocking-refused x i t bad = rw bad

@@ -78,7 +78,7 @@ fn blocks_of(s: Stream, i: u32, t: usize) -> u32
 
 // ---- the streams of a set
 
-fn task_blocking(x: Set, i: u32, t: usize) -> u32
+pub(crate) fn task_blocking(x: Set, i: u32, t: usize) -> u32
     requires { ⌜ ValidSet x ⌝ }
     ensures { λ r. ⌜ r ≡ blocking (streamsOf x) i t ⌝ }
 {

@@ -6,6 +6,8 @@ mod lengths; // lengths.rt: the testing of a range of lengths
 ghost use mathlib.Core.Path.{_≡_};
 ghost use Prim.Native.Nat.{max};
 ghost use Rattle.rules.specs.Load.{demandOf, VerdictOf};
+ghost use Rattle.load_check.specs.Blocked.{blockingOf};
+ghost use Rattle.load_check.specs.Lengths.{FoundOf};
 ghost use Rattle.load_check.specs.Sheets.{SheetVerdict};
 use load_cycles::Opening;
 use rules::CountAnswer;
@@ -26,6 +28,13 @@ pub(crate) struct Rows {
 pub(crate) enum Tested {
     Clear,
     Late(u64, u64),
+}
+
+// What is found of lengths of a set: no late one, or the first late one and its demand; 7 for an invalid set.
+pub enum Found {
+    Clear,
+    Late(u64, u64),
+    Refused(Refusal),
 }
 
 fn wide(n: u32) -> u64
@@ -49,6 +58,32 @@ pub fn demand(x: Set, i: u32) -> CountAnswer
         CountAnswer::Number(dues::rows_due(t, i) + blocked::blockings(x, i))
     } else {
         CountAnswer::Refused(Refusal::OutOfRule)
+    }
+}
+
+// The blocking of a task at a length, 7 for an invalid set.
+pub fn blocking_of(x: Set, i: u32, t: usize) -> CountAnswer
+    ensures { λ r. ⌜ r ≡ blockingOf x i t ⌝ }
+{
+    if stream_valid::is_valid(x) {
+        CountAnswer::Number(wide(blocked::task_blocking(x, i, t)))
+    } else {
+        CountAnswer::Refused(Refusal::OutOfRule)
+    }
+}
+
+// The lengths of a set from `from` up to `end`, which is not tested, in order.
+pub fn test_lengths(x: Set, from: u32, end: u32) -> Found
+    ensures { λ r. ⌜ FoundOf x from end r ⌝ }
+{
+    if stream_valid::is_valid(x) {
+        let found = lengths::test_range(x, from, end);
+        match found {
+            Tested::Clear => Found::Clear,
+            Tested::Late(i, w) => Found::Late(i, w),
+        }
+    } else {
+        Found::Refused(Refusal::OutOfRule)
     }
 }
 

@@ -5,24 +5,24 @@ use native.Mathlib.Nat.{one-dvd}
 use native.Mathlib.Omega.{arith}
 use mathlib.Core.Path.{_≡_, refl, ap, subst}
 use mathlib.Core.Bool.{true, false}
-use mathlib.Core.List.{List}
-use Rattle.rules.specs.declared.Stream.{Stream}
 use Rattle.rules.specs.declared.Set.{Set}
 use Rattle.rules.specs.declared.Refusal.the-variants.{OutOfRule, LongCycles}
 use Rattle.rules.specs.declared.Verdict.{Verdict}
-use Rattle.rules.specs.declared.Verdict.the-variants.{Accept, Late, Overload, Refused}
+use Rattle.rules.specs.declared.Verdict.the-variants.{Overload, Refused}
 use Rattle.rules.specs.Streams.{streamsOf, valid}
-use Rattle.rules.specs.Load.{load, JudgedByH, VerdictOf, greatestDeadline, greatestOffset, lastLength, Opens}
+use Rattle.rules.specs.Load.{load, JudgedByH, VerdictOf, greatestDeadline, greatestOffset, lastLength}
 use Rattle.rules.proofs.Valid.{valid-set}
 use Rattle.rules.proofs.Cycles.{least-is-h}
 use Rattle.rules.proofs.Judge.{overloads, too-long}
-use Rattle.rules.proofs.Verdicts.{h-unique, verdict-unique}
+use Rattle.rules.proofs.Verdicts.{verdict-unique}
+use Rattle.rules.proofs.Resumed.{lengths-unique, not-stopped}
+use Rattle.rules.specs.Resumed.{Early, StopsWith}
 use Rattle.load_cycles.specs.declared.Joined.{Joined}
 use Rattle.load_cycles.specs.declared.Joined.the-variants.{Is, Above}
 use Rattle.load_cycles.specs.declared.Opening.{Opening}
 use Rattle.load_cycles.specs.declared.Opening.the-variants.{Stops, Until}
 use Rattle.load_cycles.specs.Cycles.{CommonOf, JoinedBy}
-use Rattle.load_cycles.specs.Openings.{Early, StopsWith, GoesOn, OpeningOf}
+use Rattle.load_cycles.specs.Openings.{UpTo, OpeningOf}
 
 pub verdict-refused : (x : Set) → valid x ≡ false → StopsWith x (Refused OutOfRule)
 unfolding VerdictOf
@@ -54,39 +54,28 @@ verdict-overload x {h = h} ok j e f g heavy =
     (overloads (streamsOf x) h (least-is-h (streamsOf x) h (joined-h x j e .0)) (joined-short x j e) (omega arith))
 
 pub goes-on : (x : Set) {r : Joined} {h k w d o e : ℕ} → valid x ≡ true → JoinedBy 1 (CommonOf (streamsOf x)) r → r ≡ Is h → k ≡ h → w ≡ load (streamsOf x) h
-    → d ≡ greatestDeadline (streamsOf x) → o ≡ greatestOffset (streamsOf x) → e ≡ h + d + o + 1 → w ≤ k → GoesOn x e
+    → d ≡ greatestDeadline (streamsOf x) → o ≡ greatestOffset (streamsOf x) → e ≡ h + d + o + 1 → w ≤ k → UpTo x e
 unfolding lastLength
 goes-on x {h = h} ok j i f g p q r light =
     record {
-      ok = ok;
-      h = h;
-      opens = record { streams = valid-set x ok .streams; is-h = least-is-h (streamsOf x) h (joined-h x j i .0); short = joined-short x j i; light = omega arith };
+      last = lastLength (streamsOf x) h;
+      lengths = record {
+        ok = ok;
+        h = h;
+        opens = record { streams = valid-set x ok .streams; is-h = least-is-h (streamsOf x) h (joined-h x j i .0); short = joined-short x j i; light = omega arith };
+        last = refl;
+      };
       end = omega arith;
     }
 
 -- ---- one opening
 
--- a check that goes on is not stopped
-apart : (ss : List Stream) (h : ℕ) (v : Verdict) → Opens ss h → Early v → JudgedByH ss v → ⊥
-apart ss h Accept o early j = early
-apart ss h (Late i w) o early j = early
-apart ss h Overload o early j =
-    let same : j .h ≡ h = h-unique ss (j .h) h (j .is-h) (o .is-h) in
-    omega (arith, same, ap (load ss) same, j .judged .heavy, o .light)
-apart ss h (Refused why) o early j = omega (arith, h-unique ss (j .h) h (j .is-h) (o .is-h), j .judged .long, o .short)
-
-not-both : (x : Set) (v : Verdict) (e : ℕ) → StopsWith x v → GoesOn x e → ⊥
-unfolding VerdictOf
-not-both x v e s g = apart (streamsOf x) (g .h) v (g .opens) (s .early) (rw (g .ok) at (s .verdict))
-
-same-end : (x : Set) (e f : ℕ) → GoesOn x e → GoesOn x f → e ≡ f
-same-end x e f a b =
-    let same : a .h ≡ b .h = h-unique (streamsOf x) (a .h) (b .h) (a .opens .is-h) (b .opens .is-h) in
-    omega (arith, a .end, b .end, ap (lastLength (streamsOf x)) same)
+same-end : (x : Set) (e f : ℕ) → UpTo x e → UpTo x f → e ≡ f
+same-end x e f a b = omega (arith, a .end, b .end, lengths-unique x (a .last) (b .last) (a .lengths) (b .lengths))
 
 -- two openings allowed for one set are the same
 pub opening-unique : (x : Set) (a b : Opening) → OpeningOf x a → OpeningOf x b → a ≡ b
 opening-unique x (Stops v) (Stops w) p q = ap Stops (verdict-unique x v w (p .verdict) (q .verdict))
-opening-unique x (Stops v) (Until f) p q = absurd (not-both x v f p q)
-opening-unique x (Until e) (Stops w) p q = absurd (not-both x w e q p)
+opening-unique x (Stops v) (Until f) p q = absurd (not-stopped x v (q .last) p (q .lengths))
+opening-unique x (Until e) (Stops w) p q = absurd (not-stopped x w (p .last) q (p .lengths))
 opening-unique x (Until e) (Until f) p q = ap Until (same-end x e f p q)

@@ -14,3 +14,5 @@ pub mod Runs
 pub mod Refusals
 pub mod Ways
 pub mod Recordings
+pub mod Resumed
+pub mod Called

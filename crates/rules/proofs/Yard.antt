@@ -32,19 +32,19 @@ abbrev cyclic : ℕ → ℕ → ℕ → ℕ → Stream
 cyclic k c d z = stream k c d (each z)
 
 -- W3 to W6: (c 2, d 5, every 10) on task 0, and (c, d 20, every 20) on a task
-abbrev pair : ℕ → ℕ → Set
+abbrev pub pair : ℕ → ℕ → Set
 pair k c = setOf 1 (cyclic 0 2 5 10 ∷ cyclic k c 20 20 ∷ [])
 
-abbrev unitEach : Set
+abbrev pub unitEach : Set
 unitEach = setOf 1 (cyclic 0 1 1 1 ∷ [])
 
-abbrev unitTwice : Set
+abbrev pub unitTwice : Set
 unitTwice = setOf 1 (cyclic 0 1 1 1 ∷ cyclic 1 1 1 1 ∷ [])
 
 abbrev onceTwice : Set
 onceTwice = setOf 1 (stream 0 3 3 (Once 0) ∷ stream 1 3 3 (Once 0) ∷ [])
 
-abbrev longCycles : Set
+abbrev pub longCycles : Set
 longCycles = setOf 1 (cyclic 0 1 1 999999 ∷ cyclic 1 1 1 1000000 ∷ [])
 
 abbrev taskThree : Set

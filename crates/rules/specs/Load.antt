@@ -124,6 +124,18 @@ greatestOffset ss = top streamOffset ss
 unfoldable pub lastLength : List Stream → ℕ → ℕ
 lastLength ss h = h + greatestDeadline ss + greatestOffset ss
 
+-- testing a range of lengths, with the demand f at each: no length from a up to e, e not among them, is late
+abbrev pub NoneLate : (ℕ → ℕ) → ℕ → ℕ → Type 0
+NoneLate f a e = (j : ℕ) → a ≤ j → j < e → f j ≤ j
+
+-- i is the first late one of them, and w its demand
+pub record FirstLate (f : ℕ → ℕ) (a e i w : ℕ) : Type 0 where
+  pub from : a ≤ i
+  pub before : i < e
+  pub that : w ≡ f i
+  pub above : i < f i
+  pub first : NoneLate f a i
+
 -- ---- the verdict
 
 -- "8 exactly if H is above 1,000,000"

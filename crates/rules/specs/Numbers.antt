@@ -29,6 +29,11 @@ use Rattle.rules.specs.declared.RecordAnswer.{RecordAnswer}
 use Rattle.rules.specs.declared.RecordAnswer.the-variants.{Recorded, Refused as RecordRefused}
 use Rattle.rules.specs.declared.WriteAnswer.{WriteAnswer}
 use Rattle.rules.specs.declared.WriteAnswer.the-variants.{Wrote, Refused as WriteRefused}
+use Rattle.rules.specs.declared.OpenAnswer.{OpenAnswer}
+use Rattle.rules.specs.declared.OpenAnswer.the-variants.{Opened, Stops}
+use Rattle.rules.specs.declared.GoAnswer.{GoAnswer}
+use Rattle.rules.specs.declared.GoAnswer.the-variants.{Next, Falls, Refused as GoRefused}
+use Rattle.rules.specs.declared.GoResult.{GoResult}
 
 -- "No | Given exactly when"; document 02, request 1: 13 and 14
 abbrev pub number : Refusal → ℕ
@@ -69,6 +74,10 @@ pub data Says : Type 0 where
   wrote : (bytes : ℕ) → Says
   ended : Says
   recorded : (bytes : ℕ) → Says
+  opened : Says
+  tested : (lengths next : ℕ) → Says
+  tested-accept : (lengths : ℕ) → Says
+  tested-late : (lengths length demand : ℕ) → Says
 
 abbrev pub startSays : StartAnswer → Says
 startSays Started = started
@@ -130,3 +139,24 @@ replaySays (ReplayRefused why) = refused (number why)
 abbrev pub recordSays : RecordAnswer → Says
 recordSays (Recorded n) = recorded n
 recordSays (RecordRefused why) = refused (number why)
+
+-- "7, 8 and overload are answered at the opening"
+abbrev pub openSays : OpenAnswer → Says
+openSays Opened = opened
+openSays (Stops v) = verdictSays v
+
+-- "the count of lengths tested stands in the answer", with the verdict; overload and a refusal never fall behind a length
+abbrev pub fallSays : ℕ → Verdict → Says
+fallSays k Accept = tested-accept k
+fallSays k (Late i w) = tested-late k i w
+fallSays k Overload = overload
+fallSays k (VerdictRefused why) = refused (number why)
+
+-- with the next length, which the position has, or with the verdict; 12
+abbrev pub goAnswerSays : GoAnswer → (next : ℕ) → Says
+goAnswerSays (Next k) i = tested k i
+goAnswerSays (Falls k v) i = fallSays k v
+goAnswerSays (GoRefused why) i = refused (number why)
+
+abbrev pub goSays : GoResult → Says
+goSays r = goAnswerSays (r .answer) (r .position .next)

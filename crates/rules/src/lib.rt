@@ -214,3 +214,35 @@ pub enum RecordAnswer {
     Recorded(usize),
     Refused(Refusal),
 }
+
+// Where a check in calls stands: its set, and the next length to test.
+pub struct Position {
+    pub set: Set,
+    pub next: u32,
+}
+
+// How a check in calls begins: with a position, or it stops with a verdict before any length.
+pub enum OpenAnswer {
+    Opened,
+    Stops(Verdict),
+}
+
+// With a verdict there is no position; the empty set at length 0 stands in its place.
+pub struct OpenResult {
+    pub answer: OpenAnswer,
+    pub position: Position,
+}
+
+// What a call of a check answers: how many lengths it tested, with a next position or with the verdict; or why it tested none.
+pub enum GoAnswer {
+    // lengths tested
+    Next(u32),
+    // lengths tested, the verdict
+    Falls(u32, Verdict),
+    Refused(Refusal),
+}
+
+pub struct GoResult {
+    pub answer: GoAnswer,
+    pub position: Position,
+}

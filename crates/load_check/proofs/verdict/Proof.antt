@@ -4,7 +4,8 @@ use borrow.Author.Needs.{needs}
 use Prim.Native.Nat.{_-_}
 use mathlib.Core.Path.{subst}
 use Rattle.rules.proofs.Valid.{valid-set}
-use Rattle.load_cycles.specs.Openings.{StopsWith, OpeningOf, GoesOn}
+use Rattle.rules.specs.Resumed.{StopsWith}
+use Rattle.load_cycles.specs.Openings.{UpTo, OpeningOf}
 use Rattle.load_check.proofs.Settle.{verdict-clear, verdict-late}
 use Rattle.load_check.proofs.verdict.Statement.{statement}
 use Rattle.load_check.proofs.verdict.Tie as tie
@@ -20,8 +21,8 @@ enum-known-begun-2 c = search needs
 
 test-range-requires : tie.Need-test-range-requires
 test-range-requires c κs =
-    let g : GoesOn (c .before .before .before .before .args .x) (c .before .begun2 .given .0 .0) = subst (OpeningOf (c .before .before .before .before .args .x)) (c .before .begun2 .given .1) (c .before .before .before .begin .ensures) in
-    valid-set (c .before .before .before .before .args .x) (g .ok)
+    let g : UpTo (c .before .before .before .before .args .x) (c .before .begun2 .given .0 .0) = subst (OpeningOf (c .before .before .before .before .args .x)) (c .before .begun2 .given .1) (c .before .before .before .begin .ensures) in
+    valid-set (c .before .before .before .before .args .x) (g .lengths .ok)
 
 enum-told : tie.Need-enum-told
 enum-told c = search needs

@@ -4,12 +4,12 @@ use borrow.Author.Needs.{needs}
 use Prim.Native.Nat.{ℕ, _+_, _-_, _*_, _/_, _≤_, _<_, max}
 use mathlib.Core.Path.{_≡_, refl, ap, ap₂, subst, sym, _∙_}
 use Rattle.rules.specs.Streams.{streamsOf}
-use Rattle.rules.specs.Load.{demand}
+use Rattle.rules.specs.Load.{demand, NoneLate}
 use Rattle.load_check.specs.declared.Tested.{Tested}
 use Rattle.load_check.specs.declared.Tested.the-variants.{Clear, Late}
-use Rattle.load_check.specs.Lengths.{NoneLate, Spanned}
 use Rattle.load_check.proofs.Bounds.{blockings-fit}
-use Rattle.load_check.proofs.Ranges.{none-yet, none-join, late-join, span-range}
+use Rattle.rules.proofs.Resumed.{none-yet, none-join, late-join}
+use Rattle.load_check.proofs.Ranges.{span-range}
 use Rattle.load_check.proofs.lengths.test_range.Statement.{statement}
 use Rattle.load_check.proofs.lengths.test_range.Tie as tie
 

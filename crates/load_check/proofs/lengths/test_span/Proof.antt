@@ -4,9 +4,11 @@ use borrow.Author.Needs.{needs}
 use Prim.Native.Nat.{ℕ, _+_, _-_, _≤_}
 use mathlib.Core.Path.{ap}
 use Rattle.load_check.specs.Dues.{duesBelow, rowsDue}
-use Rattle.load_check.specs.Lengths.{NoneLate, rowsWith}
+use Rattle.rules.specs.Load.{NoneLate}
+use Rattle.load_check.specs.Lengths.{rowsWith}
 use Rattle.load_check.proofs.Bounds.{dues-fit}
-use Rattle.load_check.proofs.Ranges.{none-yet, none-more, late-at}
+use Rattle.rules.proofs.Resumed.{none-yet, none-more}
+use Rattle.load_check.proofs.Ranges.{late-at}
 use Rattle.load_check.proofs.lengths.test_span.Statement.{statement}
 use Rattle.load_check.proofs.lengths.test_span.Tie as tie
 

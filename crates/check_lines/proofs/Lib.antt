@@ -1,0 +1,2 @@
+-- Laws that the functions' proofs cite, and whose lines are printed. Assumes nothing.
+pub mod Shown

@@ -1,0 +1,4 @@
+// Checks the set in set.bin.
+fn main() {
+    check_io::run();
+}

@@ -1,0 +1,2 @@
+-- One outcome of a command. Assumes nothing.
+pub mod Once

@@ -1,0 +1,56 @@
+-- `load_resume::call_by_call` meets its contract: the check is under way until the verdict falls, and the lengths that are left fall. Assumes nothing.
+use Prim.Native.Nat.{_-_}
+use Rattle.rules.specs.Resumed.{Underway}
+use Rattle.load_resume.proofs.Gone.{on-next, on-less, on-falls, on-goes}
+use borrow.Author.Needs.{needs}
+use Rattle.load_resume.proofs.call_by_call.Statement.{statement}
+use Rattle.load_resume.proofs.call_by_call.Tie as tie
+
+abbrev Inv-loop : tie.InvT-loop
+Inv-loop n p₀ p = Underway (p₀ .set) p
+
+abbrev μ-loop : tie.MeasureT-loop
+μ-loop n p₀ p = 1300000 - p .next
+
+loop-holds : tie.Need-loop-holds Inv-loop μ-loop
+loop-holds c = c .pre .0
+
+go-requires : tie.Need-go-requires Inv-loop μ-loop
+go-requires c κs = search needs
+
+enum-told : tie.Need-enum-told Inv-loop μ-loop
+enum-told c = search needs
+
+loop-less : tie.Need-loop-less Inv-loop μ-loop
+loop-less c = on-less (c .before .before .before .before .before .args .begun .set) (c .before .before .before .before .loop .p) (c .before .before .before .before .before .args .n) (c .before .before .before .go .result) (c .before .before .before .before .loop .inv) (c .before .before .before .go .ensures) (c .before .enum-told .given .1) (c .before .before .before .before .before .pre .1)
+
+loop-again : tie.Need-loop-again Inv-loop μ-loop
+loop-again c = on-next (c .before .before .before .before .before .args .begun .set) (c .before .before .before .before .loop .p) (c .before .before .before .before .before .args .n) (c .before .before .before .go .result) (c .before .before .before .before .loop .inv) (c .before .before .before .go .ensures) (c .before .enum-told .given .1)
+
+enum-known-a : tie.Need-enum-known-a Inv-loop μ-loop
+enum-known-a c = search needs
+
+returns : tie.Need-returns Inv-loop μ-loop
+returns c = on-falls (c .before .before .before .before .before .args .begun .set) (c .before .before .before .before .loop .p) (c .before .before .before .before .before .args .n) (c .before .before .before .go .result) (c .before .before .before .before .loop .inv) (c .before .before .before .go .ensures) (c .before .a .given .1)
+
+enum-known-a-2 : tie.Need-enum-known-a-2 Inv-loop μ-loop
+enum-known-a-2 c = search needs
+
+returns-2 : tie.Need-returns-2 Inv-loop μ-loop
+returns-2 c = absurd (on-goes (c .before .before .before .before .before .args .begun .set) (c .before .before .before .before .loop .p) (c .before .before .before .before .before .args .n) (c .before .before .before .go .result) (c .before .before .before .before .loop .inv) (c .before .before .before .go .ensures) (c .before .a2 .given .1))
+
+pub call-by-call-spec : {M : Type 1} → statement M
+call-by-call-spec =
+    tie.close
+    (tie.spec
+    Inv-loop
+    μ-loop
+    loop-holds
+    go-requires
+    enum-told
+    loop-less
+    loop-again
+    enum-known-a
+    returns
+    enum-known-a-2
+    returns-2)
