@@ -7,3 +7,4 @@ pub mod Sheet
 pub mod Numbers
 pub mod Runs
 pub mod Recordings
+pub mod Pieces

@@ -1,9 +1,9 @@
 // What the sheet reads as when no bit comes any more.
 ghost use mathlib.Core.Path.{_≡_};
-ghost use Rattle.sheet_read.specs.Table.{answerOf};
-ghost use Rattle.sheet_read.specs.Reader.{closeOf};
-ghost use Rattle.sheet_read.specs.Kept.{Kept};
-use crate::Carried;
+ghost use Rattle.sheet_carried.specs.Table.{answerOf};
+ghost use Rattle.sheet_carried.specs.Reader.{closeOf};
+ghost use Rattle.sheet_carried.specs.Kept.{Kept};
+use sheet_carried::Carried;
 use crate::feeding;
 use crate::table;
 use rules::ReadAnswer;

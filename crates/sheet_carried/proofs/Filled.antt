@@ -8,7 +8,7 @@ use native.Mathlib.Omega.{arith}
 use native.Mathlib.Numerals.{add-one}
 use lib.ListN.{length, take, drop, set, replicate, length-append, length-replicate, replicate-append-replicate}
 use lib.Seq.{drop-append-seam, take-suc-set, set-at, append-snoc, length-take-le}
-use Rattle.sheet_read.specs.Kept.{Holds}
+use Rattle.sheet_carried.specs.Kept.{Holds}
 
 -- a case of a test
 pub cond-elim : {A : Type 0} (P : A → Type 0) (b : Bool) (x y : A) → (b ≡ true → P x) → (b ≡ false → P y) → P (cond b x y)

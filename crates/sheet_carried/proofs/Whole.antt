@@ -23,7 +23,7 @@ use Rattle.rules.specs.declared.Set.{Set}
 use Rattle.rules.specs.Streams.{FourPlaces, Placed, isOnceAtZero, noStage, noStream, noTuple, oneStage, stageUnused, stagesOf, streamUnused, streamsOf, tupleUnused, tuplesOf, versionOk}
 use Rattle.rules.specs.Sheet.{setOf, streamOf}
 use Rattle.rules.specs.Valid.{ValidSet, ValidStream}
-use Rattle.sheet_read.specs.Kept.{Holds}
+use Rattle.sheet_carried.specs.Kept.{Holds}
 
 -- the places behind those in use hold nothing
 holds-of : {A : Type 0} (N n : ℕ) (none : A) (l : List A) → length l ≡ N → n ≤ N → drop n l ≡ replicate (length (drop n l)) none → Holds N none n l

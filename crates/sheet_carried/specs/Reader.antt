@@ -15,10 +15,10 @@ use Rattle.rules.specs.declared.ReadAnswer.{ReadAnswer}
 use Rattle.rules.specs.declared.ReadAnswer.the-variants.{Read, Refused}
 use Rattle.rules.specs.Streams.{emptySet, noStage, noTuple}
 use Rattle.rules.specs.Sheet.{noSet, tupleOf}
-use Rattle.sheet_read.specs.declared.SheetField.{SheetField}
-use Rattle.sheet_read.specs.declared.Point.{Point}
-use Rattle.sheet_read.specs.declared.Carried.{Carried}
-use Rattle.sheet_read.specs.Table.{answerOf, atCost, atCount, atCycle, atDeadline, atOffset, atStages, atTask, atTuples, atVersion, behindOf, followingOf, greatestOf, inRuleOf, leastOf, openedOf, refusalOf, row, widthOf}
+use Rattle.sheet_carried.specs.declared.SheetField.{SheetField}
+use Rattle.sheet_carried.specs.declared.Point.{Point}
+use Rattle.sheet_carried.specs.declared.Carried.{Carried}
+use Rattle.sheet_carried.specs.Table.{answerOf, atCost, atCount, atCycle, atDeadline, atOffset, atStages, atTask, atTuples, atVersion, behindOf, followingOf, greatestOf, inRuleOf, leastOf, openedOf, refusalOf, row, widthOf}
 
 -- ---- states
 

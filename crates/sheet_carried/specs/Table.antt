@@ -10,7 +10,7 @@ use Rattle.rules.specs.declared.Refusal.{Refusal}
 use Rattle.rules.specs.declared.Refusal.the-variants.{BitsMissing, BadVersion, OutOfRule, Leftover}
 use Rattle.rules.specs.declared.ReadAnswer.{ReadAnswer}
 use Rattle.rules.specs.declared.ReadAnswer.the-variants.{Read, Refused}
-use Rattle.sheet_read.specs.declared.SheetField.{SheetField}
+use Rattle.sheet_carried.specs.declared.SheetField.{SheetField}
 
 -- ---- rows
 

@@ -10,9 +10,9 @@ use Rattle.rules.specs.declared.Stage.{Stage}
 use Rattle.rules.specs.declared.TuplePlace.{TuplePlace}
 use Rattle.rules.specs.declared.Set.{Set}
 use Rattle.rules.specs.Streams.{noStage, noStream, noTuple}
-use Rattle.sheet_read.specs.declared.Carried.{Carried}
-use Rattle.sheet_read.specs.Table.{atCount, atDeadline, atOffset, atPadding, atStages, atTuples, atVersion, rows, widthOf}
-use Rattle.sheet_read.specs.Reader.{valueAt}
+use Rattle.sheet_carried.specs.declared.Carried.{Carried}
+use Rattle.sheet_carried.specs.Table.{atCount, atDeadline, atOffset, atPadding, atStages, atTuples, atVersion, rows, widthOf}
+use Rattle.sheet_carried.specs.Reader.{valueAt}
 
 -- of N places the first n are in use, and the others unused
 pub record Holds {A : Type 0} (N : ℕ) (none : A) (n : ℕ) (l : List A) : Type 0 where

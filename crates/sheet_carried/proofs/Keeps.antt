@@ -19,12 +19,12 @@ use Rattle.rules.specs.declared.TuplePlace.{TuplePlace}
 use Rattle.rules.specs.declared.Set.{Set}
 use Rattle.rules.specs.Streams.{emptySet, noStage, noStream, noTuple}
 use Rattle.rules.specs.Sheet.{tupleOf}
-use Rattle.sheet_read.specs.declared.Carried.{Carried}
-use Rattle.sheet_read.specs.Table.{behindOf, followingOf, greatestOf, inRuleOf, firstOrder, openedOf, orderOf, refusalOf, rowOf, secondOrder, widthOf}
-use Rattle.sheet_read.specs.Reader.{begun, behindCost, behindOffset, behindVersion, frontOf, goesOn, lastStage, nextField, nextOf, nextStage, nextStream, nextTuple, noStages, noTuples, noValues, placedIn, reading, refusedOf, run, stageIn, startOf, stepBy, stepOf, streamIn, tupled, valueAt, withStream, withVersion}
-use Rattle.sheet_read.specs.Kept.{Holds, Kept, KeptAt, mostWhole, stagesWhole, tuplesWhole}
-use Rattle.sheet_read.proofs.Filled.{cond-elim, holds-more, holds-none}
-use Rattle.sheet_read.proofs.Rows.{behind-padding, by-value-row, by-values, refusal-row, row-some, rule-high, same-order}
+use Rattle.sheet_carried.specs.declared.Carried.{Carried}
+use Rattle.sheet_carried.specs.Table.{behindOf, followingOf, greatestOf, inRuleOf, firstOrder, openedOf, orderOf, refusalOf, rowOf, secondOrder, widthOf}
+use Rattle.sheet_carried.specs.Reader.{begun, behindCost, behindOffset, behindVersion, frontOf, goesOn, lastStage, nextField, nextOf, nextStage, nextStream, nextTuple, noStages, noTuples, noValues, placedIn, reading, refusedOf, run, stageIn, startOf, stepBy, stepOf, streamIn, tupled, valueAt, withStream, withVersion}
+use Rattle.sheet_carried.specs.Kept.{Holds, Kept, KeptAt, mostWhole, stagesWhole, tuplesWhole}
+use Rattle.sheet_carried.proofs.Filled.{cond-elim, holds-more, holds-none}
+use Rattle.sheet_carried.proofs.Rows.{behind-padding, by-value-row, by-values, refusal-row, row-some, rule-high, same-order}
 
 pub kept-begun : (f n : ℕ) (vs : List ℕ) (gs : List Stage) (ts : List TuplePlace) (x : Set) → KeptAt f n vs gs ts x → Kept (begun f n vs gs ts x)
 kept-begun f n vs gs ts x k = record { at = k; some = λ h. h; left = omega arith; came = pow-pos (widthOf f - widthOf f) }

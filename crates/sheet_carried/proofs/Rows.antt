@@ -11,11 +11,11 @@ use lib.Dec.{eqb, leb, ltb}
 use borrow.Author.Tests.{eq-eqb, eqb-false, eqb-true, le-leb, lt-leb, leb-true, ltb-false, ltb-true, ne-eqb}
 use Rattle.laws.specs.Lists.{All, all, within}
 use Rattle.laws.proofs.Sums.{and-no, and-parts, by-test}
-use Rattle.sheet_read.specs.declared.SheetField.{SheetField}
-use Rattle.sheet_read.specs.declared.Point.{Point}
-use Rattle.sheet_read.specs.Table.{behindOf, firstOrder, greatestOf, inRuleOf, leastOf, orderOf, refusalOf, row, rowOf, secondOrder, sheetFields, widthOf}
-use Rattle.sheet_read.specs.Reader.{ruleOf, valueAt}
-use Rattle.sheet_read.proofs.Filled.{cond-elim}
+use Rattle.sheet_carried.specs.declared.SheetField.{SheetField}
+use Rattle.sheet_carried.specs.declared.Point.{Point}
+use Rattle.sheet_carried.specs.Table.{behindOf, firstOrder, greatestOf, inRuleOf, leastOf, orderOf, refusalOf, row, rowOf, secondOrder, sheetFields, widthOf}
+use Rattle.sheet_carried.specs.Reader.{ruleOf, valueAt}
+use Rattle.sheet_carried.proofs.Filled.{cond-elim}
 
 -- ---- widths
 

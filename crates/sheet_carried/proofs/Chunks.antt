@@ -9,8 +9,8 @@ use Rattle.laws.specs.Bits.{onto}
 use Rattle.rules.specs.declared.Stage.{Stage}
 use Rattle.rules.specs.declared.TuplePlace.{TuplePlace}
 use Rattle.rules.specs.declared.Set.{Set}
-use Rattle.sheet_read.specs.declared.Carried.{Carried}
-use Rattle.sheet_read.specs.Reader.{nextOf, reading, run, stepOf}
+use Rattle.sheet_carried.specs.declared.Carried.{Carried}
+use Rattle.sheet_carried.specs.Reader.{nextOf, reading, run, stepOf}
 
 pub run-append : (c : Carried) (xs ys : List ℕ) → run c (xs ++ ys) ≡ run (run c xs) ys
 unfolding run
