@@ -39,7 +39,7 @@ pub padding-tuples : (f n : ℕ) → 9 ≤ f → tuplesWhole f n ≡ 0
 unfolding tuplesWhole
 padding-tuples f n h = List·getD-eq-default (0 ∷ 0 ∷ 0 ∷ 0 ∷ 0 ∷ 0 ∷ 0 ∷ n ∷ n ∷ []) 0 {n = f} (omega arith)
 
-padding-most : (f : ℕ) (vs : List ℕ) → 9 ≤ f → mostWhole f vs ≡ 0
+pub padding-most : (f : ℕ) (vs : List ℕ) → 9 ≤ f → mostWhole f vs ≡ 0
 unfolding mostWhole
 padding-most f vs h =
     List·getD-eq-default (0 ∷ 0 ∷ 0 ∷ 0 ∷ valueAt vs 3 ∷ valueAt vs 3 ∷ 0 ∷ valueAt vs 6 ∷ valueAt vs 6 ∷ []) 0 {n = f} (omega arith)
@@ -131,6 +131,17 @@ pub kept-refused : (f : ℕ) → 17 ≤ f → f < 20 → Kept (refusedOf f)
 unfolding refusedOf
 kept-refused f a b = kept-none f b (λ h g. omega arith) (padding-stages 1 0 f 0 (omega arith)) (padding-tuples f 0 (omega arith))
 
+-- ---- behind a padding bit comes the next row
+
+pub goes-pad : (f n : ℕ) (vs : List ℕ) (gs : List Stage) (ts : List TuplePlace) (x : Set) (v : ℕ) → 9 ≤ f → goesOn f n vs gs ts x v ≡ begun (f + 1) n (set vs f v) gs ts x
+unfolding goesOn nextField followingOf
+goes-pad f n vs gs ts x v a =
+    ap (λ (t : Bool). cond t (behindOffset n vs gs ts x v) (cond (eqb f 5) (behindCost n vs gs ts x v) (cond (eqb f 0) (behindVersion n vs gs ts x v) (nextField f n vs gs ts x v)))) (ne-eqb f 8 (λ e. omega arith))
+    ∙ ap (λ (t : Bool). cond t (behindCost n vs gs ts x v) (cond (eqb f 0) (behindVersion n vs gs ts x v) (nextField f n vs gs ts x v))) (ne-eqb f 5 (λ e. omega arith))
+    ∙ ap (λ (t : Bool). cond t (behindVersion n vs gs ts x v) (nextField f n vs gs ts x v)) (ne-eqb f 0 (λ e. omega arith))
+    ∙ ap (λ (i : ℕ). begun i n (set vs f v) gs ts x)
+    (ap (λ (t : Bool). cond t (openedOf (x .version) 0 v) (behindOf (x .version) f)) (ne-eqb f 1 (λ e. omega arith)) ∙ behind-padding (x .version) f a)
+
 -- ---- behind a field of a stream whose value goes to its own place
 
 module _ (f n : ℕ) (vs : List ℕ) (gs : List Stage) (ts : List TuplePlace) (x : Set) (v : ℕ) (k : KeptAt f n vs gs ts x) where
@@ -202,14 +213,7 @@ module _ (f n : ℕ) (vs : List ℕ) (gs : List Stage) (ts : List TuplePlace) (x
       })
 
   kept-pads : 9 ≤ f → f < 17 → Kept (goesOn f n vs gs ts x v)
-  unfolding goesOn nextField followingOf
-  kept-pads a b =
-      let step : f + 1 ≡ followingOf (x .version) f v = sym (ap (λ (t : Bool). cond t (openedOf (x .version) 0 v) (behindOf (x .version) f)) (ne-eqb f 1 (λ e. omega arith)) ∙ behind-padding (x .version) f a) in
-      subst Kept
-      (sym (ap (λ (t : Bool). cond t (behindOffset n vs gs ts x v) (cond (eqb f 5) (behindCost n vs gs ts x v) (cond (eqb f 0) (behindVersion n vs gs ts x v) (nextField f n vs gs ts x v)))) (ne-eqb f 8 (λ e. omega arith))
-      ∙ ap (λ (t : Bool). cond t (behindCost n vs gs ts x v) (cond (eqb f 0) (behindVersion n vs gs ts x v) (nextField f n vs gs ts x v))) (ne-eqb f 5 (λ e. omega arith))
-      ∙ ap (λ (t : Bool). cond t (behindVersion n vs gs ts x v) (nextField f n vs gs ts x v)) (ne-eqb f 0 (λ e. omega arith))))
-      (kept-begun (followingOf (x .version) f v) n (set vs f v) gs ts x (subst (λ (i : ℕ). KeptAt i n (set vs f v) gs ts x) step (kept-padding a b)))
+  kept-pads a b = subst Kept (sym (goes-pad f n vs gs ts x v a)) (kept-begun (f + 1) n (set vs f v) gs ts x (kept-padding a b))
 
 -- ---- each row
 

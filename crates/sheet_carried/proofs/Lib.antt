@@ -6,3 +6,5 @@ pub mod Keeps
 pub mod Chunks
 pub mod Chains
 pub mod Reached
+pub mod Streamed
+pub mod Sound

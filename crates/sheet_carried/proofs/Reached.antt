@@ -68,7 +68,7 @@ module _ (f n : ℕ) (vs : List ℕ) (gs : List Stage) (ts : List TuplePlace) (x
       (reach-run (begun f n vs gs ts x) k (toBits w v) (toBits-bits w v) r)
 
   -- its value is in its rule
-  reach-on : (v : ℕ) → 0 < widthOf f → v < 2 ^ widthOf f → inRuleOf f n (valueAt vs 8) v ≡ true → Reached (goesOn f n vs gs ts x v) (k + widthOf f)
+  pub reach-on : (v : ℕ) → 0 < widthOf f → v < 2 ^ widthOf f → inRuleOf f n (valueAt vs 8) v ≡ true → Reached (goesOn f n vs gs ts x v) (k + widthOf f)
   unfolding nextOf
   reach-on v s h e = reach-as (simp e) refl (reach-next v s h)
 
@@ -89,10 +89,10 @@ module _ (f n : ℕ) (vs : List ℕ) (gs : List Stage) (ts : List TuplePlace) (x
 abbrev pub padded : {A : Type 0} → ℕ → A → List A → List A
 padded N none l = l ++ replicate (N - length l) none
 
-snoc-length : {A : Type 0} (l : List A) (a : A) → length (l ++ (a ∷ [])) ≡ length l + 1
+pub snoc-length : {A : Type 0} (l : List A) (a : A) → length (l ++ (a ∷ [])) ≡ length l + 1
 snoc-length l a = length-append l (a ∷ [])
 
-set-padded : {A : Type 0} (N : ℕ) (none : A) (l : List A) (a : A) → length l < N → set (padded N none l) (length l) a ≡ padded N none (l ++ (a ∷ []))
+pub set-padded : {A : Type 0} (N : ℕ) (none : A) (l : List A) (a : A) → length l < N → set (padded N none l) (length l) a ≡ padded N none (l ++ (a ∷ []))
 set-padded {A} N none l a h =
     let r : List A = replicate (N - (length l + 1)) none in
     ap (λ (j : ℕ). set (l ++ replicate j none) (length l) a) (let e : N - length l ≡ suc (N - (length l + 1)) = omega arith in e)

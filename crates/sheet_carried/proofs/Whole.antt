@@ -26,14 +26,14 @@ use Rattle.rules.specs.Valid.{ValidSet, ValidStream}
 use Rattle.sheet_carried.specs.Kept.{Holds}
 
 -- the places behind those in use hold nothing
-holds-of : {A : Type 0} (N n : ℕ) (none : A) (l : List A) → length l ≡ N → n ≤ N → drop n l ≡ replicate (length (drop n l)) none → Holds N none n l
+pub holds-of : {A : Type 0} (N n : ℕ) (none : A) (l : List A) → length l ≡ N → n ≤ N → drop n l ≡ replicate (length (drop n l)) none → Holds N none n l
 holds-of {A} N n none l e h r =
     record {
       used = length-take-le n l (omega arith);
       unused = sym (take-append-drop n l) ∙ ap (λ (x : List A). take n l ++ x) (r ∙ ap (λ (k : ℕ). replicate k none) (let q : length (drop n l) ≡ N - n = omega (arith, length-drop n l) in q));
     }
 
-whole-places : {A : Type 0} (N : ℕ) (none : A) (n : ℕ) (l : List A) → Holds N none n l → take n l ++ replicate (N - length (take n l)) none ≡ l
+pub whole-places : {A : Type 0} (N : ℕ) (none : A) (n : ℕ) (l : List A) → Holds N none n l → take n l ++ replicate (N - length (take n l)) none ≡ l
 whole-places N none n l h = ap (λ (k : ℕ). take n l ++ replicate (N - k) none) (h .used) ∙ sym (h .unused)
 
 -- what a stream's places hold
@@ -59,18 +59,18 @@ once-zero : (t : Tuple) → isOnceAtZero t ≡ true → t ≡ Once 0
 once-zero (Once a) e = ap Once (eqb-true a 0 e)
 once-zero (Every z a) e = absurd (false≢true e)
 
-no-tuple : (p : TuplePlace) → tupleUnused p ≡ true → p ≡ noTuple
+pub no-tuple : (p : TuplePlace) → tupleUnused p ≡ true → p ≡ noTuple
 unfolding tupleUnused
 no-tuple p e = ap (λ (t : Tuple). record { tuple = t }) (once-zero (p .tuple) e)
 
-no-stage : (g : Stage) → stageUnused g ≡ true → g ≡ noStage
+pub no-stage : (g : Stage) → stageUnused g ≡ true → g ≡ noStage
 unfolding stageUnused
 no-stage g e =
     let u = and-parts (eqb (g .task) 0) (eqb (g .cost) 0) e in
     ap₂ (λ (t c : ℕ). record { task = t; cost = c }) (eqb-true (g .task) 0 (u .0)) (eqb-true (g .cost) 0 (u .1))
 
 -- places that pass a test which only the unused one passes
-all-none : {A : Type 0} (p : A → Bool) (none : A) → ((a : A) → p a ≡ true → a ≡ none) → (l : List A) → all p l ≡ true → l ≡ replicate (length l) none
+pub all-none : {A : Type 0} (p : A → Bool) (none : A) → ((a : A) → p a ≡ true → a ≡ none) → (l : List A) → all p l ≡ true → l ≡ replicate (length l) none
 unfolding all
 all-none p none h [] e = refl
 all-none {A} p none h (a ∷ l) e =
@@ -118,7 +118,7 @@ set-holds x v p =
 abbrev pub Staged : ℕ → Stream → Type 0
 Staged version s = version ≡ 1 → s .depth ≡ 1
 
-version-cases : (x : Set) → ValidSet x → ((x .version ≡ 1) × (all oneStage (streamsOf x) ≡ true)) ⊎ (x .version ≡ 2)
+pub version-cases : (x : Set) → ValidSet x → ((x .version ≡ 1) × (all oneStage (streamsOf x) ≡ true)) ⊎ (x .version ≡ 2)
 unfolding versionOk
 version-cases x v = by-version (eqb (x .version) 1) (eqb-true (x .version) 1) (v .version)
   where
