@@ -8,3 +8,4 @@ pub mod Chains
 pub mod Reached
 pub mod Streamed
 pub mod Sound
+pub mod Complete

@@ -36,22 +36,22 @@ use Rattle.sheet_carried.proofs.Streamed.{Either, Fine, Opened, first-s
 
 -- ---- values
 
-held-zero : (low high v : ℕ) → held false low high v ≡ true → v ≡ 0
+pub held-zero : (low high v : ℕ) → held false low high v ≡ true → v ≡ 0
 unfolding held
 held-zero low high v e = eqb-true v 0 e
 
-held-low : (low high v : ℕ) → held true low high v ≡ true → low ≤ v
+pub held-low : (low high v : ℕ) → held true low high v ≡ true → low ≤ v
 unfolding held
 held-low low high v e = within-low low v high e
 
-held-high : (low high v : ℕ) → held true low high v ≡ true → v ≤ high
+pub held-high : (low high v : ℕ) → held true low high v ≡ true → v ≤ high
 unfolding held
 held-high low high v e = within-high low v high e
 
-held-between : (low high v : ℕ) → held true low high v ≡ true → Between low v high
+pub held-between : (low high v : ℕ) → held true low high v ≡ true → Between low v high
 held-between low high v e = record { low = held-low low high v e; high = held-high low high v e }
 
-outside : (a f b : ℕ) → b < f → within a f b ≡ false
+pub outside : (a f b : ℕ) → b < f → within a f b ≡ false
 outside a f b h = ap (λ (t : Bool). leb a f && t) (lt-leb f b h) ∙ and-false (leb a f)
   where
     and-false : (t : Bool) → t && false ≡ false
@@ -59,7 +59,7 @@ outside a f b h = ap (λ (t : Bool). leb a f && t) (lt-leb f b h) ∙ and-false 
     and-false false = refl
 
 -- where a test is not of the version
-dated-is : (version f : ℕ) (b : Bool) → within 6 f 8 ≡ b → within 3 f 8 ≡ b → dated version f ≡ b
+pub dated-is : (version f : ℕ) (b : Bool) → within 6 f 8 ≡ b → within 3 f 8 ≡ b → dated version f ≡ b
 unfolding dated
 dated-is version f b h k = go (eqb version 1)
   where
@@ -67,7 +67,7 @@ dated-is version f b h k = go (eqb version 1)
     go true = h
     go false = k
 
-deep-none : (version f : ℕ) → within 4 f 8 ≡ false → deepened version f ≡ false
+pub deep-none : (version f : ℕ) → within 4 f 8 ≡ false → deepened version f ≡ false
 unfolding deepened
 deep-none version f h = go (eqb version 1)
   where
@@ -76,7 +76,7 @@ deep-none version f h = go (eqb version 1)
     go false = h
 
 -- from the padding on the bits of padding count
-padding-room : (version less f n : ℕ) → 9 ≤ f → partRoom version less f n ≡ f - 9
+pub padding-room : (version less f n : ℕ) → 9 ≤ f → partRoom version less f n ≡ f - 9
 unfolding partRoom
 padding-room version less f n h = go (eqb version 1)
   where
@@ -86,14 +86,21 @@ padding-room version less f n h = go (eqb version 1)
     go false = List·getD-eq-default (0 ∷ 0 ∷ 0 ∷ 18 ∷ (20 + 20 * n) ∷ (24 + 20 * n) ∷ (40 + 20 * less) ∷ (42 + 20 * less + 37 * n) ∷ (62 + 20 * less + 37 * n) ∷ []) (f - 9) {n = f} (omega arith)
 
 -- a list that has no elements
-none-of : {A : Type 0} (l : List A) → length l ≡ 0 → l ≡ []
+pub none-of : {A : Type 0} (l : List A) → length l ≡ 0 → l ≡ []
 none-of [] e = refl
 none-of (a ∷ l) e = absurd (omega arith)
 
 -- ---- what the tests say of a state before the row f
 
-pub record Said (f n N d s t m z : ℕ) (gs : List Stage) (ts : List TuplePlace) (x : Set) : Type 0 where
+-- of the streams that are whole
+pub record Streams (x : Set) : Type 0 where
   pub either : Either (x .version)
+  pub whole : setOf (x .version) (streamsOf x) ≡ x
+  pub fine : All (Fine (x .version)) (streamsOf x)
+  pub used : length (streamsOf x) ≡ x .count
+
+pub record Said (f n N d s t m z : ℕ) (gs : List Stage) (ts : List TuplePlace) (x : Set) : Type 0 where
+  pub set : Streams x
   pub version : versionFits (x .version) f ≡ true
   pub count : countFits f (x .count) N ≡ true
   pub most : n ≤ mostWhole f (vals N d s t m z (lastOf 0 ts))
@@ -102,9 +109,6 @@ pub record Said (f n N d s t m z : ℕ) (gs : List Stage) (ts : List TuplePlace)
   pub many : length ts ≡ tuplesWhole f n
   pub chain : Chain 0 0 ts
   pub values : All Passes (valueTests (x .version) f (lastOf 0 ts) (vals N d s t m z (lastOf 0 ts)))
-  pub whole : setOf (x .version) (streamsOf x) ≡ x
-  pub fine : All (Fine (x .version)) (streamsOf x)
-  pub used : length (streamsOf x) ≡ x .count
 
 module _ (n N d s t m z : ℕ) (gs : List Stage) (ts : List TuplePlace) (x : Set) where
   abbrev vs : List ℕ
@@ -121,36 +125,36 @@ module _ (n N d s t m z : ℕ) (gs : List Stage) (ts : List TuplePlace) (x : Set
     abbrev countAt : Type 0
     countAt = held (within 2 f 16) 0 16 N ≡ true
 
-    count-test : countAt
+    pub count-test : countAt
     count-test = q .values .1 .0
 
-    date-test : held (dated (x .version) f) 1 200000 d ≡ true
+    pub date-test : held (dated (x .version) f) 1 200000 d ≡ true
     date-test = q .values .1 .1 .0
 
-    deep-test : held (deepened (x .version) f) 0 3 s ≡ true
+    pub deep-test : held (deepened (x .version) f) 0 3 s ≡ true
     deep-test = q .values .1 .1 .1 .0
 
-    task-test : held (eqb f 5) 0 15 t ≡ true
+    pub task-test : held (eqb f 5) 0 15 t ≡ true
     task-test = q .values .1 .1 .1 .1 .0
 
-    limit-test : held (within 7 f 8) 0 3 m ≡ true
+    pub limit-test : held (within 7 f 8) 0 3 m ≡ true
     limit-test = q .values .1 .1 .1 .1 .1 .1 .0
 
-    cycle-test : held (eqb f 8) 0 1000000 z ≡ true
+    pub cycle-test : held (eqb f 8) 0 1000000 z ≡ true
     cycle-test = q .values .1 .1 .1 .1 .1 .1 .1 .0
 
     -- behind the streams that are whole
     base : N ≤ 16 → x .count ≤ N → Reached (Opened N x) (9 + streamsRoom x)
     unfolding streamsRoom
     base few h =
-        reach-as (ap (Opened N) (q .whole)) refl (reach-open N (x .version) few (q .either) (streamsOf x) (q .fine) (omega (arith, q .used)))
+        reach-as (ap (Opened N) (q .set .whole)) refl (reach-open N (x .version) few (q .set .either) (streamsOf x) (q .set .fine) (omega (arith, q .set .used)))
 
     -- in a stream
     module _ (a : within 2 f 16 ≡ true) (b : within 2 f 8 ≡ true) where
-      few : N ≤ 16
+      pub few : N ≤ 16
       few = held-high 0 16 N (subst (λ (u : Bool). held u 0 16 N ≡ true) a count-test)
 
-      room : x .count < N
+      pub room : x .count < N
       unfolding countFits
       room = ltb-true (x .count) N (subst (λ (u : Bool). cond u (ltb (x .count) N) (eqb (x .count) N) ≡ true) b (q .count))
 
@@ -158,16 +162,16 @@ module _ (n N d s t m z : ℕ) (gs : List Stage) (ts : List TuplePlace) (x : Set
       opened = base few (omega (arith, room))
 
     -- version 1 has no stages less one
-    deep-few : s ≤ 3
+    pub deep-few : s ≤ 3
     unfolding held
     deep-few = by-test (deepened (x .version) f) (λ e. held-high 0 3 s (subst (λ (u : Bool). held u 0 3 s ≡ true) e deep-test)) (λ e. omega (arith, held-zero 0 3 s (subst (λ (u : Bool). held u 0 3 s ≡ true) e deep-test)))
 
-    deep-one : x .version ≡ 1 → s ≡ 0
+    pub deep-one : x .version ≡ 1 → s ≡ 0
     unfolding deepened
     deep-one e = held-zero 0 3 s (subst (λ (v : ℕ). held (deepened v f) 0 3 s ≡ true) e deep-test)
 
   -- how many bits have come of the stream
-  part-is : (f k : ℕ) → eqb f 0 ≡ false → eqb f 1 ≡ false → partRoom (x .version) s f n ≡ k → 9 + streamsRoom x + k ≡ beforeRow f n vs x
+  pub part-is : (f k : ℕ) → eqb f 0 ≡ false → eqb f 1 ≡ false → partRoom (x .version) s f n ≡ k → 9 + streamsRoom x + k ≡ beforeRow f n vs x
   unfolding beforeRow
   part-is f k a b e = ap (λ (j : ℕ). 9 + streamsRoom x + j) (sym e) ∙ sym (simp (a, b))
 
@@ -181,7 +185,7 @@ module _ (n N d s t m z : ℕ) (gs : List Stage) (ts : List TuplePlace) (x : Set
   -- nothing has been read of a stream
   module _ (f : ℕ) (q : Said f n N d s t m z gs ts x) (dates : within 6 f 8 ≡ false) (dates₂ : within 3 f 8 ≡ false) (deep : within 4 f 8 ≡ false) (task : eqb f 5 ≡ false) (limit : within 7 f 8 ≡ false) (cycle : eqb f 8 ≡ false)
       (most : mostWhole f vs ≡ 0) (stages : stagesWhole (x .version) s f n ≡ 0) (tuples : tuplesWhole f n ≡ 0) where
-    unread : At N x f 0 0 0 0 0 0 0 [] [] ≡ before f
+    pub unread : At N x f 0 0 0 0 0 0 0 [] [] ≡ before f
     unfolding lastOf
     unread =
         as-row f 0 0 0 0 0 0 [] [] (let e : 0 ≡ n = omega (arith, q .most) in e)
@@ -193,14 +197,14 @@ module _ (n N d s t m z : ℕ) (gs : List Stage) (ts : List TuplePlace) (x : Set
         (sym (none-of gs (q .long ∙ stages))) (sym (none-of ts (q .many ∙ tuples)))
 
   module _ (f : ℕ) (q : Said f n N d s t m z gs ts x) (a : within 2 f 16 ≡ false) (b : within 2 f 8 ≡ false) where
-    no-count : N ≡ 0
+    pub no-count : N ≡ 0
     no-count = held-zero 0 16 N (subst (λ (u : Bool). held u 0 16 N ≡ true) a (count-test f q))
 
-    no-streams : x .count ≡ 0
+    pub no-streams : x .count ≡ 0
     unfolding countFits
     no-streams = eqb-true (x .count) N (subst (λ (u : Bool). cond u (ltb (x .count) N) (eqb (x .count) N) ≡ true) b (q .count)) ∙ no-count
 
-    first-version : within 1 f 16 ≡ false → x .version ≡ 1
+    pub first-version : within 1 f 16 ≡ false → x .version ≡ 1
     unfolding versionFits
     first-version c =
         by-test (eqb (x .version) 1) (eqb-true (x .version) 1)
@@ -209,7 +213,7 @@ module _ (n N d s t m z : ℕ) (gs : List Stage) (ts : List TuplePlace) (x : Set
   row-version : Law 0
   unfolding beforeRow stagesWhole tuplesWhole mostWhole
   row-version q =
-      let y : emptySet ≡ x = ap noStreams (sym (first-version 0 q refl refl refl)) ∙ empty-set (no-streams 0 q refl refl) (q .whole) in
+      let y : emptySet ≡ x = ap noStreams (sym (first-version 0 q refl refl refl)) ∙ empty-set (no-streams 0 q refl refl) (q .set .whole) in
       reach-as
       (ap₂ (λ (u : ℕ) (w : Set). At u w 0 0 0 0 0 0 0 0 [] []) (sym (no-count 0 q refl refl)) y
       ∙ unread 0 q refl refl refl refl refl refl refl refl refl)
@@ -219,38 +223,38 @@ module _ (n N d s t m z : ℕ) (gs : List Stage) (ts : List TuplePlace) (x : Set
   unfolding beforeRow stagesWhole tuplesWhole mostWhole
   row-count q =
       reach-as
-      (ap₂ (λ (u : ℕ) (w : Set). At u w 1 0 0 0 0 0 0 0 [] []) (sym (no-count 1 q refl refl)) (empty-set (no-streams 1 q refl refl) (q .whole))
+      (ap₂ (λ (u : ℕ) (w : Set). At u w 1 0 0 0 0 0 0 0 [] []) (sym (no-count 1 q refl refl)) (empty-set (no-streams 1 q refl refl) (q .set .whole))
       ∙ unread 1 q refl refl refl refl refl refl refl refl refl)
-      refl (reach-version (x .version) (q .either))
+      refl (reach-version (x .version) (q .set .either))
 
   -- a value that has been read in the one version, or in either
   module _ (f v : ℕ) (e : x .version ≡ v) (q : Said f n N d s t m z gs ts x) where
-    date-in : dated v f ≡ true → Between 1 d 200000
+    pub date-in : dated v f ≡ true → Between 1 d 200000
     date-in h = held-between 1 200000 d (subst (λ (u : Bool). held u 1 200000 d ≡ true) (ap (λ (w : ℕ). dated w f) e ∙ h) (date-test f q))
 
-    date-not : dated v f ≡ false → 0 ≡ d
+    pub date-not : dated v f ≡ false → 0 ≡ d
     date-not h = sym (held-zero 1 200000 d (subst (λ (u : Bool). held u 1 200000 d ≡ true) (ap (λ (w : ℕ). dated w f) e ∙ h) (date-test f q)))
 
-    deep-not : deepened v f ≡ false → 0 ≡ s
+    pub deep-not : deepened v f ≡ false → 0 ≡ s
     deep-not h = sym (held-zero 0 3 s (subst (λ (u : Bool). held u 0 3 s ≡ true) (ap (λ (w : ℕ). deepened w f) e ∙ h) (deep-test f q)))
 
-    long-is : length gs ≡ stagesWhole v s f n
+    pub long-is : length gs ≡ stagesWhole v s f n
     long-is = q .long ∙ ap (λ (w : ℕ). stagesWhole w s f n) e
 
-    part-in : (k : ℕ) → eqb f 0 ≡ false → eqb f 1 ≡ false → partRoom v s f n ≡ k → 9 + streamsRoom x + k ≡ beforeRow f n vs x
+    pub part-in : (k : ℕ) → eqb f 0 ≡ false → eqb f 1 ≡ false → partRoom v s f n ≡ k → 9 + streamsRoom x + k ≡ beforeRow f n vs x
     part-in k a b h = part-is f k a b (ap (λ (w : ℕ). partRoom w s f n) e ∙ h)
 
   module _ (f : ℕ) (q : Said f n N d s t m z gs ts x) where
-    task-not : eqb f 5 ≡ false → 0 ≡ t
+    pub task-not : eqb f 5 ≡ false → 0 ≡ t
     task-not h = sym (held-zero 0 15 t (subst (λ (u : Bool). held u 0 15 t ≡ true) h (task-test f q)))
 
-    limit-not : within 7 f 8 ≡ false → 0 ≡ m
+    pub limit-not : within 7 f 8 ≡ false → 0 ≡ m
     limit-not h = sym (held-zero 0 3 m (subst (λ (u : Bool). held u 0 3 m ≡ true) h (limit-test f q)))
 
-    cycle-not : eqb f 8 ≡ false → 0 ≡ z
+    pub cycle-not : eqb f 8 ≡ false → 0 ≡ z
     cycle-not h = sym (held-zero 0 1000000 z (subst (λ (u : Bool). held u 0 1000000 z ≡ true) h (cycle-test f q)))
 
-  one-of : {A : Type 0} (none : A) (l : List A) → length l ≡ 1 → getD l 0 none ∷ [] ≡ l
+  pub one-of : {A : Type 0} (none : A) (l : List A) → length l ≡ 1 → getD l 0 none ∷ [] ≡ l
   one-of none [] e = absurd (omega arith)
   one-of none (a ∷ []) e = refl
   one-of none (a ∷ b ∷ l) e = absurd (omega arith)
@@ -270,7 +274,7 @@ module _ (n N d s t m z : ℕ) (gs : List Stage) (ts : List TuplePlace) (x : Set
       reach-as (as-row 2 0 0 0 0 0 0 [] [] i (date-not 2 2 e q refl) (deep-not 2 2 e q refl) (task-not 2 q refl) (limit-not 2 q refl) (cycle-not 2 q refl) (sym (none-of gs (long-is 2 2 e q))) k)
       ((let u : 9 + streamsRoom x ≡ 9 + streamsRoom x + 0 = omega arith in u) ∙ part-in 2 2 e q 0 refl refl refl)
       (open-second N x (room 2 q refl refl) (opened 2 q refl refl) e))
-      (q .either)
+      (q .set .either)
 
   row-stages : Law 3
   unfolding stagesWhole tuplesWhole mostWhole dated deepened partRoom lastOf versionFits
@@ -281,7 +285,7 @@ module _ (n N d s t m z : ℕ) (gs : List Stage) (ts : List TuplePlace) (x : Set
       reach-as (as-row 3 0 d 0 0 0 0 [] [] (let u : 0 ≡ n = omega (arith, q .most) in u) refl (deep-not 3 2 e q refl) (task-not 3 q refl) (limit-not 3 q refl) (cycle-not 3 q refl) (sym (none-of gs (long-is 3 2 e q))) (sym (none-of ts (q .many))))
       (part-in 3 2 e q 18 refl refl refl)
       (second-dated N x (room 3 q refl refl) (opened 3 q refl refl) e d (date-in 3 2 e q refl)))
-      (q .either)
+      (q .set .either)
 
   -- before a task, and before a cost
   module _ (f : ℕ) (a : within 2 f 16 ≡ true) (b : within 2 f 8 ≡ true) (q : Said f n N d s t m z gs ts x) (here : length gs ≡ n) (most : n ≤ s) where
@@ -308,7 +312,7 @@ module _ (n N d s t m z : ℕ) (gs : List Stage) (ts : List TuplePlace) (x : Set
       reach-as (as-row 4 (length gs) d s 0 0 0 gs [] (q .long) refl refl (task-not 4 q refl) (limit-not 4 q refl) (cycle-not 4 q refl) refl k)
       ((let u : 9 + streamsRoom x + 20 + 20 * n ≡ 9 + streamsRoom x + (20 + 20 * n) = omega arith in u) ∙ part-in 4 2 e q (20 + 20 * n) refl refl refl)
       (staged-second 4 refl refl q (q .long) (q .most) e (date-in 4 2 e q refl)))
-      (q .either)
+      (q .set .either)
 
   row-cost : Law 5
   unfolding stagesWhole tuplesWhole mostWhole dated deepened partRoom lastOf
@@ -324,7 +328,7 @@ module _ (n N d s t m z : ℕ) (gs : List Stage) (ts : List TuplePlace) (x : Set
       reach-as (as-row 5 (length gs) d s t 0 0 gs [] (q .long) refl refl refl (limit-not 5 q refl) (cycle-not 5 q refl) refl k)
       ((let u : 9 + streamsRoom x + 20 + 20 * n + 4 ≡ 9 + streamsRoom x + (24 + 20 * n) = omega arith in u) ∙ part-in 5 2 e q (24 + 20 * n) refl refl refl)
       (reach-task N x d s (deep-few 5 q) gs (staged-second 5 refl refl q (q .long) (q .most) e (date-in 5 2 e q refl)) t c))
-      (q .either)
+      (q .set .either)
 
   -- behind the head of a stream
   module _ (f : ℕ) (a : within 2 f 16 ≡ true) (b : within 2 f 8 ≡ true) (c : within 6 f 8 ≡ true) (i : within 3 f 8 ≡ true) (q : Said f n N d s t m z gs ts x) where
@@ -332,10 +336,10 @@ module _ (n N d s t m z : ℕ) (gs : List Stage) (ts : List TuplePlace) (x : Set
     date = held-between 1 200000 d (subst (λ (u : Bool). held u 1 200000 d ≡ true) (dated-is (x .version) f true c i) (date-test f q))
 
     headed : length gs ≡ s + 1 → Reached (At N x 6 0 d s 0 0 0 0 gs []) (9 + streamsRoom x + cond (eqb (x .version) 1) 38 (40 + 20 * s))
-    headed h = reach-head N x (room f q a b) (opened f q a b) d s date (deep-few f q) gs (q .staged) h (q .either) (deep-one f q)
+    headed h = reach-head N x (room f q a b) (opened f q a b) d s date (deep-few f q) gs (q .staged) h (q .set .either) (deep-one f q)
 
     tupled : length gs ≡ s + 1 → m ≤ 3 → length ts ≤ m → Reached (At N x 7 (length ts) d s 0 m 0 (lastOf 0 ts) gs ts) (9 + streamsRoom x + cond (eqb (x .version) 1) 38 (40 + 20 * s) + 2 + 37 * length ts)
-    tupled h g j = reach-some N x (room f q a b) (opened f q a b) d s date (deep-few f q) gs (q .staged) h (q .either) (deep-one f q) m g ts (q .chain) j
+    tupled h g j = reach-some N x (room f q a b) (opened f q a b) d s date (deep-few f q) gs (q .staged) h (q .set .either) (deep-one f q) m g ts (q .chain) j
 
   row-tuples : Law 6
   unfolding stagesWhole tuplesWhole mostWhole partRoom lastOf
@@ -381,7 +385,7 @@ module _ (n N d s t m z : ℕ) (gs : List Stage) (ts : List TuplePlace) (x : Set
       (reach-on f 0 (vals N 0 0 0 0 0 0) noStages noTuples x (reach-pads j (omega arith) r) 0 (omega arith) (pow-pos (widthOf f))
       (pad-rule f 0 0 0 (omega arith) (omega arith) ∙ lt-ltb (f - 9) 7 (omega arith)))
 
-  all-read : (f : ℕ) → 9 ≤ f → Said f n N d s t m z gs ts x → eqb (x .count) N ≡ true
+  pub all-read : (f : ℕ) → 9 ≤ f → Said f n N d s t m z gs ts x → eqb (x .count) N ≡ true
   unfolding countFits
   all-read f a q = subst (λ (u : Bool). cond u (ltb (x .count) N) (eqb (x .count) N) ≡ true) (outside 2 f 8 (omega arith)) (q .count)
 
@@ -406,7 +410,7 @@ module _ (n N d s t m z : ℕ) (gs : List Stage) (ts : List TuplePlace) (x : Set
   row-refused f a q =
       let i : within 2 f 16 ≡ false = outside 2 f 16 (omega arith) in
       let j : within 2 f 8 ≡ false = outside 2 f 8 (omega arith) in
-      let y : emptySet ≡ x = ap noStreams (sym (first-version f q i j (outside 1 f 16 (omega arith)))) ∙ empty-set (no-streams f q i j) (q .whole) in
+      let y : emptySet ≡ x = ap noStreams (sym (first-version f q i j (outside 1 f 16 (omega arith)))) ∙ empty-set (no-streams f q i j) (q .set .whole) in
       ap₂ (λ (u : ℕ) (w : Set). At u w f 0 0 0 0 0 0 0 [] []) (sym (no-count f q i j)) y
       ∙ unread f q (outside 6 f 8 (omega arith)) (outside 3 f 8 (omega arith)) (outside 4 f 8 (omega arith)) (ne-eqb f 5 (λ e. omega arith)) (outside 7 f 8 (omega arith)) (ne-eqb f 8 (λ e. omega arith))
       (padding-most f vs (omega arith)) (padding-stages (x .version) s f n (omega arith)) (padding-tuples f n (omega arith))
@@ -431,7 +435,7 @@ or-parts : (a b : Bool) → a || b ≡ true → (a ≡ true) ⊎ (b ≡ true)
 or-parts true b e = inl refl
 or-parts false b e = inr e
 
-getD-le : (b f : ℕ) (l : List ℕ) → All (λ (v : ℕ). v ≤ b) l → getD l f 0 ≤ b
+pub getD-le : (b f : ℕ) (l : List ℕ) → All (λ (v : ℕ). v ≤ b) l → getD l f 0 ≤ b
 getD-le b f [] a = omega arith
 getD-le b zero (v ∷ l) a = a .0
 getD-le b (suc f) (v ∷ l) a = getD-le b f l (a .1)
@@ -532,7 +536,15 @@ module _ (f n N d s t m z low a h : ℕ) (gs : List Stage) (ts : List TuplePlace
     unfolding mostWhole
     said =
         record {
-          either = set-either;
+          set =
+              record {
+                either = set-either;
+                whole = whole-set x streams-held;
+                fine =
+                    all-zip ValidStream (λ (y : Stream). FourPlaces y × Staged (x .version) y) (Fine (x .version)) (streamsOf x) (λ y v w. record { valid = v; four = w .0; staged = w .1 }) (set-valid .streams)
+                    (all-zip FourPlaces (Staged (x .version)) (λ (y : Stream). FourPlaces y × Staged (x .version) y) (streamsOf x) (λ y v w. (v, w)) (all-take FourPlaces (x .count) (x .streams) (placed .four)) (set-staged x set-valid));
+                used = streams-held .used;
+              };
           version = tests .1 .0;
           count = tests .1 .1 .0;
           most = most;
@@ -541,11 +553,6 @@ module _ (f n N d s t m z low a h : ℕ) (gs : List Stage) (ts : List TuplePlace
           many = tuples-held .used;
           chain = chain-first (take J ts) (first-zero J ts (tuple-parts .0)) (tuple-parts .1 .0);
           values = subst (λ (l : List ℕ). All Passes (valueTests (x .version) f (lastOf 0 (take J ts)) l)) given-is values;
-          whole = whole-set x streams-held;
-          fine =
-              all-zip ValidStream (λ (y : Stream). FourPlaces y × Staged (x .version) y) (Fine (x .version)) (streamsOf x) (λ y v w. record { valid = v; four = w .0; staged = w .1 }) (set-valid .streams)
-              (all-zip FourPlaces (Staged (x .version)) (λ (y : Stream). FourPlaces y × Staged (x .version) y) (streamsOf x) (λ y v w. (v, w)) (all-take FourPlaces (x .count) (x .streams) (placed .four)) (set-staged x set-valid));
-          used = streams-held .used;
         }
 
     -- the state as it stands is the one that is reached

@@ -129,7 +129,7 @@ pub record Fine (version : ℕ) (s : Stream) : Type 0 where
   pub four : FourPlaces s
   pub staged : Staged version s
 
-room-sum : (k v d c : ℕ) (b : Bool) → 1 ≤ d → 1 ≤ c → (b ≡ true → d ≡ 1) → k + cond b 38 (40 + 20 * (d - 1)) + 2 + 37 * (c - 1) + 37 ≡ k + (cond b 20 22 + (20 * d + 37 * c))
+pub room-sum : (k v d c : ℕ) (b : Bool) → 1 ≤ d → 1 ≤ c → (b ≡ true → d ≡ 1) → k + cond b 38 (40 + 20 * (d - 1)) + 2 + 37 * (c - 1) + 37 ≡ k + (cond b 20 22 + (20 * d + 37 * c))
 room-sum k v d c true h i e = omega (arith, e refl)
 room-sum k v d c false h i e = omega arith
 
@@ -166,7 +166,7 @@ module _ (N : ℕ) (x : Set) (few : N ≤ 16) (room : x .count < N) (e : Either 
       (reach-some N x room r (s .deadline) (s .depth - 1) (v .deadline) (omega (arith, v .depth .high)) (stagesOf s) (v .stages) long e (λ q. omega (arith, w .staged q)) less (omega (arith, v .count .high)) (take less ts) (last .init) (omega (arith, some-long)))
       (getD ts less noTuple) (last .rule) (last .place) some-long long)
 
-one-more : (version : ℕ) (ps : List Stream) (s : Stream) → length ps < 16 → withStream (setOf version ps) s ≡ setOf version (ps ++ (s ∷ []))
+pub one-more : (version : ℕ) (ps : List Stream) (s : Stream) → length ps < 16 → withStream (setOf version ps) s ≡ setOf version (ps ++ (s ∷ []))
 one-more version ps s h =
     ap₂ (λ (n : ℕ) (l : List Stream). record { count = n; streams = l; version = version }) (sym (snoc-length ps s)) (set-padded 16 noStream ps s h)
 
