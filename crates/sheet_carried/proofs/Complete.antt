@@ -27,6 +27,7 @@ use Rattle.sheet_carried.specs.Table.{behindOf, followingOf, greatestOf,
 use Rattle.sheet_carried.specs.Reader.{begun, behindVersion, goesOn, lastStage, nextField, nextStage, nextStream, nextTuple, noStages, noTuples, withStream, withVersion}
 use Rattle.sheet_carried.specs.Kept.{mostWhole, stagesWhole, tuplesWhole}
 use Rattle.sheet_carried.specs.Left.{beforeRow, countFits, dated, deepened, held, lastOf, partRoom, streamRoom, streamsRoom, valueTests, versionFits}
+use Rattle.sheet_carried.proofs.Filled.{cond-elim}
 use Rattle.sheet_carried.proofs.Streams.{Chain, cycle-of, offset-of, stream-four, stream-ok, within-high, within-is, within-low}
 use Rattle.sheet_carried.proofs.Chains.{chain-snoc, last-snoc, top-is, topOf}
 use Rattle.sheet_carried.proofs.Rows.{by-value-row, pad-rule, same-order, width-pad, width-some}
@@ -425,3 +426,264 @@ module _ (n N d s t m z : ℕ) (gs : List Stage) (ts : List TuplePlace) (x : Set
       })
       (omega arith) (ap (λ (y : ℕ). begun y n (vals N d s t m v low) (padded 4 noStage gs) (padded 4 noTuple ts) x) (same-order 7 refl refl (x .version)))
       (before-more 7 8 20 n (vals N d s t m v low) refl refl refl refl (in-either (60 + 37 * n) (40 + 37 * n) (62 + 20 * s + 37 * n) (42 + 20 * s + 37 * n) 20 (omega arith) (omega arith) (eqb (x .version) 1)))
+
+  -- ---- a stage is whole
+
+  module _ (q : Told 5) (r : within 1 v 65535 ≡ true) where
+    abbrev stage : Stage
+    stage = record { task = t; cost = v }
+
+    abbrev stages : List Stage
+    stages = gs ++ (stage ∷ [])
+
+    stage-valid : ValidStage stage
+    stage-valid = record { task = held-high 0 15 t (taskHeld 5 q); cost = record { low = within-low 1 v 65535 r; high = within-high 1 v 65535 r } }
+
+    less-few : s ≤ 3
+    less-few = sound.deep-few n N d s t m z gs ts x 5 q
+
+    most-5 : n ≤ s
+    unfolding mostWhole
+    most-5 = q .most
+
+    long-5 : length gs ≡ n
+    unfolding stagesWhole
+    long-5 = q .long
+
+    stages-valid : All ValidStage stages
+    stages-valid = all-append ValidStage gs (stage ∷ []) (q .staged) (stage-valid, tt)
+
+    stages-set : set (padded 4 noStage gs) n stage ≡ padded 4 noStage stages
+    stages-set = ap (λ (j : ℕ). set (padded 4 noStage gs) j stage) (sym long-5) ∙ set-padded 4 noStage gs stage (omega (arith, long-5, most-5, less-few))
+
+    stages-long : length stages ≡ n + 1
+    stages-long = snoc-length gs stage ∙ ap (λ (j : ℕ). j + 1) long-5
+
+    -- another stage comes: only in version 2
+    stage-next : n < s → Reads (nextStage n vs (padded 4 noStage gs) (padded 4 noTuple ts) x v) (beforeRow 5 n vs x + 16)
+    unfolding nextStage countFits versionFits stagesWhole tuplesWhole mostWhole dated deepened partRoom
+    stage-next h =
+        ⊎-elim
+        (λ (e : x .version ≡ 1). absurd (omega (arith, sound.deep-one n N d s t m z gs ts x 5 q e)))
+        (λ (e : x .version ≡ 2).
+        reads-at 4 (n + 1) d s 0 m z stages ts
+        (record {
+          set = q .set;
+          version = either-fits (x .version) 4 refl refl;
+          count = q .count;
+          most = omega arith;
+          long = stages-long;
+          staged = stages-valid;
+          many = q .many;
+          chain = q .chain;
+          values = values-of (x .version) 4 N d s 0 m z low (countHeld 5 q) (dateHeld 5 q) (deepHeld 5 q) (held-not false 0 15 refl) (limitHeld 5 q) (cycleHeld 5 q);
+        })
+        (omega arith) (ap (λ (l : List Stage). begun 4 (n + 1) (vals N d s 0 m z low) l (padded 4 noTuple ts) x) stages-set)
+        (before-more 5 4 16 (n + 1) (vals N d s 0 m z low) refl refl refl refl (ap (λ (y : ℕ). partRoom y s 4 (n + 1)) e ∙ (let u : 20 + 20 * (n + 1) ≡ 24 + 20 * n + 16 = omega arith in u) ∙ sym (ap (λ (y : ℕ). partRoom y s 5 n + 16) e))))
+        (q .set .either)
+
+    -- the last one: the deadline comes in version 1, the number of tuples in version 2
+    staged-on : (u g : ℕ) → x .version ≡ u → s ≤ n → g < 9 → behindOf u 5 ≡ g → versionFits u g ≡ true → countFits g (x .count) N ≡ countFits 5 (x .count) N → stagesWhole u s g 0 ≡ s + 1 → tuplesWhole g 0 ≡ 0 → within 2 g 16 ≡ true
+        → dated u 5 ≡ dated u g → deepened u 5 ≡ deepened u g → eqb g 5 ≡ false → within 7 g 8 ≡ false → eqb g 8 ≡ false → eqb g 0 ≡ false → eqb g 1 ≡ false → partRoom u s g 0 ≡ partRoom u s 5 n + 16
+        → Reads (lastStage n vs (padded 4 noStage gs) (padded 4 noTuple ts) x v) (beforeRow 5 n vs x + 16)
+    unfolding lastStage tuplesWhole
+    staged-on u g e h l a b c i j k o p y w aa bb cc' dd =
+        reads-at g 0 d s 0 m z stages ts
+        (record {
+          set = q .set;
+          version = ap (λ (y : ℕ). versionFits y g) e ∙ b;
+          count = c ∙ q .count;
+          most = omega arith;
+          long = stages-long ∙ (let f : n + 1 ≡ s + 1 = omega (arith, most-5) in f) ∙ sym (ap (λ (y : ℕ). stagesWhole y s g 0) e ∙ i);
+          staged = stages-valid;
+          many = q .many ∙ sym j;
+          chain = q .chain;
+          values =
+              values-of (x .version) g N d s 0 m z low (stays true (within 2 g 16) 0 16 N (sym k) (countHeld 5 q)) (stays (dated (x .version) 5) (dated (x .version) g) 1 200000 d (ap (λ (y : ℕ). dated y 5) e ∙ o ∙ sym (ap (λ (y : ℕ). dated y g) e)) (dateHeld 5 q))
+              (stays (deepened (x .version) 5) (deepened (x .version) g) 0 3 s (ap (λ (y : ℕ). deepened y 5) e ∙ p ∙ sym (ap (λ (y : ℕ). deepened y g) e)) (deepHeld 5 q)) (held-not (eqb g 5) 0 15 y)
+              (stays false (within 7 g 8) 0 3 m (sym w) (limitHeld 5 q)) (stays false (eqb g 8) 0 1000000 z (sym aa) (cycleHeld 5 q));
+        })
+        (omega arith)
+        (ap₂ (λ (y : ℕ) (l : List Stage). begun y 0 (vals N d s 0 m z low) l (padded 4 noTuple ts) x) (ap (λ (y : ℕ). behindOf y 5) e ∙ a) stages-set)
+        (before-more 5 g 16 0 (vals N d s 0 m z low) refl refl bb cc' (ap (λ (y : ℕ). partRoom y s g 0) e ∙ dd ∙ sym (ap (λ (y : ℕ). partRoom y s 5 n + 16) e)))
+
+    stage-last : s ≤ n → Reads (lastStage n vs (padded 4 noStage gs) (padded 4 noTuple ts) x v) (beforeRow 5 n vs x + 16)
+    unfolding behindOf countFits versionFits stagesWhole tuplesWhole dated deepened partRoom
+    stage-last h =
+        ⊎-elim
+        (λ (e : x .version ≡ 1). staged-on 1 2 e h (omega arith) refl refl refl refl refl refl refl refl refl refl refl refl refl refl)
+        (λ (e : x .version ≡ 2). staged-on 2 6 e h (omega arith) refl refl refl refl refl refl refl refl refl refl refl refl refl (let u : 40 + 20 * s ≡ 24 + 20 * n + 16 = omega (arith, most-5) in u))
+        (q .set .either)
+
+  step-cost : Step 5
+  unfolding goesOn inRuleOf leastOf greatestOf rowOf
+  step-cost q r =
+      cond-elim (λ (c : Carried). Reads c (beforeRow 5 n vs x + 16)) (ltb n s) (nextStage n vs (padded 4 noStage gs) (padded 4 noTuple ts) x v) (lastStage n vs (padded 4 noStage gs) (padded 4 noTuple ts) x v)
+      (λ e. stage-next q r (ltb-true n s e)) (λ e. stage-last q r (ltb-false n s e))
+
+  -- ---- a tuple is whole
+
+  module _ (q : Told 8) (r : within low v (greatestOf 8 n) ≡ true) where
+    abbrev tuple : TuplePlace
+    tuple = tupleOf z v
+
+    abbrev tuples : List TuplePlace
+    tuples = ts ++ (tuple ∷ [])
+
+    long-8 : length ts ≡ n
+    unfolding tuplesWhole
+    long-8 = q .many
+
+    most-8 : n ≤ m
+    unfolding mostWhole
+    most-8 = q .most
+
+    limit-few : m ≤ 3
+    limit-few = held-high 0 3 m (limitHeld 8 q)
+
+    offset-is : offsetAt tuple ≡ v
+    offset-is = offset-of z v
+
+    top-few : (l : List TuplePlace) → topOf 0 l ≤ 100000
+    top-few [] = omega arith
+    top-few (p ∷ l) = omega arith
+
+    in-order : within low (offsetAt tuple) (topOf 0 ts) ≡ true
+    in-order = ap₂ (λ (a b : ℕ). within low a b) offset-is (sym (ap (greatestOf 8) (sym long-8) ∙ top-is ts)) ∙ r
+
+    place : ValidPlace tuple
+    place = record { offset = omega (arith, within-high low (offsetAt tuple) (topOf 0 ts) in-order, top-few ts); cycle = cycle-of z v (held-high 0 1000000 z (cycleHeld 8 q)) }
+
+    chained : Chain 0 0 tuples
+    chained = chain-snoc 0 0 ts tuple (q .chain) in-order place
+
+    tuples-set : set (padded 4 noTuple ts) n tuple ≡ padded 4 noTuple tuples
+    tuples-set = ap (λ (j : ℕ). set (padded 4 noTuple ts) j tuple) (sym long-8) ∙ set-padded 4 noTuple ts tuple (omega (arith, long-8, most-8, limit-few))
+
+    tuples-long : length tuples ≡ n + 1
+    tuples-long = snoc-length ts tuple ∙ ap (λ (j : ℕ). j + 1) long-8
+
+    last-is : lastOf 0 tuples ≡ v
+    last-is = last-snoc 0 ts tuple ∙ offset-is
+
+    tuple-next : n < m → Reads (nextTuple n vs (padded 4 noStage gs) (padded 4 noTuple ts) x v) (beforeRow 8 n vs x + 17)
+    unfolding nextTuple countFits versionFits stagesWhole tuplesWhole mostWhole dated deepened partRoom
+    tuple-next h =
+        reads-at 7 (n + 1) d s t m 0 gs tuples
+        (record {
+          set = q .set;
+          version = either-fits (x .version) 7 refl refl;
+          count = q .count;
+          most = omega arith;
+          long = q .long;
+          staged = q .staged;
+          many = tuples-long;
+          chain = chained;
+          values = values-of (x .version) 7 N d s t m 0 (lastOf 0 tuples) (countHeld 8 q) (dateHeld 8 q) (deepHeld 8 q) (taskHeld 8 q) (limitHeld 8 q) (held-not false 0 1000000 refl);
+        })
+        (omega arith) (ap₂ (λ (a : ℕ) (l : List TuplePlace). begun 7 (n + 1) (vals N d s t m 0 a) (padded 4 noStage gs) l x) (sym last-is) tuples-set)
+        (before-more 8 7 17 (n + 1) (vals N d s t m 0 (lastOf 0 tuples)) refl refl refl refl (in-either (40 + 37 * (n + 1)) (60 + 37 * n) (42 + 20 * s + 37 * (n + 1)) (62 + 20 * s + 37 * n) 17 (omega arith) (omega arith) (eqb (x .version) 1)))
+
+    -- the stream is whole
+    long-stages : length gs ≡ s + 1
+    unfolding stagesWhole
+    long-stages = q .long
+
+    date-8 : within 1 d 200000 ≡ true
+    unfolding held
+    date-8 = stays (dated (x .version) 8) true 1 200000 d (dated-is (x .version) 8 true refl refl) (dateHeld 8 q)
+
+    deep-8 : s ≤ 3
+    deep-8 = sound.deep-few n N d s t m z gs ts x 8 q
+
+    abbrev stream : Stream
+    stream = streamOf gs d tuples
+
+    shallow : length gs ≤ 4
+    shallow = omega (arith, long-stages, deep-8)
+
+    few-tuples : length tuples ≤ 4
+    few-tuples = omega (arith, tuples-long, most-8, limit-few)
+
+    fine-stream : Fine (x .version) stream
+    fine-stream =
+        record {
+          valid = valid-stream stream (stream-ok gs d tuples shallow few-tuples (omega (arith, long-stages)) (q .staged) date-8 (omega (arith, tuples-long)) chained);
+          four = stream-four gs d tuples shallow few-tuples;
+          staged = λ e. long-stages ∙ ap (λ (j : ℕ). j + 1) (sound.deep-one n N d s t m z gs ts x 8 q e);
+        }
+
+    room-8 : x .count < N
+    unfolding countFits
+    room-8 = ltb-true (x .count) N (q .count)
+
+    count-8 : N ≤ 16
+    count-8 = held-high 0 16 N (countHeld 8 q)
+
+    same-stream : record { depth = s + 1; stages = padded 4 noStage gs; deadline = d; count = n + 1; tuples = set (padded 4 noTuple ts) n tuple } ≡ stream
+    same-stream =
+        ap₂ (λ (i j : ℕ). record { depth = i; stages = padded 4 noStage gs; deadline = d; count = j; tuples = set (padded 4 noTuple ts) n tuple }) (sym long-stages) (sym tuples-long)
+        ∙ ap (λ (l : List TuplePlace). record { depth = length gs; stages = padded 4 noStage gs; deadline = d; count = length tuples; tuples = l }) tuples-set
+
+    room-whole : (b : Bool) → (b ≡ true → s ≡ 0) → (k : ℕ) → 9 + (k + (cond b 20 22 + (20 * (s + 1) + 37 * (n + 1)))) ≡ 9 + k + cond b (60 + 37 * n) (62 + 20 * s + 37 * n) + 17
+    room-whole true e k = omega (arith, e refl)
+    room-whole false e k = omega arith
+
+    streams-are : streamsRoom (withStream x stream) ≡ streamsRoom x + (cond (eqb (x .version) 1) 20 22 + (20 * (s + 1) + 37 * (n + 1)))
+    unfolding streamRoom
+    streams-are =
+        room-streams x (q .set) stream fine-stream (omega (arith, room-8, count-8))
+        ∙ ap₂ (λ (i j : ℕ). streamsRoom x + (cond (eqb (x .version) 1) 20 22 + (20 * i + 37 * j))) long-stages tuples-long
+
+    stream-next : Reads (nextStream n vs (padded 4 noStage gs) (padded 4 noTuple ts) x v) (beforeRow 8 n vs x + 17)
+    unfolding nextStream beforeRow partRoom
+    stream-next =
+        reads-as (ap (λ (y : Stream). begun (openedOf (x .version) (x .count + 1) N) 0 (vals N 0 0 0 0 0 0) noStages noTuples (withStream x y)) same-stream)
+        (ap (λ (j : ℕ). 9 + j) streams-are ∙ room-whole (eqb (x .version) 1) (λ e. sound.deep-one n N d s t m z gs ts x 8 q (eqb-true (x .version) 1 e)) (streamsRoom x))
+        (reads-open N (withStream x stream) count-8 (streams-more x (q .set) stream fine-stream (omega (arith, room-8, count-8))) (omega (arith, room-8)))
+
+  step-offset : Step 8
+  unfolding goesOn inRuleOf leastOf rowOf
+  step-offset q r =
+      cond-elim (λ (c : Carried). Reads c (beforeRow 8 n vs x + 17)) (ltb n m) (nextTuple n vs (padded 4 noStage gs) (padded 4 noTuple ts) x v) (nextStream n vs (padded 4 noStage gs) (padded 4 noTuple ts) x v)
+      (λ e. tuple-next q r (ltb-true n m e)) (λ e. stream-next q r)
+
+  -- ---- padding
+
+  late-row : (f : ℕ) → 9 ≤ f → ltb f 3 || ltb 3 f ≡ true
+  late-row f h = ap₂ (λ (a b : Bool). a || b) (le-ltb f 3 (omega arith)) (lt-ltb 3 f (omega arith))
+
+  all-in : (f : ℕ) → 9 ≤ f → x .count ≡ N → countFits f (x .count) N ≡ true
+  unfolding countFits
+  all-in f h e = simp (outside 2 f 8 (omega arith)) (eq-eqb (x .count) N e)
+
+  pad-room : (f : ℕ) → 9 ≤ f → n ≡ 0 → s ≡ 0 → beforeRow (f + 1) 0 (vals N 0 0 0 0 0 0) x ≡ beforeRow f n vs x + 1
+  pad-room f h i e =
+      before-more f (f + 1) 1 0 (vals N 0 0 0 0 0 0) (ne-eqb f 0 (λ y. omega arith)) (ne-eqb f 1 (λ y. omega arith)) (ne-eqb (f + 1) 0 (λ y. omega arith)) (ne-eqb (f + 1) 1 (λ y. omega arith))
+      (padding-room (x .version) 0 (f + 1) 0 (omega arith) ∙ (let y : f + 1 - 9 ≡ f - 9 + 1 = omega arith in y) ∙ sym (ap (λ (y : ℕ). y + 1) (padding-room (x .version) s f n h)))
+
+  step-padding : (f : ℕ) → 9 ≤ f → f < 17 → Step f
+  unfolding lastOf
+  step-padding f a b q r =
+      let less : f < 16 = omega (arith, ltb-true (f - 9) 7 (and-parts (eqb v 0) (ltb (f - 9) 7) (sym (pad-rule f n low v a b) ∙ r) .1)) in
+      let i : n ≡ 0 = omega (arith, q .most, padding-most f vs a) in
+      let c : d ≡ 0 = held-zero 1 200000 d (stays (dated (x .version) f) false 1 200000 d (dated-is (x .version) f false (outside 6 f 8 (omega arith)) (outside 3 f 8 (omega arith))) (dateHeld f q)) in
+      let e : s ≡ 0 = held-zero 0 3 s (stays (deepened (x .version) f) false 0 3 s (deep-none (x .version) f (outside 4 f 8 (omega arith))) (deepHeld f q)) in
+      let g : t ≡ 0 = held-zero 0 15 t (stays (eqb f 5) false 0 15 t (ne-eqb f 5 (λ y. omega arith)) (taskHeld f q)) in
+      let h : m ≡ 0 = held-zero 0 3 m (stays (within 7 f 8) false 0 3 m (outside 7 f 8 (omega arith)) (limitHeld f q)) in
+      let j : z ≡ 0 = held-zero 0 1000000 z (stays (eqb f 8) false 0 1000000 z (ne-eqb f 8 (λ y. omega arith)) (cycleHeld f q)) in
+      let k : gs ≡ [] = none-of gs (q .long ∙ padding-stages (x .version) s f n a) in
+      let o : ts ≡ [] = none-of ts (q .many ∙ padding-tuples f n a) in
+      let few : N ≤ 16 = held-high 0 16 N (stays (within 2 f 16) true 0 16 N (within-is 2 f 16 (omega arith) (omega arith)) (countHeld f q)) in
+      let u : x .count ≡ N = eqb-true (x .count) N (sound.all-read n N d s t m z gs ts x f a q) in
+      let w : widthOf f ≡ 1 = omega (arith, width-pad f a, width-some f b) in
+      reads-as
+      (goes-pad f n vs (padded 4 noStage gs) (padded 4 noTuple ts) x v a
+      ∙ ap (λ (l : List ℕ). begun (f + 1) n l (padded 4 noStage gs) (padded 4 noTuple ts) x) (set-out vs f v a)
+      ∙ ap₂ (λ (l : List Stage) (y : List TuplePlace). begun (f + 1) n (vals N d s t m z (lastOf 0 y)) (padded 4 noStage l) (padded 4 noTuple y) x) k o
+      ∙ ap₂ (λ (y : ℕ) (l : List ℕ). begun (f + 1) y l noStages noTuples x) i (cc))
+      (pad-room f a i e ∙ ap (λ (y : ℕ). beforeRow f n vs x + y) (sym w))
+      (zero-at N x few (q .set) (f + 1) (omega arith) (either-fits (x .version) (f + 1) (late-row (f + 1) (omega arith)) (within-is 1 (f + 1) 16 (omega arith) (omega arith))) (all-in (f + 1) (omega arith) u)
+      (padding-stages (x .version) 0 (f + 1) 0 (omega arith)) (padding-tuples (f + 1) 0 (omega arith)) (within-is 2 (f + 1) 16 (omega arith) (omega arith))
+      (dated-is (x .version) (f + 1) false (outside 6 (f + 1) 8 (omega arith)) (outside 3 (f + 1) 8 (omega arith))) (deep-none (x .version) (f + 1) (outside 4 (f + 1) 8 (omega arith))) (ne-eqb (f + 1) 5 (λ y. omega arith))
+      (outside 7 (f + 1) 8 (omega arith)) (ne-eqb (f + 1) 8 (λ y. omega arith)))
