@@ -18,7 +18,7 @@ use Rattle.rules.specs.declared.TuplePlace.{TuplePlace}
 use Rattle.rules.specs.declared.Stage.{Stage}
 use Rattle.rules.specs.declared.Stream.{Stream}
 use Rattle.rules.specs.declared.Set.{Set}
-use Rattle.rules.specs.Streams.{noStage, noStream, noTuple, offsetAt, streamsOf}
+use Rattle.rules.specs.Streams.{noStage, noStream, noTuple, offsetAt, streamOk, streamsOf}
 use Rattle.rules.specs.Sheet.{setOf, streamOf, tupleOf}
 use Rattle.rules.specs.Valid.{Between, ValidPlace, ValidStage}
 use Rattle.rules.proofs.Valid.{valid-stream}
@@ -605,10 +605,14 @@ module _ (n N d s t m z : ℕ) (gs : List Stage) (ts : List TuplePlace) (x : Set
     few-tuples : length tuples ≤ 4
     few-tuples = omega (arith, tuples-long, most-8, limit-few)
 
+    passes : streamOk stream ≡ true
+    passes = stream-ok gs d tuples shallow few-tuples (omega (arith, long-stages)) (q .staged) date-8 (omega (arith, tuples-long)) chained
+
     fine-stream : Fine (x .version) stream
     fine-stream =
         record {
-          valid = valid-stream stream (stream-ok gs d tuples shallow few-tuples (omega (arith, long-stages)) (q .staged) date-8 (omega (arith, tuples-long)) chained);
+          ok = passes;
+          valid = valid-stream stream passes;
           four = stream-four gs d tuples shallow few-tuples;
           staged = λ e. long-stages ∙ ap (λ (j : ℕ). j + 1) (sound.deep-one n N d s t m z gs ts x 8 q e);
         }
@@ -687,3 +691,9 @@ module _ (n N d s t m z : ℕ) (gs : List Stage) (ts : List TuplePlace) (x : Set
       (padding-stages (x .version) 0 (f + 1) 0 (omega arith)) (padding-tuples (f + 1) 0 (omega arith)) (within-is 2 (f + 1) 16 (omega arith) (omega arith))
       (dated-is (x .version) (f + 1) false (outside 6 (f + 1) 8 (omega arith)) (outside 3 (f + 1) 8 (omega arith))) (deep-none (x .version) (f + 1) (outside 4 (f + 1) 8 (omega arith))) (ne-eqb (f + 1) 5 (λ y. omega arith))
       (outside 7 (f + 1) 8 (omega arith)) (ne-eqb (f + 1) 8 (λ y. omega arith)))
+
+  pub step-row : (f : ℕ) → f < 17 → Step f
+  step-row f h =
+      by-test (ltb f 9)
+      (λ e. by-value-row Step step-version step-count step-deadline step-stages step-task step-cost step-tuples step-cycle step-offset f (ltb-true f 9 e))
+      (λ e. step-padding f (ltb-false f 9 e) h)

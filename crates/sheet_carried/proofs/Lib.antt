@@ -9,3 +9,4 @@ pub mod Reached
 pub mod Streamed
 pub mod Sound
 pub mod Complete
+pub mod Exact

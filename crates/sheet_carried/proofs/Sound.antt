@@ -18,10 +18,10 @@ use Rattle.rules.specs.declared.TuplePlace.{TuplePlace}
 use Rattle.rules.specs.declared.Stage.{Stage}
 use Rattle.rules.specs.declared.Stream.{Stream}
 use Rattle.rules.specs.declared.Set.{Set}
-use Rattle.rules.specs.Streams.{FourPlaces, Placed, emptySet, noStage, noStream, noStreams, noTuple, offsetAt, oneStage, stageOk, stageUnused, streamsOf, tupleUnused, tuplesOk}
+use Rattle.rules.specs.Streams.{FourPlaces, Placed, emptySet, noStage, noStream, noStreams, noTuple, offsetAt, oneStage, setTests, stageOk, stageUnused, streamOk, streamsOf, tupleUnused, tuplesOk, valid}
 use Rattle.rules.specs.Sheet.{setOf}
-use Rattle.rules.specs.Valid.{Between, FirstZero, ValidSet, ValidStage, ValidStream}
-use Rattle.rules.proofs.Valid.{valid-set, valid-stage}
+use Rattle.rules.specs.Valid.{Between, FirstZero, ValidSet, ValidStage}
+use Rattle.rules.proofs.Valid.{valid-set, valid-stage, valid-stream}
 use Rattle.sheet_carried.specs.declared.Carried.{Carried}
 use Rattle.sheet_carried.specs.Table.{behindOf, openedOf, widthOf, inRuleOf}
 use Rattle.sheet_carried.specs.Reader.{begun, goesOn, noStages, noTuples, noValues, reading, refusedOf, startOf, valueAt}
@@ -91,6 +91,9 @@ none-of [] e = refl
 none-of (a ∷ l) e = absurd (omega arith)
 
 -- ---- what the tests say of a state before the row f
+
+abbrev Passed : Stream → Type 0
+Passed s = streamOk s ≡ true
 
 -- of the streams that are whole
 pub record Streams (x : Set) : Type 0 where
@@ -423,15 +426,15 @@ module _ (n N d s t m z : ℕ) (gs : List Stage) (ts : List TuplePlace) (x : Set
 
 -- ---- all that the test says
 
-cond-left : (b a : Bool) → cond b a false ≡ true → b ≡ true
+pub cond-left : (b a : Bool) → cond b a false ≡ true → b ≡ true
 cond-left true a e = refl
 cond-left false a e = e
 
-cond-right : (b a : Bool) → cond b a false ≡ true → a ≡ true
+pub cond-right : (b a : Bool) → cond b a false ≡ true → a ≡ true
 cond-right true a e = e
 cond-right false a e = absurd (false≢true e)
 
-or-parts : (a b : Bool) → a || b ≡ true → (a ≡ true) ⊎ (b ≡ true)
+pub or-parts : (a b : Bool) → a || b ≡ true → (a ≡ true) ⊎ (b ≡ true)
 or-parts true b e = inl refl
 or-parts false b e = inr e
 
@@ -529,6 +532,10 @@ module _ (f n N d s t m z low a h : ℕ) (gs : List Stage) (ts : List TuplePlace
         let k : low ≡ lastOf 0 (take J ts) = low-is in
         cc
 
+    streams-pass : All Passed (streamsOf x)
+    unfolding valid
+    streams-pass = all-All streamOk Passed (λ y v. v) (streamsOf x) (every-all (setTests x) (tests .0) .1 .0)
+
     streams-held : Holds 16 noStream (x .count) (x .streams)
     streams-held = set-holds x set-valid placed
 
@@ -541,7 +548,7 @@ module _ (f n N d s t m z low a h : ℕ) (gs : List Stage) (ts : List TuplePlace
                 either = set-either;
                 whole = whole-set x streams-held;
                 fine =
-                    all-zip ValidStream (λ (y : Stream). FourPlaces y × Staged (x .version) y) (Fine (x .version)) (streamsOf x) (λ y v w. record { valid = v; four = w .0; staged = w .1 }) (set-valid .streams)
+                    all-zip Passed (λ (y : Stream). FourPlaces y × Staged (x .version) y) (Fine (x .version)) (streamsOf x) (λ y v w. record { ok = v; valid = valid-stream y v; four = w .0; staged = w .1 }) streams-pass
                     (all-zip FourPlaces (Staged (x .version)) (λ (y : Stream). FourPlaces y × Staged (x .version) y) (streamsOf x) (λ y v w. (v, w)) (all-take FourPlaces (x .count) (x .streams) (placed .four)) (set-staged x set-valid));
                 used = streams-held .used;
               };

@@ -17,7 +17,7 @@ use Rattle.rules.specs.declared.TuplePlace.{TuplePlace}
 use Rattle.rules.specs.declared.Stage.{Stage}
 use Rattle.rules.specs.declared.Stream.{Stream}
 use Rattle.rules.specs.declared.Set.{Set}
-use Rattle.rules.specs.Streams.{noStage, noStream, noStreams, noTuple, stagesOf, tuplesOf, FourPlaces}
+use Rattle.rules.specs.Streams.{FourPlaces, noStage, noStream, noStreams, noTuple, stagesOf, streamOk, tuplesOf}
 use Rattle.rules.specs.Sheet.{setOf, streamOf}
 use Rattle.rules.specs.Valid.{Between, ValidStage, ValidStream}
 use Rattle.sheet_carried.specs.declared.Carried.{Carried}
@@ -125,6 +125,7 @@ module _ (N : ℕ) (x : Set) where
 
 -- a stream of a set of the version
 pub record Fine (version : ℕ) (s : Stream) : Type 0 where
+  pub ok : streamOk s ≡ true
   pub valid : ValidStream s
   pub four : FourPlaces s
   pub staged : Staged version s

@@ -6,16 +6,19 @@ use mathlib.Core.List.{List, [], _∷_}
 use mathlib.Core.Path.{_≡_}
 use lib.ListN.{length, getD, take, drop}
 use lib.Dec.{eqb, leb, ltb}
-use Rattle.laws.specs.Lists.{all, every, sum, within}
+use mathlib.Core.Logic.{_↔_}
+use Rattle.laws.specs.Lists.{All, all, every, sum, within}
+use Rattle.laws.specs.Bits.{bits}
 use Rattle.rules.specs.declared.TuplePlace.{TuplePlace}
 use Rattle.rules.specs.declared.Stage.{Stage}
 use Rattle.rules.specs.declared.Stream.{Stream}
 use Rattle.rules.specs.declared.Set.{Set}
 use Rattle.rules.specs.Streams.{Placed, noTuple, offsetAt, stageOk, stageUnused, streamsOf, tupleUnused, tuplesOk, valid}
+use Rattle.rules.specs.Pieces.{Byte}
 use Rattle.sheet_carried.specs.declared.Point.{Point}
 use Rattle.sheet_carried.specs.declared.Carried.{Carried}
 use Rattle.sheet_carried.specs.Table.{atCost, atCount, atCycle, atDeadline, atOffset, atPadding, atRefused, atStages, atTask, atTuples, atVersion, rows, widthOf}
-use Rattle.sheet_carried.specs.Reader.{valueAt}
+use Rattle.sheet_carried.specs.Reader.{run, startOf, valueAt}
 use Rattle.sheet_carried.specs.Kept.{mostWhole, stagesWhole, tuplesWhole}
 
 -- What the types say of the arrays: every carried state that a program holds is so.
@@ -144,3 +147,14 @@ fits c = pointFits (c .point) && keptFits (c .point .row) (c .point .whole) (c .
 
 unfoldable pub couldBeLeft : Carried → Bool
 couldBeLeft c = cond (fits c) (wholeBytes c) false
+
+-- ---- what it is to say: some bytes leave it from the start
+
+pub record Left (c : Carried) : Type 0 where
+  pub came : List ℕ
+  pub are : All Byte came
+  pub leads : run startOf (bits came) ≡ c
+
+-- "12 for a carried state that no pieces could have left": both directions
+unfoldable pub LeftExactly : Type 0
+LeftExactly = (c : Carried) → Boxed c → couldBeLeft c ≡ true ↔ Left c
