@@ -85,9 +85,9 @@ module _ (f n : ℕ) (vs : List ℕ) (gs : List Stage) (ts : List TuplePlace) (x
       (λ h. let small : f < 17 = ltb-true f 17 h in
       let width : 0 < widthOf f = width-some f small in
       let left : 0 < l =
-          ⊎-elim (λ (q : ltb 0 l ≡ true). ltb-true 0 l q) (λ (q : eqb (widthOf f) 0 ≡ true). absurd (omega (arith, eqb-true (widthOf f) 0 q))) (or-parts (ltb 0 l) (eqb (widthOf f) 0) some) in
+      ⊎-elim (λ (q : ltb 0 l ≡ true). ltb-true 0 l q) (λ (q : eqb (widthOf f) 0 ≡ true). absurd (omega (arith, eqb-true (widthOf f) 0 q))) (or-parts (ltb 0 l) (eqb (widthOf f) 0) some) in
       let even : eqb ((beforeRow f n vs x + (widthOf f - l)) % 8) 0 ≡ true =
-          ⊎-elim (λ (q : leb 17 f ≡ true). absurd (omega (arith, leb-true 17 f q))) (λ (q : eqb ((beforeRow f n vs x + (widthOf f - l)) % 8) 0 ≡ true). q) (or-parts (leb 17 f) (eqb ((beforeRow f n vs x + (widthOf f - l)) % 8) 0) whole) in
+      ⊎-elim (λ (q : leb 17 f ≡ true). absurd (omega (arith, leb-true 17 f q))) (λ (q : eqb ((beforeRow f n vs x + (widthOf f - l)) % 8) 0 ≡ true). q) (or-parts (leb 17 f) (eqb ((beforeRow f n vs x + (widthOf f - l)) % 8) 0) whole) in
       byte-string state (beforeRow f n vs x + (widthOf f - l))
       (by-values (λ (us : List ℕ). keptFits f n us gs ts x ≡ true → Reached (reading f n us gs ts x a l) (beforeRow f n us x + (widthOf f - l)))
       (λ b N d s t i m z low q. fits-reached f n N d s t m z low b i gs ts x four places placed q a l small left le came) vs nine e)
@@ -305,13 +305,13 @@ stands-pass c k e w =
     let f : ℕ = q .f in
     let vs : List ℕ = vals (q .N) (q .d) (q .s) (q .t) (q .m) (q .z) (lastOf 0 (q .ts)) in
     let point : pointFits (record { row = f; whole = q .n; acc = w .acc; left = w .left }) ≡ true =
-        every-of (pointTests (record { row = f; whole = q .n; acc = w .acc; left = w .left })) (
-          lt-ltb f 20 (omega (arith, q .row)),
-          (
-            le-leb (w .left) (widthOf f) (w .le),
-            (ap (λ (a : Bool). a || eqb (widthOf f) 0) (lt-ltb 0 (w .left) (w .some)), (lt-ltb (w .acc) (2 ^ (widthOf f - w .left)) (w .came), tt)),
-          ),
-        ) in
+    every-of (pointTests (record { row = f; whole = q .n; acc = w .acc; left = w .left })) (
+      lt-ltb f 20 (omega (arith, q .row)),
+      (
+        le-leb (w .left) (widthOf f) (w .le),
+        (ap (λ (a : Bool). a || eqb (widthOf f) 0) (lt-ltb 0 (w .left) (w .some)), (lt-ltb (w .acc) (2 ^ (widthOf f - w .left)) (w .came), tt)),
+      ),
+    ) in
     let kept : keptFits f (q .n) vs (padded 4 noStage (q .gs)) (padded 4 noTuple (q .ts)) (q .x) ≡ true = said-fits f (q .n) (q .N) (q .d) (q .s) (q .t) (q .m) (q .z) (q .gs) (q .ts) (q .x) (q .said) in
     let came : beforeRow f (q .n) vs (q .x) + (widthOf f - w .left) ≡ k = ap (λ (i : ℕ). i + (widthOf f - w .left)) (q .room) ∙ w .long in
     ap couldBeLeft (w .same)

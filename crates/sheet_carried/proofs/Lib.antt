@@ -10,3 +10,5 @@ pub mod Streamed
 pub mod Sound
 pub mod Complete
 pub mod Exact
+pub mod Ways
+pub mod Counted

@@ -1,4 +1,9 @@
 // What the reader of a sheet carries between two pieces, and which of it pieces can have left.
+mod counting; // counting.rt: how many bits have come
+mod fitting; // fitting.rt: what is kept is in its rules
+
+ghost use mathlib.Core.Path.{_≡_};
+ghost use Rattle.sheet_carried.specs.Left.{couldBeLeft};
 use rules::Set;
 use rules::Stage;
 use rules::TuplePlace;
@@ -33,3 +38,15 @@ pub struct Carried {
     pub set: Set,
 }
 
+// ---- the test
+
+// Could some pieces have left this? The bits that have come are counted only of what is in its rules.
+pub fn could_be_left(c: Carried) -> bool
+    ensures { λ r. ⌜ r ≡ couldBeLeft c ⌝ }
+{
+    if fitting::fits(c) {
+        counting::whole_bytes(c)
+    } else {
+        false
+    }
+}

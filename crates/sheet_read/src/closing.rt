@@ -3,12 +3,12 @@ ghost use mathlib.Core.Path.{_≡_};
 ghost use Rattle.sheet_carried.specs.Table.{answerOf};
 ghost use Rattle.sheet_carried.specs.Reader.{closeOf};
 ghost use Rattle.sheet_carried.specs.Kept.{Kept};
-use sheet_carried::Carried;
 use crate::feeding;
 use crate::table;
 use rules::ReadAnswer;
 use rules::ReadResult;
 use rules::Refusal;
+use sheet_carried::Carried;
 
 fn answer(f: usize) -> ReadAnswer
     ensures { λ r. ⌜ r ≡ answerOf f ⌝ }

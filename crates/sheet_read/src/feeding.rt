@@ -6,8 +6,6 @@ ghost use Rattle.rules.specs.Streams.{emptySet, noStream};
 ghost use Rattle.rules.specs.Sheet.{tupleOf};
 ghost use Rattle.sheet_carried.specs.Reader.{frontOf, joinedOf, noStages, noTuples, refusedOf, run, stageIn, startOf, streamIn};
 ghost use Rattle.sheet_carried.specs.Kept.{Holds, Kept};
-use sheet_carried::Carried;
-use sheet_carried::Point;
 use crate::table;
 use bits::Gathered;
 use rules::Set;
@@ -15,6 +13,8 @@ use rules::Stage;
 use rules::Stream;
 use rules::Tuple;
 use rules::TuplePlace;
+use sheet_carried::Carried;
+use sheet_carried::Point;
 
 // ---- stages, tuples and streams
 
