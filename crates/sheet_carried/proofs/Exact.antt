@@ -324,7 +324,7 @@ stands-pass c k e w =
     or-true true = refl
     or-true false = refl
 
-complete : (c : Carried) → Left c → couldBeLeft c ≡ true
+pub complete : (c : Carried) → Left c → couldBeLeft c ≡ true
 complete c l =
     subst (λ (y : Carried). couldBeLeft y ≡ true) (l .leads)
     (⊎-elim (λ (w : Stands (run startOf (bits (l .came))) (0 + length (bits (l .came)))). stands-pass (run startOf (bits (l .came))) (0 + length (bits (l .came))) (omega (arith, bits-length (l .came))) w)

@@ -1,2 +1,3 @@
 pub mod ByField
 pub mod Turns
+pub mod Pieces
