@@ -26,8 +26,8 @@ use Rattle.rules.specs.Streams.{FourPlaces, Placed, cycleOk, noStage, noStream,
 use Rattle.rules.specs.Sheet.{field, headBits, inRule, noSet, placeBits, readDeadline, readEnd, readHead, readStages, readStream, readStreams, readTuples, setOf, stageBits, streamBits, streamOf, tupleBits, tupleOf}
 use Rattle.rules.specs.Valid.{Between, ValidCycle, ValidStage}
 use Rattle.sheet_carried.proofs.Filled.{cond-elim}
-use Rattle.sheet_carried.proofs.Whole.{Staged}
-use Rattle.sheet_write.proofs.Back.{Chain, costNext, countNext, cycleNext, deadlineNext, headBy, headNext, offsetNext, readHeadBy, taskNext, tuplesNext}
+use Rattle.sheet_carried.proofs.Streams.{Chain, GoodStream, cycle-of, offset-of, set-ok, set-placed, stream-four, stream-ok, streams-of, within-high, within-low}
+use Rattle.sheet_write.proofs.Back.{costNext, countNext, cycleNext, deadlineNext, headBy, headNext, offsetNext, readHeadBy, taskNext, tuplesNext}
 
 -- ---- the bits of what was read
 

@@ -27,6 +27,7 @@ use Rattle.rules.specs.Streams.{FourPlaces, Placed, cycleOk, offset, offsetAt, 
 use Rattle.rules.specs.Sheet.{field, headBits, inRule, isZero, noSet, placeBits, readBits, readDeadline, readEnd, readHead, readOf, readStages, readStream, readStreams, readTuples, setOf, sheetBits, sheetOf, stageBits, streamBits, streamOf, tupleBits, tupleOf}
 use Rattle.rules.specs.Valid.{Between, FirstZero, ValidCycle, ValidPlace, ValidSet, ValidStage, ValidStream}
 use Rattle.rules.proofs.Valid.{valid-place, valid-set}
+use Rattle.sheet_carried.proofs.Streams.{Chain, chain-first, within-is}
 use Rattle.sheet_carried.proofs.Whole.{Staged, set-holds, set-staged, stream-holds, version-within, whole-set, whole-stream}
 
 -- a field that was written is read: one law for every width
