@@ -2,11 +2,12 @@
 
 use std::fmt::Write;
 
+use crate::cable::Carried;
 use crate::load;
 use crate::recording::{self, Place};
 use crate::refusal::Refusal;
 use crate::replay;
-use crate::requests::{REPLAY, STAGES};
+use crate::requests::{PIECES, REPLAY, STAGES};
 use crate::set::{self, Set, Stage, Stream, Tuple, STAGE_PLACES, STREAM_PLACES, TUPLE_PLACES};
 use crate::sheet;
 use crate::state::{Message, State, MESSAGE_PLACES};
@@ -23,7 +24,7 @@ pub const LONGEST_RECORDING: usize = 1_024;
 
 /// "The console holds a set (at first the empty set) and a state (at first the start of the empty
 /// set)." Of request 1 it holds "the recording that is replayed" ("At first it is empty.") and the
-/// reader's place.
+/// reader's place; of request 5 the carried state.
 #[derive(Clone, Debug, PartialEq, Eq)]
 pub struct Console {
     /// The requests that are in force: all up to this number.
@@ -36,6 +37,8 @@ pub struct Console {
     pub recording: Vec<u8>,
     /// The reader's place.
     pub place: Place,
+    /// The carried state.
+    pub carried: Carried,
 }
 
 /// "Each request's commands come with its landing." The request that brings a command, 0 for every
@@ -44,6 +47,7 @@ fn request_of(name: &[u8]) -> u32 {
     match name {
         b"recording" | b"next" | b"reader" | b"where" | b"record" => REPLAY,
         b"version" | b"stages" | b"stage" | b"staged" => STAGES,
+        b"cable" | b"feed" | b"close" => PIECES,
         _ => 0,
     }
 }
@@ -64,6 +68,7 @@ impl Console {
             state: State::EMPTY,
             recording: Vec::new(),
             place: Place::START,
+            carried: Carried::start(),
         }
     }
 
@@ -97,6 +102,7 @@ impl Console {
             b"read" => return self.read(rest),
             b"recording" => return self.take_recording(rest),
             b"record" => return record(rest),
+            b"feed" => return self.feed(rest),
             _ => {}
         }
         let numbers: Vec<u32> = rest
@@ -198,6 +204,11 @@ impl Console {
                 };
                 put()
             }
+            (b"cable", []) => {
+                self.carried = Carried::start();
+                put()
+            }
+            (b"close", []) => Some(self.close()),
             (b"where", []) => Some(format!("at {} {}", self.place.byte, self.place.bit)),
             _ => None,
         }
@@ -206,7 +217,13 @@ impl Console {
     /// "`read HEX`: reads the bytes as a sheet. Prints `set N` with the number of streams, and the
     /// set becomes the one read; or `refused N`, and the set becomes the empty set."
     fn read(&mut self, words: &[&[u8]]) -> Option<String> {
-        Some(match sheet::read(&hex_argument(words)?, self.requests) {
+        let read = sheet::read(&hex_argument(words)?, self.requests);
+        Some(self.take_set(read))
+    }
+
+    /// What `read` prints and does with the set.
+    fn take_set(&mut self, read: Result<Set, Refusal>) -> String {
+        match read {
             Ok(set) => {
                 self.set = set;
                 format!("set {}", set.count)
@@ -215,7 +232,21 @@ impl Console {
                 self.set = Set::EMPTY;
                 refusal.to_string()
             }
-        })
+        }
+    }
+
+    /// "`feed HEX`: feeds a piece; prints `fed` or `refused 12`."
+    fn feed(&mut self, words: &[&[u8]]) -> Option<String> {
+        self.carried.feed(&hex_argument(words)?);
+        Some("fed".to_string())
+    }
+
+    /// "`close`: prints what `read` prints for the joined bytes and does what it does with the
+    /// set, and the carried state is new again".
+    fn close(&mut self) -> String {
+        let read = self.carried.close(self.requests);
+        self.carried = Carried::start();
+        self.take_set(read)
     }
 
     /// "`write LEN`: writes the set's sheet into a buffer of LEN bytes [...], each 170 before.

@@ -16,11 +16,13 @@
 //! - [`trace`]: the trace program
 //! - [`recording`]: recordings of calls, and the cab's recorder (request 1)
 //! - [`replay`]: replay of a recording, step by step and whole (request 1)
+//! - [`cable`]: a sheet that comes in pieces (request 5)
 //! - [`console`]: the console program
 
 #![forbid(unsafe_code)]
 #![warn(missing_docs)]
 
+pub mod cable;
 pub mod console;
 pub mod load;
 pub mod recording;

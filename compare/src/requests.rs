@@ -7,7 +7,7 @@
 pub const IN_FORCE: u32 = 4;
 
 /// The last request that is rendered here. Those above [`IN_FORCE`] wait for their landing.
-pub const RENDERED: u32 = STAGES;
+pub const RENDERED: u32 = PIECES;
 
 /// "CR 1. Replay a cab's recording in the office."
 pub const REPLAY: u32 = 1;
@@ -17,6 +17,8 @@ pub const JITTER_BOTH_WAYS: u32 = 2;
 pub const LESS_STACK: u32 = 3;
 /// "CR 4. Stages for the boom message."
 pub const STAGES: u32 = 4;
+/// "CR 5. Sheets over the service cable."
+pub const PIECES: u32 = 5;
 
 /// The number that a program goes by, and its other arguments: [`IN_FORCE`], or, for trying, N
 /// where the last arguments are `--requests N`. None if request N is not rendered here.

@@ -3,9 +3,11 @@
 #![forbid(unsafe_code)]
 
 mod batch_mode;
+mod cable_mode;
 mod cases;
 mod console_mode;
 mod ontime_mode;
+mod pieces;
 mod plays;
 mod process_mode;
 mod programs;
@@ -32,6 +34,8 @@ compare many BIN CASES SEED     the program BIN of many cases against the librar
 compare damaged BIN CASES SEED  the program BIN of many cases against the library, on damaged sheets
 compare replay BIN CASES SEED   the replay program BIN against the library
 compare record BIN CASES SEED   the record program BIN against the library
+compare pieces BIN SHEETS SEED  the console program BIN on sheets that come in pieces
+compare cable BIN CASES SEED    the cable program BIN against the library
 compare batch CASES SEED DIR    writes DIR/cases.bin and DIR/expected.txt
 compare answers FILE            prints what is expected of the stored cases in FILE
 compare answers-replay FILE     the same of cases with recordings
@@ -74,10 +78,19 @@ fn run(arguments: &[&str], requests: u32) -> Option<io::Result<bool>> {
             let program = kind.in_force(requests).and_then(|()| Program::at(program));
             Some(program.and_then(|p| process_mode::compare(&kind, &p, requests, cases, seed)))
         }
-        ["console", program, lines, seed] => {
-            let (lines, seed) = (number(lines)?, number(seed)?);
-            let program = Program::at(program);
-            Some(program.and_then(|p| console_mode::compare(&p, requests, lines, seed)))
+        [which @ ("console" | "pieces"), program, count, seed] => {
+            let (count, seed) = (number(count)?, number(seed)?);
+            let kind = match *which {
+                "console" => console_mode::CONSOLE,
+                _ => console_mode::PIECES,
+            };
+            let program = kind.in_force(requests).and_then(|()| Program::at(program));
+            Some(program.and_then(|p| console_mode::compare(&kind, &p, requests, count, seed)))
+        }
+        ["cable", program, cases, seed] => {
+            let (cases, seed) = (number(cases)?, number(seed)?);
+            let program = cable_mode::in_force(requests).and_then(|()| Program::at(program));
+            Some(program.and_then(|p| cable_mode::compare(&p, requests, cases, seed)))
         }
         [which @ ("many" | "damaged"), program, cases, seed] => {
             let (cases, seed) = (number(cases)?, number(seed)?);

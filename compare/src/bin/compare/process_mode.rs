@@ -101,13 +101,7 @@ pub const RECORD: Kind = Kind {
 impl Kind {
     /// Nothing, or that the request that brings the program is not in force.
     pub fn in_force(&self, requests: u32) -> io::Result<()> {
-        if self.request <= requests {
-            return Ok(());
-        }
-        let Kind { name, request, .. } = self;
-        Err(io::Error::other(format!(
-            "request {request}, which brings the program {name}, is not in force"
-        )))
+        programs::in_force(self.name, self.request, requests)
     }
 }
 
@@ -141,34 +135,15 @@ pub fn compare(
         let expected = (kind.expected)(&case, requests);
         let piece = random.pick(&[5, 64, usize::MAX, usize::MAX]);
         let found = run_case(program, &folder, &case, piece)?;
-        add(&mut totals, &expected.counts);
+        programs::add(&mut totals, &expected.counts);
         if found != expected.output {
             report(kind, seed, number, &case, &expected.output, &found)?;
-            say_totals(number + 1, &totals, 1);
+            programs::say_totals(number + 1, "cases", &totals, 1);
             return Ok(false);
         }
     }
-    say_totals(cases, &totals, 0);
+    programs::say_totals(cases, "cases", &totals, 0);
     Ok(true)
-}
-
-/// Adds the counts of a case to those of the cases before it.
-fn add(totals: &mut Vec<(&'static str, u64)>, counts: &[(&'static str, u64)]) {
-    if totals.is_empty() {
-        totals.extend(counts);
-    } else {
-        for (total, count) in totals.iter_mut().zip(counts) {
-            total.1 += count.1;
-        }
-    }
-}
-
-fn say_totals(cases: u64, totals: &[(&str, u64)], differ: u64) {
-    let mut line = format!("{cases} cases");
-    for (name, count) in totals {
-        line += &format!(", {count} {name}");
-    }
-    println!("{line}, {differ} differ");
 }
 
 /// Runs the program with the case's set.bin, or without one, and its input in pieces.
@@ -223,7 +198,7 @@ mod tests {
         let mut totals = Vec::new();
         for number in 0..200 {
             let case = (kind.make)(&mut Random::for_case(1, number), RENDERED);
-            add(&mut totals, &(kind.expected)(&case, RENDERED).counts);
+            programs::add(&mut totals, &(kind.expected)(&case, RENDERED).counts);
         }
         totals
     }

@@ -4,18 +4,22 @@
 //! scene knows the set and the state it has in hand. Scenes never look at what the first program
 //! answers.
 
+mod about_cables;
 mod about_recordings;
 mod about_sets;
 mod about_states;
 mod odd_lines;
 
 use second::console::Console;
-use second::requests::{REPLAY, STAGES};
+use second::requests::{PIECES, REPLAY, STAGES};
 use second::set::{Set, GREATEST_COST, GREATEST_CYCLE, GREATEST_DEADLINE, GREATEST_OFFSET};
 use second::state::{State, LAST_CLOCK};
 
+use crate::console_mode::Made;
 use crate::random::Random;
 use crate::sets;
+
+use about_cables::Fed;
 
 /// A line of a script, without its newline, and all that it prints.
 pub struct Line {
@@ -25,21 +29,49 @@ pub struct Line {
 
 /// A script of at least so many lines, with the requests up to a number in force.
 pub fn make(random: &mut Random, requests: u32, at_least: usize) -> Vec<Line> {
-    let mut script = Script {
-        random,
-        console: Console::new(requests),
-        lines: Vec::new(),
-    };
+    let mut script = Script::new(random, requests);
     while script.lines.len() < at_least {
         script.scene();
     }
     script.lines
 }
 
+/// A script of so many sheets that are cut into pieces, with the requests up to a number in force.
+pub fn in_pieces(random: &mut Random, requests: u32, sheets: u64) -> Made {
+    let mut script = Script::new(random, requests);
+    let mut fed = Fed::default();
+    for _ in 0..sheets {
+        script.sheet_in_pieces(&mut fed);
+    }
+    let [missing, version, rule, behind] = fed.refused;
+    Made {
+        script: script.lines,
+        count: sheets,
+        others: vec![
+            ("refused with 5", missing),
+            ("with 6", version),
+            ("with 7", rule),
+            ("with 10", behind),
+            ("pieces", fed.pieces),
+            ("of no bytes", fed.empty_pieces),
+        ],
+    }
+}
+
 struct Script<'a> {
     random: &'a mut Random,
     console: Console,
     lines: Vec<Line>,
+}
+
+impl<'a> Script<'a> {
+    fn new(random: &'a mut Random, requests: u32) -> Script<'a> {
+        Script {
+            random,
+            console: Console::new(requests),
+            lines: Vec::new(),
+        }
+    }
 }
 
 impl Script<'_> {
@@ -69,6 +101,7 @@ impl Script<'_> {
     /// Several lines about one thing.
     fn scene(&mut self) {
         let scenes = match self.console.requests {
+            PIECES.. => 71,
             STAGES.. => 63,
             REPLAY.. => 52,
             _ => 40,
@@ -94,7 +127,10 @@ impl Script<'_> {
             48..=51 => self.recorded(),
             52..=56 => self.stages_run(),
             57..=59 => self.two_started(),
-            _ => self.any_stages(),
+            60..=62 => self.any_stages(),
+            63..=68 => self.cables(),
+            69 => self.cut_at_every_place(),
+            _ => self.pieces_behind_a_refused_sheet(),
         }
     }
 }
@@ -164,7 +200,7 @@ mod tests {
     /// The lines of many scripts.
     fn many_lines(seed: u64, requests: u32) -> Vec<Line> {
         let mut random = Random::new(seed);
-        (0..60)
+        (0..150)
             .flat_map(|_| make(&mut random, requests, 500))
             .collect()
     }
@@ -232,6 +268,7 @@ mod tests {
             "\nrecorded ",
         ];
         let of_stages = [" passed ", "\nstaged 0 ", "\nstaged 63 "];
+        let of_pieces = ["\nfed\n"];
         for requests in 0..=RENDERED {
             let lines = many_lines(1, requests);
             come_up(&lines, &of_document_01);
@@ -241,6 +278,9 @@ mod tests {
             if requests >= STAGES {
                 come_up(&lines, &of_stages);
             }
+            if requests >= PIECES {
+                come_up(&lines, &of_pieces);
+            }
         }
     }
 
@@ -248,7 +288,14 @@ mod tests {
     fn commands_of_a_request_that_is_not_in_force_come_up_seldom_and_are_none() {
         let of_a_replay: &[&str] = &["recording", "next", "reader", "where", "record"];
         let of_stages: &[&str] = &["version", "stages", "stage", "staged"];
-        for (requests, commands) in [(0, of_a_replay), (0, of_stages), (LESS_STACK, of_stages)] {
+        let of_pieces: &[&str] = &["cable", "feed", "close"];
+        for (requests, commands) in [
+            (0, of_a_replay),
+            (0, of_stages),
+            (LESS_STACK, of_stages),
+            (0, of_pieces),
+            (STAGES, of_pieces),
+        ] {
             let lines = many_lines(1, requests);
             for command in commands {
                 let found: Vec<&Line> = lines
@@ -268,7 +315,7 @@ mod tests {
         let (mut valid, mut invalid) = ([0; 5], [0; 5]);
         let (mut formed, mut not_formed) = ([0; 4], 0);
         let mut two_started = [0; 2];
-        for _ in 0..60 {
+        for _ in 0..150 {
             let script = make(&mut random, RENDERED, 500);
             let mut console = Console::new(RENDERED);
             for line in script {

@@ -91,6 +91,19 @@ const ODD_LINES: &[&[u8]] = &[
     b"staged 0 0 0",
     b"passed",
     b"passed 0 0",
+    b"cable 0",
+    b"cable ",
+    b"cables",
+    b"feed ",
+    b"feed 1",
+    b"feed 10 00",
+    b"feed  10",
+    b"feed 1G",
+    b"feed A0",
+    b"fed",
+    b"close 0",
+    b"close ",
+    b"closed",
     b"#",
     b"// unit",
 ];
@@ -130,6 +143,9 @@ impl Script<'_> {
             ("stages", 2),
             ("stage", 4),
             ("staged", 2),
+            ("cable", 0),
+            ("feed", 0),
+            ("close", 0),
         ]);
         let mut line = name.to_string();
         for place in 0..numbers {
@@ -144,6 +160,7 @@ impl Script<'_> {
         line += match name {
             "recording" => self.random.pick(&["", " 01b0", " 5555c0"]),
             "record" => self.random.pick(&["", " p0ud", " uuuu", " pfpf"]),
+            "feed" => self.random.pick(&["", " 10", " 00", " 20", " 2000"]),
             _ => "",
         };
         line
@@ -203,6 +220,8 @@ impl Script<'_> {
             "recording c0",
             "record 1024 u",
             "record 1022 ",
+            "feed 10",
+            "feed ",
         ]);
         let fill = if start.starts_with("record ") {
             self.random.pick(b"uuud0p")
@@ -280,7 +299,7 @@ impl Script<'_> {
 
     fn line_with_odd_hex(&mut self) -> Vec<u8> {
         let set = sets::small(self.random, self.console.requests);
-        let name = self.random.pick(&["read", "recording"]);
+        let name = self.random.pick(&["read", "recording", "feed"]);
         let mut line = hex_line(name, &sheets::of_set(&set)).into_bytes();
         let hex = name.len() + 1;
         let place = hex + self.random.index(line.len() - hex);
