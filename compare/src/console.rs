@@ -7,7 +7,7 @@ use crate::load;
 use crate::recording::{self, Place};
 use crate::refusal::Refusal;
 use crate::replay;
-use crate::requests::{PIECES, REPLAY, STAGES};
+use crate::requests::{DOOR, PIECES, REPLAY, STAGES};
 use crate::set::{self, Set, Stage, Stream, Tuple, STAGE_PLACES, STREAM_PLACES, TUPLE_PLACES};
 use crate::sheet;
 use crate::state::{Message, State, MESSAGE_PLACES};
@@ -48,6 +48,7 @@ fn request_of(name: &[u8]) -> u32 {
         b"recording" | b"next" | b"reader" | b"where" | b"record" => REPLAY,
         b"version" | b"stages" | b"stage" | b"staged" => STAGES,
         b"cable" | b"feed" | b"close" => PIECES,
+        b"door" => DOOR,
         _ => 0,
     }
 }
@@ -65,7 +66,7 @@ impl Console {
         Console {
             requests,
             set: Set::EMPTY,
-            state: State::EMPTY,
+            state: State::empty(requests),
             recording: Vec::new(),
             place: Place::START,
             carried: Carried::start(),
@@ -161,7 +162,7 @@ impl Console {
             (b"jitter", &[cycle, jitter]) => Some(self.jitter(cycle, jitter)),
             (b"verdict", []) => Some(load::verdict(&self.set).to_string()),
             (b"start", []) => {
-                let (state, result) = State::start(&self.set);
+                let (state, result) = State::start(&self.set, self.requests);
                 self.state = state;
                 Some(match result {
                     Ok(()) => "started".to_string(),
@@ -202,6 +203,10 @@ impl Console {
                     byte: byte as usize,
                     bit: bit as usize,
                 };
+                put()
+            }
+            (b"door", &[place, wait]) => {
+                self.state.put_wait(index(place, STREAM_PLACES)?, wait);
                 put()
             }
             (b"cable", []) => {
@@ -326,7 +331,7 @@ impl Console {
     ///
     /// "What `state` prints grows at its end: the lines of a request stand behind those of the
     /// requests before it, and only for what is not zero": "`state` prints `staged I N` (a place of
-    /// which only the stage is not 0 has no `message` line)".
+    /// which only the stage is not 0 has no `message` line)"; "`state` prints `door I N`".
     fn show_state(&self) -> String {
         let mut answer = format!("clock {}\npending {}", self.state.clock, self.state.pending);
         for (place, message) in self.state.messages.iter().enumerate() {
@@ -344,6 +349,12 @@ impl Console {
         for (place, message) in self.state.messages.iter().enumerate() {
             if message.stage != 0 {
                 write!(answer, "\nstaged {place} {}", message.stage)
+                    .expect("a string takes all that is written to it");
+            }
+        }
+        for (place, &wait) in self.state.waits.iter().enumerate() {
+            if wait != 0 {
+                write!(answer, "\ndoor {place} {wait}")
                     .expect("a string takes all that is written to it");
             }
         }

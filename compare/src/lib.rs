@@ -12,6 +12,7 @@
 //!   (with request 2)
 //! - [`load`]: demand, H, long-run load and the verdicts
 //! - [`sheet`]: reading and writing the packed sheet, of both versions (request 4)
+//! - [`door`]: which posts come too early (request 6)
 //! - [`state`]: the state, its rules, and the calls start, post, choose and unit
 //! - [`trace`]: the trace program
 //! - [`recording`]: recordings of calls, and the cab's recorder (request 1)
@@ -24,6 +25,7 @@
 
 pub mod cable;
 pub mod console;
+pub mod door;
 pub mod load;
 pub mod recording;
 pub mod refusal;

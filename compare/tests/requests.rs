@@ -7,7 +7,7 @@ use std::process::{Command, Output};
 use common::{said_from, said_with};
 use second::console::Console;
 use second::requests::{
-    of_arguments, IN_FORCE, JITTER_BOTH_WAYS, LESS_STACK, PIECES, RENDERED, REPLAY, STAGES,
+    of_arguments, DOOR, IN_FORCE, JITTER_BOTH_WAYS, LESS_STACK, PIECES, RENDERED, REPLAY, STAGES,
 };
 
 /// Lines that are commands by request 1.
@@ -37,6 +37,9 @@ const COMMANDS_OF_STAGES: [&str; 7] = [
 /// Lines that are commands by request 5.
 const COMMANDS_OF_PIECES: [&str; 4] = ["cable", "feed", "feed 10", "close"];
 
+/// Lines that are commands by request 6.
+const COMMANDS_OF_DOOR: [&str; 3] = ["door 0 0", "door 15 1", "door 3 4294967295"];
+
 #[test]
 fn what_is_in_force_is_rendered() {
     assert!((0..=RENDERED).contains(&IN_FORCE));
@@ -60,6 +63,12 @@ fn commands_come_with_their_request() {
         }
         assert_ne!(said_from(PIECES, command), "?\n", "{command}");
     }
+    for command in COMMANDS_OF_DOOR {
+        for requests in 0..DOOR {
+            assert_eq!(said_with(requests, command), "?\n", "{command}");
+        }
+        assert_eq!(said_from(DOOR, command), "put\n", "{command}");
+    }
 }
 
 #[test]
@@ -76,6 +85,7 @@ fn a_command_that_is_not_in_force_changes_nothing() {
     for (requests, commands) in [
         (LESS_STACK, &COMMANDS_OF_STAGES[..]),
         (STAGES, &COMMANDS_OF_PIECES),
+        (PIECES, &COMMANDS_OF_DOOR),
     ] {
         let mut console = Console::new(requests);
         for line in ["read 10980010000a0000500000", "start", "post 0", "unit"] {

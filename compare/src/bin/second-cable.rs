@@ -6,12 +6,13 @@ use std::io::{self, Read, Write};
 use std::process::ExitCode;
 
 use second::cable;
-use second::requests::IN_FORCE;
+use second::requests::of_program;
 
 fn main() -> io::Result<ExitCode> {
+    let requests = of_program()?;
     let mut frames = Vec::new();
     io::stdin().read_to_end(&mut frames)?;
-    let Ok(brought) = cable::run(&frames, IN_FORCE) else {
+    let Ok(brought) = cable::run(&frames, requests) else {
         eprintln!("broken frame");
         return Ok(ExitCode::FAILURE);
     };

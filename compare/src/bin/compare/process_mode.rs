@@ -116,6 +116,10 @@ fn counts_of_run(case: &Case, run: &Run) -> Vec<(&'static str, u64)> {
         ("sheets of version 2", u64::from(version_2)),
         ("calls", run.calls),
         ("passed", run.output.matches(" passed ").count() as u64),
+        (
+            "refused at a door",
+            run.output.matches(" refused 15\n").count() as u64,
+        ),
     ]
 }
 

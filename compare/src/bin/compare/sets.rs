@@ -68,6 +68,82 @@ pub fn to_run_on_time(random: &mut Random, version: u32) -> Set {
     small_streams(random, version, count, longest_deadline)
 }
 
+/// The same of streams that all have doors, of each kind.
+pub fn to_run_on_time_with_doors(random: &mut Random, version: u32) -> Set {
+    let mut set = to_run_on_time(random, version);
+    let count = set.count as usize;
+    put_small_doors(random, &mut set.streams[..count]);
+    set
+}
+
+/// A few streams with small numbers, most of them with doors, of each kind.
+pub fn small_with_doors(random: &mut Random, requests: u32) -> Set {
+    let version = version(random, requests);
+    let mut set = loop {
+        let set = small_of(random, version);
+        if set.count > 0 {
+            break set;
+        }
+    };
+    let with_doors = random.between(1, set.count) as usize;
+    put_small_doors(random, &mut set.streams[..with_doors]);
+    set
+}
+
+/// Puts tuples that have a door in place of the streams' own.
+fn put_small_doors(random: &mut Random, streams: &mut [Stream]) {
+    let common = random.pick(&[12, 20, 24, 30, 60, 120, 720]);
+    for stream in streams {
+        let cycle = match random.below(6) {
+            0 => random.between(1, 9),
+            _ => divisor(random, common),
+        };
+        let offset = match random.below(6) {
+            0 => 0,
+            1 => cycle,
+            2 => cycle + random.between(1, 12),
+            _ => random.between(0, cycle),
+        };
+        put_door(random, stream, cycle, offset);
+    }
+}
+
+/// Puts tuples that have a door: once at 0, every z, or once at 0 and every z from a.
+fn put_door(random: &mut Random, stream: &mut Stream, cycle: u32, offset: u32) {
+    stream.tuples = [Tuple::UNUSED; TUPLE_PLACES];
+    stream.tuple_count = 1;
+    match random.below(6) {
+        0 => {}
+        1..=2 => stream.tuples[0] = Tuple::Every { cycle, offset: 0 },
+        _ => {
+            stream.tuple_count = 2;
+            stream.tuples[1] = Tuple::Every { cycle, offset };
+        }
+    }
+}
+
+/// A few streams with doors that stay shut for long. Most such sets have an H above 1,000,000, and
+/// are judged at once.
+pub fn with_long_doors(random: &mut Random, requests: u32) -> Set {
+    let version = version(random, requests);
+    let mut set = small_with_doors(random, requests);
+    set.version = version;
+    for stream in &mut set.streams[..set.count as usize] {
+        if version == VERSION_1 {
+            stream.stage_count = 1;
+            stream.stages[1..].fill(Stage::UNUSED);
+        }
+        let cycle = match random.below(4) {
+            0 => GREATEST_CYCLE,
+            1 => GREATEST_CYCLE - random.between(0, 3),
+            _ => random.between(100_000, GREATEST_CYCLE),
+        };
+        let offset = at_edge(random, 0, GREATEST_OFFSET);
+        put_door(random, stream, cycle, offset);
+    }
+    set
+}
+
 /// Streams with small numbers on few tasks. Their cycles mostly divide one number, so that H
 /// stays small.
 fn small_streams(random: &mut Random, version: u32, count: usize, longest_deadline: u32) -> Set {

@@ -5,13 +5,14 @@
 //! answers.
 
 mod about_cables;
+mod about_doors;
 mod about_recordings;
 mod about_sets;
 mod about_states;
 mod odd_lines;
 
 use second::console::Console;
-use second::requests::{PIECES, REPLAY, STAGES};
+use second::requests::{DOOR, PIECES, REPLAY, STAGES};
 use second::set::{Set, GREATEST_COST, GREATEST_CYCLE, GREATEST_DEADLINE, GREATEST_OFFSET};
 use second::state::{State, LAST_CLOCK};
 
@@ -101,6 +102,7 @@ impl Script<'_> {
     /// Several lines about one thing.
     fn scene(&mut self) {
         let scenes = match self.console.requests {
+            DOOR.. => 83,
             PIECES.. => 71,
             STAGES.. => 63,
             REPLAY.. => 52,
@@ -130,7 +132,10 @@ impl Script<'_> {
             60..=62 => self.any_stages(),
             63..=68 => self.cables(),
             69 => self.cut_at_every_place(),
-            _ => self.pieces_behind_a_refused_sheet(),
+            70 => self.pieces_behind_a_refused_sheet(),
+            71..=76 => self.doors_run(),
+            77..=80 => self.waits_by_hand(),
+            _ => self.full_table_at_the_door(),
         }
     }
 }
@@ -269,6 +274,7 @@ mod tests {
         ];
         let of_stages = [" passed ", "\nstaged 0 ", "\nstaged 63 "];
         let of_pieces = ["\nfed\n"];
+        let of_doors = [" refused 15\n", "\ndoor 0 ", "\ndoor 15 "];
         for requests in 0..=RENDERED {
             let lines = many_lines(1, requests);
             come_up(&lines, &of_document_01);
@@ -281,6 +287,9 @@ mod tests {
             if requests >= PIECES {
                 come_up(&lines, &of_pieces);
             }
+            if requests >= DOOR {
+                come_up(&lines, &of_doors);
+            }
         }
     }
 
@@ -289,12 +298,15 @@ mod tests {
         let of_a_replay: &[&str] = &["recording", "next", "reader", "where", "record"];
         let of_stages: &[&str] = &["version", "stages", "stage", "staged"];
         let of_pieces: &[&str] = &["cable", "feed", "close"];
+        let of_doors: &[&str] = &["door"];
         for (requests, commands) in [
             (0, of_a_replay),
             (0, of_stages),
             (LESS_STACK, of_stages),
             (0, of_pieces),
             (STAGES, of_pieces),
+            (0, of_doors),
+            (PIECES, of_doors),
         ] {
             let lines = many_lines(1, requests);
             for command in commands {
@@ -320,7 +332,7 @@ mod tests {
             let mut console = Console::new(RENDERED);
             for line in script {
                 let set = console.set;
-                let state = console.state;
+                let state = console.state.clone();
                 match name(&line) {
                     b"valid" | b"verdict" | b"demand" | b"write" => {
                         let most = set.streams.iter().map(|s| s.stage_count.min(4)).max();

@@ -104,6 +104,10 @@ const ODD_LINES: &[&[u8]] = &[
     b"close 0",
     b"close ",
     b"closed",
+    b"door",
+    b"door 0",
+    b"door 0 0 0",
+    b"doors 0 1",
     b"#",
     b"// unit",
 ];
@@ -146,6 +150,7 @@ impl Script<'_> {
             ("cable", 0),
             ("feed", 0),
             ("close", 0),
+            ("door", 2),
         ]);
         let mut line = name.to_string();
         for place in 0..numbers {
@@ -293,6 +298,8 @@ impl Script<'_> {
             "stage 0 3 0 N",
             "staged N 0",
             "staged 63 N",
+            "door N 0",
+            "door 15 N",
         ]);
         line.replace('N', number).into_bytes()
     }
@@ -315,7 +322,11 @@ impl Script<'_> {
 
     /// An index at, just below or just above its range.
     fn index_out_of_place(&mut self) -> String {
-        match self.random.below(8) {
+        match self.random.below(9) {
+            8 => {
+                let place = around(self.random, &[STREAM_PLACES as u32 - 1]);
+                format!("door {place} 0")
+            }
             0..=1 => {
                 let place = around(self.random, &[STREAM_PLACES as u32 - 1]);
                 format!("stream {place} 0 0 0 0")
