@@ -3,11 +3,12 @@
 use std::fmt::Write;
 
 use crate::cable::Carried;
+use crate::check::{self, Position};
 use crate::load;
 use crate::recording::{self, Place};
 use crate::refusal::Refusal;
 use crate::replay;
-use crate::requests::{DOOR, PIECES, REPLAY, STAGES};
+use crate::requests::{DOOR, PIECES, REPLAY, RESUMABLE, STAGES};
 use crate::set::{self, Set, Stage, Stream, Tuple, STAGE_PLACES, STREAM_PLACES, TUPLE_PLACES};
 use crate::sheet;
 use crate::state::{Message, State, MESSAGE_PLACES};
@@ -24,7 +25,7 @@ pub const LONGEST_RECORDING: usize = 1_024;
 
 /// "The console holds a set (at first the empty set) and a state (at first the start of the empty
 /// set)." Of request 1 it holds "the recording that is replayed" ("At first it is empty.") and the
-/// reader's place; of request 5 the carried state.
+/// reader's place; of request 5 the carried state; of request 7 the position.
 #[derive(Clone, Debug, PartialEq, Eq)]
 pub struct Console {
     /// The requests that are in force: all up to this number.
@@ -39,6 +40,8 @@ pub struct Console {
     pub place: Place,
     /// The carried state.
     pub carried: Carried,
+    /// The position of the resumable check.
+    pub position: Position,
 }
 
 /// "Each request's commands come with its landing." The request that brings a command, 0 for every
@@ -49,6 +52,7 @@ fn request_of(name: &[u8]) -> u32 {
         b"version" | b"stages" | b"stage" | b"staged" => STAGES,
         b"cable" | b"feed" | b"close" => PIECES,
         b"door" => DOOR,
+        b"open" | b"go" | b"resume" => RESUMABLE,
         _ => 0,
     }
 }
@@ -70,6 +74,11 @@ impl Console {
             recording: Vec::new(),
             place: Place::START,
             carried: Carried::start(),
+            // "At first it is the empty set and length 1."
+            position: Position {
+                set: Set::EMPTY,
+                next: 1,
+            },
         }
     }
 
@@ -209,6 +218,13 @@ impl Console {
                 self.state.put_wait(index(place, STREAM_PLACES)?, wait);
                 put()
             }
+            (b"open", []) => Some(self.open()),
+            (b"go", &[count]) => Some(self.go(count)),
+            (b"resume", &[next]) => {
+                let set = self.set;
+                self.position = Position { set, next };
+                put()
+            }
             (b"cable", []) => {
                 self.carried = Carried::start();
                 put()
@@ -237,6 +253,32 @@ impl Console {
                 self.set = Set::EMPTY;
                 refusal.to_string()
             }
+        }
+    }
+
+    /// "`open`: prints `refused N`, `overload`, or `open`[...]; with `open`, the console's position
+    /// is the one given."
+    fn open(&mut self) -> String {
+        match check::open(&self.set) {
+            Ok(position) => {
+                self.position = position;
+                "open".to_string()
+            }
+            Err(verdict) => verdict.to_string(),
+        }
+    }
+
+    /// "`go N`: prints `tested COUNT next L`, `tested COUNT accept`, `tested COUNT late I W`, or
+    /// `refused 12`. With a next length the position moves there; else it stays where it was."
+    fn go(&mut self, count: u32) -> String {
+        match self.position.go(count) {
+            Ok(went) => {
+                if let check::Went::On { next, .. } = went {
+                    self.position.next = next;
+                }
+                went.to_string()
+            }
+            Err(refusal) => refusal.to_string(),
         }
     }
 

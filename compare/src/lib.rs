@@ -18,12 +18,14 @@
 //! - [`recording`]: recordings of calls, and the cab's recorder (request 1)
 //! - [`replay`]: replay of a recording, step by step and whole (request 1)
 //! - [`cable`]: a sheet that comes in pieces (request 5)
+//! - [`check`]: the resumable check, and what a late demand is made of (request 7)
 //! - [`console`]: the console program
 
 #![forbid(unsafe_code)]
 #![warn(missing_docs)]
 
 pub mod cable;
+pub mod check;
 pub mod console;
 pub mod door;
 pub mod load;

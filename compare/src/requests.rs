@@ -9,7 +9,7 @@ use std::io;
 pub const IN_FORCE: u32 = 4;
 
 /// The last request that is rendered here. Those above [`IN_FORCE`] wait for their landing.
-pub const RENDERED: u32 = DOOR;
+pub const RENDERED: u32 = RESUMABLE;
 
 /// "CR 1. Replay a cab's recording in the office."
 pub const REPLAY: u32 = 1;
@@ -23,6 +23,8 @@ pub const STAGES: u32 = 4;
 pub const PIECES: u32 = 5;
 /// "CR 6. Stop early posts at the door."
 pub const DOOR: u32 = 6;
+/// "CR 7. Check while the tablet stays alive." "We want it resumable".
+pub const RESUMABLE: u32 = 7;
 
 /// The number that a program goes by, and its other arguments: [`IN_FORCE`], or, for trying, N
 /// where the last arguments are `--requests N`. None if request N is not rendered here.

@@ -5,7 +5,9 @@
 mod common;
 
 use common::said_with;
-use second::requests::{DOOR, JITTER_BOTH_WAYS, LESS_STACK, PIECES, RENDERED, REPLAY, STAGES};
+use second::requests::{
+    DOOR, JITTER_BOTH_WAYS, LESS_STACK, PIECES, RENDERED, REPLAY, RESUMABLE, STAGES,
+};
 
 /// The scripts of a section, each with what it must print: a block, a line `prints`, a block.
 fn scripts(section: &str) -> Vec<(&str, &str)> {
@@ -58,6 +60,11 @@ fn request_5_pieces() {
 #[test]
 fn request_6_the_door() {
     check(DOOR, include_str!("examples/cr-06.md"), 4);
+}
+
+#[test]
+fn request_7_resumable_check() {
+    check(RESUMABLE, include_str!("examples/cr-07.md"), 4);
 }
 
 #[test]

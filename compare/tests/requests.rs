@@ -7,7 +7,8 @@ use std::process::{Command, Output};
 use common::{said_from, said_with};
 use second::console::Console;
 use second::requests::{
-    of_arguments, DOOR, IN_FORCE, JITTER_BOTH_WAYS, LESS_STACK, PIECES, RENDERED, REPLAY, STAGES,
+    of_arguments, DOOR, IN_FORCE, JITTER_BOTH_WAYS, LESS_STACK, PIECES, RENDERED, REPLAY,
+    RESUMABLE, STAGES,
 };
 
 /// Lines that are commands by request 1.
@@ -40,6 +41,9 @@ const COMMANDS_OF_PIECES: [&str; 4] = ["cable", "feed", "feed 10", "close"];
 /// Lines that are commands by request 6.
 const COMMANDS_OF_DOOR: [&str; 3] = ["door 0 0", "door 15 1", "door 3 4294967295"];
 
+/// Lines that are commands by request 7.
+const COMMANDS_OF_CHECK: [&str; 4] = ["open", "go 0", "go 4294967295", "resume 1"];
+
 #[test]
 fn what_is_in_force_is_rendered() {
     assert!((0..=RENDERED).contains(&IN_FORCE));
@@ -69,6 +73,12 @@ fn commands_come_with_their_request() {
         }
         assert_eq!(said_from(DOOR, command), "put\n", "{command}");
     }
+    for command in COMMANDS_OF_CHECK {
+        for requests in 0..RESUMABLE {
+            assert_eq!(said_with(requests, command), "?\n", "{command}");
+        }
+        assert_ne!(said_from(RESUMABLE, command), "?\n", "{command}");
+    }
 }
 
 #[test]
@@ -86,6 +96,7 @@ fn a_command_that_is_not_in_force_changes_nothing() {
         (LESS_STACK, &COMMANDS_OF_STAGES[..]),
         (STAGES, &COMMANDS_OF_PIECES),
         (PIECES, &COMMANDS_OF_DOOR),
+        (DOOR, &COMMANDS_OF_CHECK),
     ] {
         let mut console = Console::new(requests);
         for line in ["read 10980010000a0000500000", "start", "post 0", "unit"] {
@@ -170,6 +181,8 @@ fn programs_of_a_request_that_is_not_in_force_are_not_compared() {
         ("record", REPLAY, env!("CARGO_BIN_EXE_second-record")),
         ("cable", PIECES, env!("CARGO_BIN_EXE_second-cable")),
         ("pieces", PIECES, env!("CARGO_BIN_EXE_second-console")),
+        ("check", RESUMABLE, env!("CARGO_BIN_EXE_second-console")),
+        ("checks", RESUMABLE, env!("CARGO_BIN_EXE_second-check")),
     ] {
         let with = |requests: u32| {
             let number = requests.to_string();

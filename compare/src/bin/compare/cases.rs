@@ -146,6 +146,22 @@ pub fn to_record(random: &mut Random, requests: u32) -> Case {
     Case { sheet: None, input }
 }
 
+/// A case for the check program: a sheet, and no input.
+pub fn to_check(random: &mut Random, requests: u32) -> Case {
+    let sheet = loop {
+        let set = sets::to_check(random, requests);
+        let sheet = mixed(random, &set, 32, requests);
+        let read = sheet::read(sheet.as_deref().unwrap_or(&[]), requests).unwrap_or(set);
+        if sets::worth_judging(random, &read) {
+            break sheet;
+        }
+    };
+    Case {
+        sheet,
+        input: Vec::new(),
+    }
+}
+
 /// The calls, now and then many times over.
 fn lengthened(calls: Vec<Step>, random: &mut Random) -> Vec<Step> {
     if !random.one_in(50) {

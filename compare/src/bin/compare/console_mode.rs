@@ -1,5 +1,5 @@
-//! `compare console BIN LINES SEED`, `compare pieces BIN SHEETS SEED`: the console program against
-//! the library, line by line.
+//! `compare console BIN LINES SEED`, `compare pieces BIN SHEETS SEED`, `compare check BIN SETS SEED`:
+//! the console program against the library, line by line.
 
 use std::io;
 
@@ -55,6 +55,15 @@ pub const PIECES: Kind = Kind {
     counted: "sheets",
     in_script: 60,
     make: scripts::in_pieces,
+};
+
+/// Scripts of sets whose check is divided among calls.
+pub const CHECK: Kind = Kind {
+    name: "check",
+    request: requests::RESUMABLE,
+    counted: "sets",
+    in_script: 100,
+    make: scripts::divided_checks,
 };
 
 impl Kind {

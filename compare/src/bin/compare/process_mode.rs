@@ -1,9 +1,10 @@
-//! `compare trace|replay|record BIN CASES SEED`: a program against the library, whole outputs, a
-//! process for each case.
+//! `compare trace|replay|record|checks BIN CASES SEED`: a program against the library, whole outputs,
+//! a process for each case.
 
 use std::fs;
 use std::io;
 
+use second::check;
 use second::recording;
 use second::replay;
 use second::requests;
@@ -98,11 +99,44 @@ pub const RECORD: Kind = Kind {
     first_difference: programs::first_different_byte,
 };
 
+/// The check program. Its progress on standard error is not compared.
+pub const CHECKS: Kind = Kind {
+    name: "check",
+    request: requests::RESUMABLE,
+    input: "input",
+    written: ["expected.txt", "found.txt"],
+    make: cases::to_check,
+    expected: |case, requests| {
+        let output = check::run(sheet_of(case), requests);
+        let verdict = |word| u64::from(output.starts_with(word));
+        let lines = |word| output.lines().filter(|line| line.starts_with(word)).count() as u64;
+        Expected {
+            counts: vec![
+                ("accepted", verdict("accept")),
+                ("late", verdict("late")),
+                ("overload", verdict("overload")),
+                ("refused", verdict("refused")),
+                ("streams due", lines("stream ")),
+                ("of them more than once", more_than_once(&output)),
+                ("tasks blocked", lines("task ")),
+            ],
+            output: output.into_bytes(),
+        }
+    },
+    first_difference: programs::first_difference,
+};
+
 impl Kind {
     /// Nothing, or that the request that brings the program is not in force.
     pub fn in_force(&self, requests: u32) -> io::Result<()> {
         programs::in_force(self.name, self.request, requests)
     }
+}
+
+/// How many lines say that a stream is due more than once.
+fn more_than_once(output: &str) -> u64 {
+    let due = output.lines().filter(|line| line.starts_with("stream "));
+    due.filter(|line| !line.ends_with(" times 1")).count() as u64
 }
 
 fn sheet_of(case: &Case) -> &[u8] {
@@ -197,10 +231,10 @@ mod tests {
     use super::*;
     use second::requests::RENDERED;
 
-    /// The totals of 200 cases, by name.
+    /// The totals of 400 cases, by name.
     fn totals(kind: &Kind) -> Vec<(&'static str, u64)> {
         let mut totals = Vec::new();
-        for number in 0..200 {
+        for number in 0..400 {
             let case = (kind.make)(&mut Random::for_case(1, number), RENDERED);
             programs::add(&mut totals, &(kind.expected)(&case, RENDERED).counts);
         }
@@ -209,7 +243,7 @@ mod tests {
 
     #[test]
     fn every_kind_of_case_comes_up() {
-        for kind in [&TRACE, &REPLAY, &RECORD] {
+        for kind in [&TRACE, &REPLAY, &RECORD, &CHECKS] {
             let totals = totals(kind);
             for (name, total) in &totals {
                 assert!(*total >= 20, "{} {name}: {total}", kind.name);
@@ -218,7 +252,7 @@ mod tests {
                 // About one sheet in four.
                 let (name, damaged) = totals[0];
                 assert_eq!(name, "damaged sheets");
-                assert!((30..=70).contains(&damaged), "{damaged}");
+                assert!((60..=140).contains(&damaged), "{damaged}");
             }
         }
     }

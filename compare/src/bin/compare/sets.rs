@@ -3,6 +3,7 @@
 //! Before request 4 is in force all have version 1, and they are those that were made before there
 //! were stages.
 
+use second::check::{Position, Went};
 use second::load::{self, Verdict};
 use second::requests::STAGES;
 use second::set::{
@@ -296,6 +297,30 @@ fn close_to_late(random: &mut Random, version: u32) -> Set {
     small_of(random, version)
 }
 
+/// A set to be checked length by length: most are just accepted or just late, with many streams and
+/// blocking; few are overload.
+pub fn to_check(random: &mut Random, requests: u32) -> Set {
+    loop {
+        let version = version(random, requests);
+        let set = match random.below(4) {
+            0 => any(random, requests),
+            _ => {
+                let set = to_run_on_time(random, version);
+                match tight(random, set) {
+                    Some(Tight {
+                        late: Some(late), ..
+                    }) if !random.one_in(3) => late,
+                    Some(tight) => tight.accepted,
+                    None => continue,
+                }
+            }
+        };
+        if load::lengths_tested(&set, 1) > 0 || random.one_in(4) {
+            return set;
+        }
+    }
+}
+
 /// A set whose long-run load is H, or one cycle's cost more or less.
 fn full_load(random: &mut Random, version: u32) -> Set {
     let cycle = random.between(5, 30);
@@ -460,6 +485,25 @@ pub fn worth_judging(random: &mut Random, set: &Set) -> bool {
         || judged_within(set, 100_000)
         || random.one_in(50) && judged_within(set, 2_000_000)
         || random.one_in(2_000)
+}
+
+/// Whether a call of the resumable check that tests up to so many lengths is to be made in this
+/// case, in the same way.
+pub fn worth_testing(random: &mut Random, position: &Position, count: u32) -> bool {
+    let tuples: u64 = position
+        .set
+        .streams
+        .iter()
+        .map(|stream| u64::from(stream.tuple_count))
+        .sum();
+    let within = |work: u64| {
+        let lengths = (work / (tuples + 1)) as u32;
+        match position.go(count.min(lengths + 1)) {
+            Ok(Went::On { tested, .. } | Went::Ended { tested, .. }) => tested <= lengths,
+            Err(_) => true,
+        }
+    };
+    within(100_000) || random.one_in(50) && within(2_000_000) || random.one_in(2_000)
 }
 
 #[cfg(test)]

@@ -5,6 +5,7 @@
 //! answers.
 
 mod about_cables;
+mod about_checks;
 mod about_doors;
 mod about_recordings;
 mod about_sets;
@@ -12,7 +13,7 @@ mod about_states;
 mod odd_lines;
 
 use second::console::Console;
-use second::requests::{DOOR, PIECES, REPLAY, STAGES};
+use second::requests::{DOOR, PIECES, REPLAY, RESUMABLE, STAGES};
 use second::set::{Set, GREATEST_COST, GREATEST_CYCLE, GREATEST_DEADLINE, GREATEST_OFFSET};
 use second::state::{State, LAST_CLOCK};
 
@@ -21,6 +22,7 @@ use crate::random::Random;
 use crate::sets;
 
 use about_cables::Fed;
+use about_checks::Checked;
 
 /// A line of a script, without its newline, and all that it prints.
 pub struct Line {
@@ -59,6 +61,30 @@ pub fn in_pieces(random: &mut Random, requests: u32, sheets: u64) -> Made {
     }
 }
 
+/// A script of so many sets whose check is divided among calls, with the requests up to a number in
+/// force.
+pub fn divided_checks(random: &mut Random, requests: u32, sets: u64) -> Made {
+    let mut script = Script::new(random, requests);
+    let mut checked = Checked::default();
+    while checked.verdicts.iter().sum::<u64>() < sets {
+        script.divided_check(&mut checked);
+    }
+    let [accept, late, overload, invalid, long] = checked.verdicts;
+    Made {
+        script: script.lines,
+        count: sets,
+        others: vec![
+            ("accepted", accept),
+            ("late", late),
+            ("overload", overload),
+            ("refused with 7", invalid),
+            ("with 8", long),
+            ("calls", checked.calls),
+            ("lengths", checked.lengths),
+        ],
+    }
+}
+
 struct Script<'a> {
     random: &'a mut Random,
     console: Console,
@@ -76,12 +102,26 @@ impl<'a> Script<'a> {
 }
 
 impl Script<'_> {
-    /// Adds a line. A `verdict` that would take long is mostly left out.
+    /// Adds a line. A `verdict`, or a call of the resumable check, that would take long is mostly
+    /// left out.
     fn say(&mut self, text: impl AsRef<[u8]>) {
         let text = text.as_ref().to_vec();
         if text == b"verdict" && !sets::worth_judging(self.random, &self.console.set) {
             return;
         }
+        let number = text.strip_prefix(b"go ").map(str::from_utf8);
+        if let Some(Ok(number)) = number {
+            let number = number.parse().unwrap_or(0);
+            if !sets::worth_testing(self.random, &self.console.position, number) {
+                return;
+            }
+        }
+        self.say_at_once(text);
+    }
+
+    /// Adds a line, however long it takes.
+    fn say_at_once(&mut self, text: impl Into<Vec<u8>>) {
+        let text = text.into();
         let answer = self.console.line(&text);
         self.lines.push(Line { text, answer });
     }
@@ -102,6 +142,7 @@ impl Script<'_> {
     /// Several lines about one thing.
     fn scene(&mut self) {
         let scenes = match self.console.requests {
+            RESUMABLE.. => 94,
             DOOR.. => 83,
             PIECES.. => 71,
             STAGES.. => 63,
@@ -135,7 +176,10 @@ impl Script<'_> {
             70 => self.pieces_behind_a_refused_sheet(),
             71..=76 => self.doors_run(),
             77..=80 => self.waits_by_hand(),
-            _ => self.full_table_at_the_door(),
+            81..=82 => self.full_table_at_the_door(),
+            83..=87 => self.check_in_calls(),
+            88..=91 => self.resumed(),
+            _ => self.opened_and_stopped(),
         }
     }
 }
@@ -205,7 +249,7 @@ mod tests {
     /// The lines of many scripts.
     fn many_lines(seed: u64, requests: u32) -> Vec<Line> {
         let mut random = Random::new(seed);
-        (0..150)
+        (0..250)
             .flat_map(|_| make(&mut random, requests, 500))
             .collect()
     }
@@ -275,6 +319,12 @@ mod tests {
         let of_stages = [" passed ", "\nstaged 0 ", "\nstaged 63 "];
         let of_pieces = ["\nfed\n"];
         let of_doors = [" refused 15\n", "\ndoor 0 ", "\ndoor 15 "];
+        let of_check = [
+            "\nopen\n",
+            "\ntested 0 next ",
+            "\ntested 1 accept\n",
+            " late ",
+        ];
         for requests in 0..=RENDERED {
             let lines = many_lines(1, requests);
             come_up(&lines, &of_document_01);
@@ -290,6 +340,9 @@ mod tests {
             if requests >= DOOR {
                 come_up(&lines, &of_doors);
             }
+            if requests >= RESUMABLE {
+                come_up(&lines, &of_check);
+            }
         }
     }
 
@@ -299,6 +352,7 @@ mod tests {
         let of_stages: &[&str] = &["version", "stages", "stage", "staged"];
         let of_pieces: &[&str] = &["cable", "feed", "close"];
         let of_doors: &[&str] = &["door"];
+        let of_check: &[&str] = &["open", "go", "resume"];
         for (requests, commands) in [
             (0, of_a_replay),
             (0, of_stages),
@@ -307,6 +361,8 @@ mod tests {
             (STAGES, of_pieces),
             (0, of_doors),
             (PIECES, of_doors),
+            (0, of_check),
+            (DOOR, of_check),
         ] {
             let lines = many_lines(1, requests);
             for command in commands {

@@ -108,6 +108,16 @@ const ODD_LINES: &[&[u8]] = &[
     b"door 0",
     b"door 0 0 0",
     b"doors 0 1",
+    b"open 0",
+    b"open ",
+    b"opened",
+    b"go",
+    b"go ",
+    b"go 1 1",
+    b"goes 1",
+    b"resume",
+    b"resume 1 1",
+    b"tested 1",
     b"#",
     b"// unit",
 ];
@@ -151,6 +161,9 @@ impl Script<'_> {
             ("feed", 0),
             ("close", 0),
             ("door", 2),
+            ("open", 0),
+            ("go", 1),
+            ("resume", 1),
         ]);
         let mut line = name.to_string();
         for place in 0..numbers {
@@ -300,6 +313,8 @@ impl Script<'_> {
             "staged 63 N",
             "door N 0",
             "door 15 N",
+            "go N",
+            "resume N",
         ]);
         line.replace('N', number).into_bytes()
     }
