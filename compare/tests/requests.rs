@@ -193,9 +193,9 @@ fn programs_of_a_request_that_is_not_in_force_are_not_compared() {
         assert!(output.stdout.is_empty());
         let said = String::from_utf8_lossy(&output.stderr).into_owned();
         assert!(said.contains(&format!("request {request}")) && said.contains("not in force"));
-        // A program here goes by what is in force, which may be less than what is tried.
+        // The programs here go by what is in force.
         if request <= IN_FORCE {
-            assert_eq!(with(request).status.code(), Some(0));
+            assert_eq!(with(IN_FORCE).status.code(), Some(0));
         }
     }
 }

@@ -55,7 +55,9 @@ pub fn steps(random: &mut Random, set: &Set, lengths: &Lengths, requests: u32) -
 pub fn over_millions(random: &mut Random, set: &Set, units: u32, requests: u32) -> Vec<u8> {
     let mut steps = Steps::new(random, set, requests);
     while steps.state.clock < units {
-        steps.at_a_door(u32::MAX);
+        if let Some(place) = steps.with_door() {
+            steps.post_at_door(place, u32::MAX);
+        }
         let idle = steps.random.pick(&[0, 1, 1_000, 100_000]);
         for _ in 0..idle {
             steps.push(Step::Unit);
@@ -205,35 +207,46 @@ impl Steps<'_> {
         (!places.is_empty()).then(|| self.random.pick(&places))
     }
 
-    /// Posts of a stream when its door opens, a unit before, a unit after, and again at once, if
-    /// that takes at most so many units.
-    fn at_a_door(&mut self, most_units: u32) {
+    /// A stream with a door.
+    fn with_door(&mut self) -> Option<usize> {
         let streams = self.set.used_streams();
         let places: Vec<usize> = (0..streams.len())
             .filter(|&place| streams[place].door().is_some())
             .collect();
-        if places.is_empty() {
+        (!places.is_empty()).then(|| self.random.pick(&places))
+    }
+
+    /// Posts of a stream at its door, several times.
+    fn at_a_door(&mut self, most_units: u32) {
+        let Some(place) = self.with_door() else {
             return self.mixed();
-        }
-        let place = self.random.pick(&places);
+        };
         for _ in 0..self.random.between(1, 5) {
-            let door = streams[place].door().expect("one with a door");
-            let units = self.state.waits[place].saturating_sub(door.open_up_to());
-            let units = match self.random.below(6) {
-                0..=1 => units.saturating_sub(1),
-                2..=4 => units,
-                _ => units.saturating_add(1),
-            };
-            if units > most_units {
-                return self.post(place);
-            }
-            for _ in 0..units {
-                let done = self.state.pending > 0 && self.random.one_in(4);
-                self.push(if done { Step::Done } else { Step::Unit });
-            }
-            for _ in 0..self.random.pick(&[1, 1, 2, 3]) {
-                self.post(place);
-            }
+            self.post_at_door(place, most_units);
+        }
+    }
+
+    /// Posts of a stream when its door opens, a unit before or a unit after, and again at once, if
+    /// that takes at most so many units; else at once.
+    fn post_at_door(&mut self, place: usize, most_units: u32) {
+        let Some(door) = self.set.streams[place].door() else {
+            return;
+        };
+        let units = self.state.waits[place].saturating_sub(door.open_up_to());
+        let units = match self.random.below(6) {
+            0..=1 => units.saturating_sub(1),
+            2..=4 => units,
+            _ => units.saturating_add(1),
+        };
+        if units > most_units {
+            return self.post(place);
+        }
+        for _ in 0..units {
+            let done = self.state.pending > 0 && self.random.one_in(4);
+            self.push(if done { Step::Done } else { Step::Unit });
+        }
+        for _ in 0..self.random.pick(&[1, 1, 2, 3]) {
+            self.post(place);
         }
     }
 
