@@ -49,14 +49,14 @@ close-twelve c e = sym (simp e)
 
 -- ---- pieces
 
-abbrev after : List ℕ → Carried
+abbrev pub after : List ℕ → Carried
 after s = run startOf (bits s)
 
-could : (s : List ℕ) → AreBytes s → couldBeLeft (after s) ≡ true
+pub could : (s : List ℕ) → AreBytes s → couldBeLeft (after s) ≡ true
 could s b = complete (after s) (record { came = s; are = b; leads = refl })
 
 -- one piece more is the bytes with its own behind them
-feed-more : (s p : List ℕ) → AreBytes s → feedOf (after s) p ≡ record { answer = Fed; carried = after (s ++ p) }
+pub feed-more : (s p : List ℕ) → AreBytes s → feedOf (after s) p ≡ record { answer = Fed; carried = after (s ++ p) }
 feed-more s p b =
     sym (feed-takes (after s) p (could s b))
     ∙ ap (λ (c : Carried). record { answer = Fed; carried = c }) (sym (run-append startOf (bits s) (bits p)) ∙ ap (run startOf) (sym (bits-append s p)))
@@ -76,9 +76,12 @@ unfolding flat
 joined-bytes [] h = tt
 joined-bytes (p ∷ ps) h = all-append IsByte p (joined ps) (h .0) (joined-bytes ps (h .1))
 
+pub close-after : (s : List ℕ) → AreBytes s → closedOf (after s) ≡ readOf s
+close-after s b = sym (close-takes (after s) (could s b)) ∙ by-field s
+
 closes-joined : (ps : List (List ℕ)) → All Piece ps → closedOf (leftBy sheetCable ps) ≡ readOf (joined ps)
 closes-joined ps h =
-    ap closedOf (left-all ps h) ∙ sym (close-takes (after (joined ps)) (could (joined ps) (joined-bytes ps h))) ∙ by-field (joined ps)
+    ap closedOf (left-all ps h) ∙ close-after (joined ps) (joined-bytes ps h)
 
 -- ---- 12
 
