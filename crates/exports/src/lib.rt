@@ -46,11 +46,13 @@ fn piece_of(size: usize, rest: usize) -> usize
     requires { ⌜ 0 < rest ⌝ }
     ensures { λ r. ⌜ (0 < r) × (r ≤ rest) ⌝ }
 {
-    if (0 < size) & (size < rest) {
-        size
-    } else {
-        rest
+    if size == 0 {
+        return rest;
     }
+    if size < rest {
+        return size;
+    }
+    rest
 }
 
 // The bytes are fed in pieces of `size`.
