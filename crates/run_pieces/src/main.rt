@@ -101,12 +101,13 @@ fn twelve(name: &[u8], c: Carried) {
 
 fn within_a_byte() -> Carried {
     let mut c = sheet_read::cable();
-    c.point = Point {
+    let p = Point {
         row: 1,
         whole: 0,
         acc: 0,
         left: 5,
     };
+    c.point = p;
     c
 }
 
