@@ -2,11 +2,13 @@
 
 use std::fmt::Write;
 
+use crate::cable::Carried;
+use crate::check::{self, Position};
 use crate::load;
 use crate::recording::{self, Place};
 use crate::refusal::Refusal;
 use crate::replay;
-use crate::requests::{REPLAY, STAGES};
+use crate::requests::{DOOR, PIECES, REPLAY, RESUMABLE, STAGES};
 use crate::set::{self, Set, Stage, Stream, Tuple, STAGE_PLACES, STREAM_PLACES, TUPLE_PLACES};
 use crate::sheet;
 use crate::state::{Message, State, MESSAGE_PLACES};
@@ -23,7 +25,7 @@ pub const LONGEST_RECORDING: usize = 1_024;
 
 /// "The console holds a set (at first the empty set) and a state (at first the start of the empty
 /// set)." Of request 1 it holds "the recording that is replayed" ("At first it is empty.") and the
-/// reader's place.
+/// reader's place; of request 5 the carried state; of request 7 the position.
 #[derive(Clone, Debug, PartialEq, Eq)]
 pub struct Console {
     /// The requests that are in force: all up to this number.
@@ -36,6 +38,10 @@ pub struct Console {
     pub recording: Vec<u8>,
     /// The reader's place.
     pub place: Place,
+    /// The carried state.
+    pub carried: Carried,
+    /// The position of the resumable check.
+    pub position: Position,
 }
 
 /// "Each request's commands come with its landing." The request that brings a command, 0 for every
@@ -44,6 +50,9 @@ fn request_of(name: &[u8]) -> u32 {
     match name {
         b"recording" | b"next" | b"reader" | b"where" | b"record" => REPLAY,
         b"version" | b"stages" | b"stage" | b"staged" => STAGES,
+        b"cable" | b"feed" | b"close" => PIECES,
+        b"door" => DOOR,
+        b"open" | b"go" | b"resume" => RESUMABLE,
         _ => 0,
     }
 }
@@ -61,9 +70,15 @@ impl Console {
         Console {
             requests,
             set: Set::EMPTY,
-            state: State::EMPTY,
+            state: State::empty(requests),
             recording: Vec::new(),
             place: Place::START,
+            carried: Carried::start(),
+            // "At first it is the empty set and length 1."
+            position: Position {
+                set: Set::EMPTY,
+                next: 1,
+            },
         }
     }
 
@@ -97,6 +112,7 @@ impl Console {
             b"read" => return self.read(rest),
             b"recording" => return self.take_recording(rest),
             b"record" => return record(rest),
+            b"feed" => return self.feed(rest),
             _ => {}
         }
         let numbers: Vec<u32> = rest
@@ -155,7 +171,7 @@ impl Console {
             (b"jitter", &[cycle, jitter]) => Some(self.jitter(cycle, jitter)),
             (b"verdict", []) => Some(load::verdict(&self.set).to_string()),
             (b"start", []) => {
-                let (state, result) = State::start(&self.set);
+                let (state, result) = State::start(&self.set, self.requests);
                 self.state = state;
                 Some(match result {
                     Ok(()) => "started".to_string(),
@@ -198,6 +214,22 @@ impl Console {
                 };
                 put()
             }
+            (b"door", &[place, wait]) => {
+                self.state.put_wait(index(place, STREAM_PLACES)?, wait);
+                put()
+            }
+            (b"open", []) => Some(self.open()),
+            (b"go", &[count]) => Some(self.go(count)),
+            (b"resume", &[next]) => {
+                let set = self.set;
+                self.position = Position { set, next };
+                put()
+            }
+            (b"cable", []) => {
+                self.carried = Carried::start();
+                put()
+            }
+            (b"close", []) => Some(self.close()),
             (b"where", []) => Some(format!("at {} {}", self.place.byte, self.place.bit)),
             _ => None,
         }
@@ -206,7 +238,13 @@ impl Console {
     /// "`read HEX`: reads the bytes as a sheet. Prints `set N` with the number of streams, and the
     /// set becomes the one read; or `refused N`, and the set becomes the empty set."
     fn read(&mut self, words: &[&[u8]]) -> Option<String> {
-        Some(match sheet::read(&hex_argument(words)?, self.requests) {
+        let read = sheet::read(&hex_argument(words)?, self.requests);
+        Some(self.take_set(read))
+    }
+
+    /// What `read` prints and does with the set.
+    fn take_set(&mut self, read: Result<Set, Refusal>) -> String {
+        match read {
             Ok(set) => {
                 self.set = set;
                 format!("set {}", set.count)
@@ -215,7 +253,47 @@ impl Console {
                 self.set = Set::EMPTY;
                 refusal.to_string()
             }
-        })
+        }
+    }
+
+    /// "`open`: prints `refused N`, `overload`, or `open`[...]; with `open`, the console's position
+    /// is the one given."
+    fn open(&mut self) -> String {
+        match check::open(&self.set) {
+            Ok(position) => {
+                self.position = position;
+                "open".to_string()
+            }
+            Err(verdict) => verdict.to_string(),
+        }
+    }
+
+    /// "`go N`: prints `tested COUNT next L`, `tested COUNT accept`, `tested COUNT late I W`, or
+    /// `refused 12`. With a next length the position moves there; else it stays where it was."
+    fn go(&mut self, count: u32) -> String {
+        match self.position.go(count) {
+            Ok(went) => {
+                if let check::Went::On { next, .. } = went {
+                    self.position.next = next;
+                }
+                went.to_string()
+            }
+            Err(refusal) => refusal.to_string(),
+        }
+    }
+
+    /// "`feed HEX`: feeds a piece; prints `fed` or `refused 12`."
+    fn feed(&mut self, words: &[&[u8]]) -> Option<String> {
+        self.carried.feed(&hex_argument(words)?);
+        Some("fed".to_string())
+    }
+
+    /// "`close`: prints what `read` prints for the joined bytes and does what it does with the
+    /// set, and the carried state is new again".
+    fn close(&mut self) -> String {
+        let read = self.carried.close(self.requests);
+        self.carried = Carried::start();
+        self.take_set(read)
     }
 
     /// "`write LEN`: writes the set's sheet into a buffer of LEN bytes [...], each 170 before.
@@ -295,7 +373,7 @@ impl Console {
     ///
     /// "What `state` prints grows at its end: the lines of a request stand behind those of the
     /// requests before it, and only for what is not zero": "`state` prints `staged I N` (a place of
-    /// which only the stage is not 0 has no `message` line)".
+    /// which only the stage is not 0 has no `message` line)"; "`state` prints `door I N`".
     fn show_state(&self) -> String {
         let mut answer = format!("clock {}\npending {}", self.state.clock, self.state.pending);
         for (place, message) in self.state.messages.iter().enumerate() {
@@ -313,6 +391,12 @@ impl Console {
         for (place, message) in self.state.messages.iter().enumerate() {
             if message.stage != 0 {
                 write!(answer, "\nstaged {place} {}", message.stage)
+                    .expect("a string takes all that is written to it");
+            }
+        }
+        for (place, &wait) in self.state.waits.iter().enumerate() {
+            if wait != 0 {
+                write!(answer, "\ndoor {place} {wait}")
                     .expect("a string takes all that is written to it");
             }
         }

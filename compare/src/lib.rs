@@ -12,16 +12,22 @@
 //!   (with request 2)
 //! - [`load`]: demand, H, long-run load and the verdicts
 //! - [`sheet`]: reading and writing the packed sheet, of both versions (request 4)
+//! - [`door`]: which posts come too early (request 6)
 //! - [`state`]: the state, its rules, and the calls start, post, choose and unit
 //! - [`trace`]: the trace program
 //! - [`recording`]: recordings of calls, and the cab's recorder (request 1)
 //! - [`replay`]: replay of a recording, step by step and whole (request 1)
+//! - [`cable`]: a sheet that comes in pieces (request 5)
+//! - [`check`]: the resumable check, and what a late demand is made of (request 7)
 //! - [`console`]: the console program
 
 #![forbid(unsafe_code)]
 #![warn(missing_docs)]
 
+pub mod cable;
+pub mod check;
 pub mod console;
+pub mod door;
 pub mod load;
 pub mod recording;
 pub mod refusal;

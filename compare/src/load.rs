@@ -63,9 +63,17 @@ fn demand_of_valid(set: &Set, length: u64) -> u64 {
 }
 
 fn blocking_of_all_tasks(set: &Set, length: u64) -> u64 {
-    (0..=GREATEST_TASK)
-        .map(|task| blocking(set, task, length))
+    blocking_of_each_task(set, length)
+        .map(|(_, blocking)| blocking)
         .sum()
+}
+
+/// The tasks in order, each with its blocking at a length. The set must be valid.
+pub(crate) fn blocking_of_each_task(
+    set: &Set,
+    length: u64,
+) -> impl Iterator<Item = (u32, u64)> + '_ {
+    (0..=GREATEST_TASK).map(move |task| (task, blocking(set, task, length)))
 }
 
 /// "The blocking of a task is 0 unless it has a stream with d not above I; then it is the largest
@@ -159,7 +167,7 @@ fn last_length(set: &Set, h: u64) -> u64 {
 /// "Verdicts, in this order: 7 for an invalid set; 8 exactly if H is above 1,000,000; overload if
 /// long-run load is above H; [...]": the last length to test, or the verdict that comes before
 /// any length is tested.
-fn lengths_to_test(set: &Set) -> Result<u64, Verdict> {
+pub(crate) fn lengths_to_test(set: &Set) -> Result<u64, Verdict> {
     if !set.valid() {
         return Err(Verdict::Refused(Refusal::OutOfRule));
     }
@@ -193,7 +201,7 @@ pub fn verdict(set: &Set) -> Verdict {
         Ok(last) => last,
         Err(verdict) => return verdict,
     };
-    match least_late_length(set, last) {
+    match least_late_length(set, 1, last) {
         Some((length, demand)) => Verdict::Late { length, demand },
         None => Verdict::Accept,
     }
@@ -204,21 +212,26 @@ pub fn lengths_tested(set: &Set, at_most: u64) -> u64 {
     match lengths_to_test(set) {
         Ok(last) => {
             let last = last.min(at_most);
-            least_late_length(set, last).map_or(last, |(length, _)| length)
+            least_late_length(set, 1, last).map_or(last, |(length, _)| length)
         }
         Err(_) => 0,
     }
 }
 
-/// "the least I where demand(I) is above I and that demand", among the lengths up to the last.
+/// "the least I where demand(I) is above I and that demand", among the lengths from the first,
+/// which is not 0, up to the last.
 ///
 /// An event of a tuple adds its cost at the length d + a, for a cycle again at every z after it,
 /// and blocking can change only at a length that is the deadline of some stream.
-fn least_late_length(set: &Set, last: u64) -> Option<(u64, u64)> {
+pub(crate) fn least_late_length(set: &Set, first: u64, last: u64) -> Option<(u64, u64)> {
+    let before = first - 1;
     let mut tuples = CountedTuple::all_of(set);
-    let mut work = 0;
-    let mut blocking = 0;
-    for length in 1..=last {
+    let mut work: u64 = tuples
+        .iter_mut()
+        .map(|tuple| tuple.cost * tuple.events_up_to(before))
+        .sum();
+    let mut blocking = blocking_of_all_tasks(set, before);
+    for length in first..=last {
         for tuple in tuples.iter_mut().filter(|tuple| tuple.next == length) {
             work += tuple.cost;
             tuple.next += tuple.cycle;
@@ -246,6 +259,17 @@ struct CountedTuple {
 
 impl CountedTuple {
     const NEVER: u64 = 1 << 40;
+
+    /// How many of its events count at a length, which lies before the next; then that next one is
+    /// the first behind it.
+    fn events_up_to(&mut self, length: u64) -> u64 {
+        if self.next > length {
+            return 0;
+        }
+        let events = (length - self.next) / self.cycle + 1;
+        self.next += events * self.cycle;
+        events
+    }
 
     fn all_of(set: &Set) -> Vec<CountedTuple> {
         let mut all = Vec::new();

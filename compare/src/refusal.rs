@@ -34,6 +34,8 @@ pub enum Refusal {
     StopsBeforeEnd = 13,
     /// "14 for set padding or further bytes"
     AfterEnd = 14,
+    /// "exactly when accepting would break that stream's limit given its accepted posts so far"
+    AtTheDoor = 15,
 }
 
 impl Refusal {

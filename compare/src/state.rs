@@ -1,11 +1,18 @@
 //! "State and steps": the state, when it is well formed, and the calls start, post, choose, unit.
 //!
 //! A state here can hold any number in any place, so that states no call can leave can be put.
+//!
+//! With request 6 in force a state also knows the accepted posts since its start, with their true
+//! times, and a post to a stream with a door is judged by them. The wait that the state keeps is
+//! judged beside it, and the program stops where the two disagree. After a wait was put by hand
+//! there is no run from a start that led to it, and the wait alone decides.
 
 use std::fmt;
 
+use crate::door::History;
 use crate::refusal::Refusal;
-use crate::set::{Set, Stage, Stream, GREATEST_TASK};
+use crate::requests::DOOR;
+use crate::set::{Set, Stage, Stream, GREATEST_TASK, STREAM_PLACES};
 
 /// "up to 64 pending messages"
 pub const MESSAGE_PLACES: usize = 64;
@@ -40,7 +47,7 @@ impl Message {
 }
 
 /// "The state holds a set, the clock and up to 64 pending messages in posting order".
-#[derive(Clone, Copy, Debug, PartialEq, Eq)]
+#[derive(Clone, Debug)]
 pub struct State {
     /// The set.
     pub set: Set,
@@ -50,7 +57,43 @@ pub struct State {
     pub pending: u32,
     /// The message places.
     pub messages: [Message; MESSAGE_PLACES],
+    /// "Kept for each stream, in the state: a wait, 0 at the start."
+    pub waits: [u32; STREAM_PLACES],
+    /// What led to it.
+    past: Past,
 }
+
+/// What is known beside a state of the calls that led to it.
+#[derive(Clone, Debug)]
+struct Past {
+    /// The requests that are in force: all up to this number.
+    requests: u32,
+    /// True time: the units that moved the clock since the start.
+    time: u64,
+    /// The accepted posts of each stream since the start; none where its wait was put by hand.
+    histories: [Option<History>; STREAM_PLACES],
+}
+
+impl Past {
+    const fn new(requests: u32) -> Past {
+        const NONE_YET: Option<History> = Some(History::NEW);
+        Past {
+            requests,
+            time: 0,
+            histories: [NONE_YET; STREAM_PLACES],
+        }
+    }
+}
+
+/// Two states are equal if they hold the same, whatever led to them.
+impl PartialEq for State {
+    fn eq(&self, other: &State) -> bool {
+        let held = |state: &State| (state.set, state.clock, state.pending, state.waits);
+        held(self) == held(other) && self.messages == other.messages
+    }
+}
+
+impl Eq for State {}
 
 /// What a step answers.
 #[derive(Clone, Copy, Debug, PartialEq, Eq)]
@@ -134,23 +177,29 @@ pub struct Choice {
 }
 
 impl State {
-    /// The start of the empty set.
-    pub const EMPTY: State = State {
-        set: Set::EMPTY,
-        clock: 0,
-        pending: 0,
-        messages: [Message::UNUSED; MESSAGE_PLACES],
-    };
+    /// The start of the empty set, with the requests up to a number in force.
+    pub const fn empty(requests: u32) -> State {
+        State {
+            set: Set::EMPTY,
+            clock: 0,
+            pending: 0,
+            messages: [Message::UNUSED; MESSAGE_PLACES],
+            waits: [0; STREAM_PLACES],
+            past: Past::new(requests),
+        }
+    }
 
     /// "Start. A valid set gives the clock at 0 and no message. An invalid one gives 7 and the
     /// start of the empty set."
-    pub fn start(set: &Set) -> (State, Result<(), Refusal>) {
+    ///
+    /// The requests up to a number are in force for the calls that follow.
+    pub fn start(set: &Set, requests: u32) -> (State, Result<(), Refusal>) {
         if !set.valid() {
-            return (State::EMPTY, Err(Refusal::OutOfRule));
+            return (State::empty(requests), Err(Refusal::OutOfRule));
         }
         let state = State {
             set: *set,
-            ..State::EMPTY
+            ..State::empty(requests)
         };
         (state, Ok(()))
     }
@@ -178,6 +227,8 @@ impl State {
     ///
     /// With stages: "the stage is one of its stream's; it has used less than that stage's cost;
     /// each task has at most one message *in a stage of that task* with a used unit".
+    ///
+    /// With the door: [`State::waits_in_rule`]. Before request 6 every wait is 0.
     pub fn well_formed(&self) -> bool {
         self.set.valid()
             && self.pending as usize <= MESSAGE_PLACES
@@ -191,6 +242,17 @@ impl State {
             && self.messages[self.pending as usize..]
                 .iter()
                 .all(|message| *message == Message::UNUSED)
+            && self.waits_in_rule()
+    }
+
+    /// "Rules: a wait is at most 1 for the first kind, at most (z - a, or 0) + (the larger of a and
+    /// z) for the other, 0 for a stream without a door and for unused places. 12 otherwise."
+    fn waits_in_rule(&self) -> bool {
+        self.waits.iter().enumerate().all(|(place, &wait)| {
+            let used = self.set.used_streams().get(place);
+            let door = used.and_then(|stream| stream.door());
+            wait <= door.map_or(0, |door| door.greatest_wait())
+        })
     }
 
     /// "each message names a stream of the set, has used less than c, and has a deadline from d to
@@ -236,7 +298,8 @@ impl State {
     }
 
     /// "Post. A message with deadline clock + d and 0 used goes last." Refusals: "post 12, 1, 2".
-    /// "Posting at the last clock is allowed."
+    /// "Posting at the last clock is allowed." With the door: "Order of post: 12, 1, 15, 2. A post
+    /// that is refused by 2 adds nothing to the wait."
     pub fn post(&mut self, stream: u32) -> Answer {
         if !self.well_formed() {
             return Answer::Refused(Refusal::NotWellFormed);
@@ -244,9 +307,13 @@ impl State {
         if stream >= self.set.count {
             return Answer::Refused(Refusal::NoSuchStream);
         }
+        if self.door_is_shut(stream as usize) {
+            return Answer::Refused(Refusal::AtTheDoor);
+        }
         if self.pending as usize == MESSAGE_PLACES {
             return Answer::Refused(Refusal::Full);
         }
+        self.go_through_door(stream as usize);
         let deadline = self.clock + self.set.streams[stream as usize].deadline;
         self.messages[self.pending as usize] = Message {
             stream,
@@ -256,6 +323,59 @@ impl State {
         };
         self.pending += 1;
         Answer::Posted { stream, deadline }
+    }
+
+    /// "Post is to refuse, for a stream with one tuple or with once at 0 followed by one cycle,
+    /// exactly when accepting would break that stream's limit given its accepted posts so far. For
+    /// other streams nothing changes".
+    ///
+    /// Stops the program if the wait says otherwise.
+    fn door_is_shut(&self, place: usize) -> bool {
+        let stream = &self.set.streams[place];
+        let Some(door) = stream.door().filter(|_| self.past.requests >= DOOR) else {
+            return false;
+        };
+        let by_wait = self.waits[place] > door.open_up_to();
+        let Some(history) = &self.past.histories[place] else {
+            return by_wait;
+        };
+        let by_limit = history.would_break(stream, self.past.time);
+        assert_eq!(
+            by_wait, by_limit,
+            "the wait {} of stream {place} ({door:?}) and its accepted posts disagree: {history:?} at {}",
+            self.waits[place], self.past.time
+        );
+        by_limit
+    }
+
+    /// An accepted post is added to the history, and to the wait.
+    fn go_through_door(&mut self, place: usize) {
+        let stream = &self.set.streams[place];
+        let Some(door) = stream.door().filter(|_| self.past.requests >= DOOR) else {
+            return;
+        };
+        self.waits[place] += door.added();
+        if let Some(history) = &mut self.past.histories[place] {
+            history.accept(stream, self.past.time);
+        }
+    }
+
+    /// Puts the wait of a stream place. No run from a start is known to lead to it.
+    pub fn put_wait(&mut self, place: usize, wait: u32) {
+        self.waits[place] = wait;
+        self.past.histories[place] = None;
+    }
+
+    /// The clock moves by a unit: "each unit that moves the clock takes 1 from a wait that is not
+    /// 0".
+    fn move_clock(&mut self) {
+        self.clock += 1;
+        self.past.time += 1;
+        for place in 0..self.set.count as usize {
+            if let Some(door) = self.set.streams[place].door() {
+                self.waits[place] = door.after_unit(self.waits[place]);
+            }
+        }
     }
 
     /// "A task's deadline is the least deadline of its pending messages, the started one included.
@@ -338,7 +458,7 @@ impl State {
             None if done => Answer::Refused(Refusal::NothingPending),
             None => {
                 // "the answer is idle and only the clock moves"
-                self.clock += 1;
+                self.move_clock();
                 Answer::Idle
             }
         }
@@ -358,7 +478,7 @@ impl State {
         let cost = self.stage_of(&self.messages[place]).cost;
         let stages = self.stream_of(&self.messages[place]).stage_count;
         self.messages[place].used += 1;
-        self.clock += 1;
+        self.move_clock();
         let message = self.messages[place];
         let laxity = i64::from(message.deadline) - i64::from(self.clock);
         if done && message.stage + 1 < stages {

@@ -65,7 +65,7 @@ impl Run {
         match sheet::read(sheet, requests) {
             Ok(set) => {
                 run.print(load::verdict(&set));
-                let (state, _) = State::start(&set);
+                let (state, _) = State::start(&set, requests);
                 (run, Some(state))
             }
             Err(refusal) => {

@@ -5,7 +5,9 @@
 mod common;
 
 use common::said_with;
-use second::requests::{JITTER_BOTH_WAYS, LESS_STACK, RENDERED, REPLAY, STAGES};
+use second::requests::{
+    DOOR, JITTER_BOTH_WAYS, LESS_STACK, PIECES, RENDERED, REPLAY, RESUMABLE, STAGES,
+};
 
 /// The scripts of a section, each with what it must print: a block, a line `prints`, a block.
 fn scripts(section: &str) -> Vec<(&str, &str)> {
@@ -51,6 +53,21 @@ fn request_4_stages() {
 }
 
 #[test]
+fn request_5_pieces() {
+    check(PIECES, include_str!("examples/cr-05.md"), 3);
+}
+
+#[test]
+fn request_6_the_door() {
+    check(DOOR, include_str!("examples/cr-06.md"), 4);
+}
+
+#[test]
+fn request_7_resumable_check() {
+    check(RESUMABLE, include_str!("examples/cr-07.md"), 4);
+}
+
+#[test]
 fn earlier_examples_stay_as_they_were() {
     for requests in REPLAY..=RENDERED {
         check(requests, include_str!("examples/cr-01.md"), 5);
@@ -60,5 +77,15 @@ fn earlier_examples_stay_as_they_were() {
     }
     for requests in LESS_STACK..=RENDERED {
         check(requests, include_str!("examples/cr-03.md"), 3);
+    }
+    // With the door, `state` prints more.
+    for requests in STAGES..=PIECES {
+        check(requests, include_str!("examples/cr-04.md"), 6);
+    }
+    for requests in PIECES..=RENDERED {
+        check(requests, include_str!("examples/cr-05.md"), 3);
+    }
+    for requests in DOOR..=RENDERED {
+        check(requests, include_str!("examples/cr-06.md"), 4);
     }
 }

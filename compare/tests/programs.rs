@@ -2,8 +2,8 @@
 
 mod common;
 
-use common::{said_from, said_with, set_b, set_of_stages, SHEET_W12};
-use second::requests::{JITTER_BOTH_WAYS, LESS_STACK, RENDERED, REPLAY, STAGES};
+use common::{said_between, said_from, said_with, set_b, set_of_stages, SHEET_W12};
+use second::requests::{JITTER_BOTH_WAYS, LESS_STACK, PIECES, RENDERED, REPLAY, STAGES};
 use second::sheet::{fields, pack};
 use second::trace;
 
@@ -146,6 +146,8 @@ message 0 0 5 1
 put
 4000000001 refused 12
 ";
+    // With the door, `state` prints one line more.
+    let said = |script: &str| said_between(0, PIECES, script);
     assert_eq!(said(script), expected);
     assert_eq!(said(&format!("{script}\n")), expected);
 }

@@ -9,7 +9,7 @@ use common::{every, said_from, set_b, set_of_stages, set_w12, stream, SHEET_W12}
 use second::recording::{append, finish, record, recording_of, said_at, Place, Said};
 use second::refusal::Refusal;
 use second::replay::{self, step, Reader, Replayed};
-use second::requests::{LESS_STACK, RENDERED, REPLAY, STAGES};
+use second::requests::{LESS_STACK, PIECES, RENDERED, REPLAY, STAGES};
 use second::set::Set;
 use second::sheet::{fields, pack};
 use second::state::{Answer, State, LAST_CLOCK};
@@ -28,8 +28,9 @@ fn steps(trace: &str) -> Vec<Step> {
     trace::steps(trace.as_bytes()).expect("a good trace")
 }
 
+/// Before there are doors.
 fn started(set: &Set) -> State {
-    let (state, result) = State::start(set);
+    let (state, result) = State::start(set, PIECES);
     assert_eq!(result, Ok(()));
     state
 }
@@ -283,7 +284,7 @@ fn a_kind_that_lies_in_two_bytes() {
 
 /// A step that must leave state and place as they are, asked twice.
 fn stays(state: &State, recording: &[u8], at: Place) -> Replayed {
-    let (mut state_after, mut place_after) = (*state, at);
+    let (mut state_after, mut place_after) = (state.clone(), at);
     let answer = step(&mut state_after, recording, &mut place_after);
     let again = step(&mut state_after, recording, &mut place_after);
     assert_eq!(answer, again);
@@ -340,7 +341,7 @@ fn a_call_that_is_refused_is_a_step_like_any_other() {
     let refused = |refusal| Replayed::Called(Answer::Refused(refusal));
     let steps_past = |state: &State, trace: &str| {
         let recording = recording_of(&steps(trace));
-        let (mut after, mut at) = (*state, Place::START);
+        let (mut after, mut at) = (state.clone(), Place::START);
         let answer = step(&mut after, &recording, &mut at);
         assert_eq!(after, *state);
         let bits = if trace.starts_with('p') { 6 } else { 2 };
@@ -367,7 +368,7 @@ fn a_replay_gives_the_answers_and_the_last_state_of_the_cab() {
     let calls = steps("dp1up2p0uududp3uuudp0p0p0uuuuuuuuupfd");
     let recording = recording_of(&calls);
     let mut cab = started(&set_b());
-    let mut office = cab;
+    let mut office = cab.clone();
     let mut reader = Reader::new(&recording);
     assert_eq!(reader.place(), Place::START);
     for &made in &calls {
@@ -449,7 +450,7 @@ fn a_replay_of_a_set_with_stages() {
     let recording = recording_of(&calls);
     let set = set_of_stages();
     let mut cab = started(&set);
-    let mut office = cab;
+    let mut office = cab.clone();
     let mut reader = Reader::new(&recording);
     let mut passed = 0;
     for &made in &calls {

@@ -7,7 +7,8 @@ use std::process::{Command, Output};
 use common::{said_from, said_with};
 use second::console::Console;
 use second::requests::{
-    of_arguments, IN_FORCE, JITTER_BOTH_WAYS, LESS_STACK, RENDERED, REPLAY, STAGES,
+    of_arguments, DOOR, IN_FORCE, JITTER_BOTH_WAYS, LESS_STACK, PIECES, RENDERED, REPLAY,
+    RESUMABLE, STAGES,
 };
 
 /// Lines that are commands by request 1.
@@ -34,6 +35,15 @@ const COMMANDS_OF_STAGES: [&str; 7] = [
     "staged 63 0",
 ];
 
+/// Lines that are commands by request 5.
+const COMMANDS_OF_PIECES: [&str; 4] = ["cable", "feed", "feed 10", "close"];
+
+/// Lines that are commands by request 6.
+const COMMANDS_OF_DOOR: [&str; 3] = ["door 0 0", "door 15 1", "door 3 4294967295"];
+
+/// Lines that are commands by request 7.
+const COMMANDS_OF_CHECK: [&str; 4] = ["open", "go 0", "go 4294967295", "resume 1"];
+
 #[test]
 fn what_is_in_force_is_rendered() {
     assert!((0..=RENDERED).contains(&IN_FORCE));
@@ -51,6 +61,24 @@ fn commands_come_with_their_request() {
         }
         assert_eq!(said_from(STAGES, command), "put\n", "{command}");
     }
+    for command in COMMANDS_OF_PIECES {
+        for requests in 0..PIECES {
+            assert_eq!(said_with(requests, command), "?\n", "{command}");
+        }
+        assert_ne!(said_from(PIECES, command), "?\n", "{command}");
+    }
+    for command in COMMANDS_OF_DOOR {
+        for requests in 0..DOOR {
+            assert_eq!(said_with(requests, command), "?\n", "{command}");
+        }
+        assert_eq!(said_from(DOOR, command), "put\n", "{command}");
+    }
+    for command in COMMANDS_OF_CHECK {
+        for requests in 0..RESUMABLE {
+            assert_eq!(said_with(requests, command), "?\n", "{command}");
+        }
+        assert_ne!(said_from(RESUMABLE, command), "?\n", "{command}");
+    }
 }
 
 #[test]
@@ -64,14 +92,21 @@ fn a_command_that_is_not_in_force_changes_nothing() {
         assert_eq!(console.line(command.as_bytes()), "?\n", "{command}");
         assert_eq!(console, before, "{command}");
     }
-    let mut console = Console::new(LESS_STACK);
-    for line in ["read 10980010000a0000500000", "start", "post 0", "unit"] {
-        console.line(line.as_bytes());
-    }
-    let before = console.clone();
-    for command in COMMANDS_OF_STAGES {
-        assert_eq!(console.line(command.as_bytes()), "?\n", "{command}");
-        assert_eq!(console, before, "{command}");
+    for (requests, commands) in [
+        (LESS_STACK, &COMMANDS_OF_STAGES[..]),
+        (STAGES, &COMMANDS_OF_PIECES),
+        (PIECES, &COMMANDS_OF_DOOR),
+        (DOOR, &COMMANDS_OF_CHECK),
+    ] {
+        let mut console = Console::new(requests);
+        for line in ["read 10980010000a0000500000", "start", "post 0", "unit"] {
+            console.line(line.as_bytes());
+        }
+        let before = console.clone();
+        for command in commands {
+            assert_eq!(console.line(command.as_bytes()), "?\n", "{command}");
+            assert_eq!(console, before, "{command}");
+        }
     }
 }
 
@@ -141,17 +176,27 @@ fn compared(arguments: &[&str]) -> Output {
 
 #[test]
 fn programs_of_a_request_that_is_not_in_force_are_not_compared() {
-    for (mode, program) in [
-        ("replay", env!("CARGO_BIN_EXE_second-replay")),
-        ("record", env!("CARGO_BIN_EXE_second-record")),
+    for (mode, request, program) in [
+        ("replay", REPLAY, env!("CARGO_BIN_EXE_second-replay")),
+        ("record", REPLAY, env!("CARGO_BIN_EXE_second-record")),
+        ("cable", PIECES, env!("CARGO_BIN_EXE_second-cable")),
+        ("pieces", PIECES, env!("CARGO_BIN_EXE_second-console")),
+        ("check", RESUMABLE, env!("CARGO_BIN_EXE_second-console")),
+        ("checks", RESUMABLE, env!("CARGO_BIN_EXE_second-check")),
     ] {
-        let with = |requests| compared(&[mode, program, "2", "1", "--requests", requests]);
-        let output = with("0");
+        let with = |requests: u32| {
+            let number = requests.to_string();
+            compared(&[mode, program, "2", "1", "--requests", &number])
+        };
+        let output = with(request - 1);
         assert_eq!(output.status.code(), Some(2));
         assert!(output.stdout.is_empty());
         let said = String::from_utf8_lossy(&output.stderr).into_owned();
-        assert!(said.contains("request 1") && said.contains("not in force"));
-        assert_eq!(with("1").status.code(), Some(0));
+        assert!(said.contains(&format!("request {request}")) && said.contains("not in force"));
+        // The programs here go by what is in force.
+        if request <= IN_FORCE {
+            assert_eq!(with(IN_FORCE).status.code(), Some(0));
+        }
     }
 }
 

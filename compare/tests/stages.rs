@@ -5,7 +5,7 @@ mod common;
 use common::{every, full_set_of_stages, once, said_from, set_b, set_of_stages, staged, stream};
 use second::load::{demand, verdict, verdict_each_length, Verdict};
 use second::refusal::Refusal;
-use second::requests::STAGES;
+use second::requests::{PIECES, RENDERED, STAGES};
 use second::set::{event_limit, Set, Stage};
 use second::state::{Answer, Choice, Message, State, LAST_CLOCK};
 
@@ -18,8 +18,9 @@ fn two(streams: &[second::set::Stream]) -> Set {
     Set::of_version(2, streams)
 }
 
+/// Before there are doors.
 fn started(set: &Set) -> State {
-    let (state, result) = State::start(set);
+    let (state, result) = State::start(set, PIECES);
     assert_eq!(result, Ok(()));
     state
 }
@@ -96,12 +97,15 @@ fn sets_out_of_rule_are_invalid() {
         assert_eq!(demand(&set, u32::MAX), refused);
         assert_eq!(event_limit(&set, 0, u32::MAX), refused);
         // A refusal's empty set is version 1.
-        assert_eq!(State::start(&set), (State::EMPTY, Err(Refusal::OutOfRule)));
+        assert_eq!(
+            State::start(&set, RENDERED),
+            (State::empty(RENDERED), Err(Refusal::OutOfRule))
+        );
         let mut state = started(&set_of_stages());
         state.set = set;
         assert!(!state.well_formed(), "change {number}");
     }
-    assert_eq!(State::EMPTY.set.version, 1);
+    assert_eq!(State::empty(RENDERED).set.version, 1);
 }
 
 #[test]
@@ -324,7 +328,7 @@ fn states_out_of_rule() {
     for (number, fault) in faults.iter().enumerate() {
         let mut state = state_in_hand();
         fault(&mut state);
-        let before = state;
+        let before = state.clone();
         let refused = Answer::Refused(Refusal::NotWellFormed);
         assert!(!state.well_formed(), "fault {number}");
         assert_eq!(state.choose(), Err(Refusal::NotWellFormed));
@@ -361,7 +365,7 @@ fn states_at_the_edge_of_the_rules() {
 fn refusals_come_before_a_message_passes() {
     let mut state = state_in_hand();
     state.clock = LAST_CLOCK;
-    let before = state;
+    let before = state.clone();
     assert_eq!(state.unit(true), Answer::Refused(Refusal::LastClock));
     assert_eq!(state, before);
     state.clock = LAST_CLOCK - 1;

@@ -4,11 +4,13 @@ mod common;
 
 use common::{every, set_b, stream};
 use second::refusal::Refusal;
+use second::requests::{PIECES, RENDERED};
 use second::set::Set;
 use second::state::{Answer, Choice, Message, State, LAST_CLOCK};
 
+/// Before there are doors.
 fn started(set: &Set) -> State {
-    let (state, result) = State::start(set);
+    let (state, result) = State::start(set, PIECES);
     assert_eq!(result, Ok(()));
     state
 }
@@ -47,8 +49,8 @@ fn start_of_an_invalid_set() {
     let mut invalid = set_b();
     invalid.count = 17;
     assert_eq!(
-        State::start(&invalid),
-        (State::EMPTY, Err(Refusal::OutOfRule))
+        State::start(&invalid, RENDERED),
+        (State::empty(RENDERED), Err(Refusal::OutOfRule))
     );
 }
 
@@ -78,7 +80,7 @@ fn the_64th_and_the_65th_post() {
         }
     );
     assert_eq!(state.messages[63], message(2, 8, 0));
-    let full = state;
+    let full = state.clone();
     assert_eq!(state.post(0), refused(Refusal::Full));
     assert_eq!(state, full);
     // "A place freed by a leaving message takes the next post."
@@ -95,7 +97,7 @@ fn the_last_clock() {
     let mut state = started(&set_b());
     state.clock = LAST_CLOCK - 1;
     assert_eq!(state.unit(false), Answer::Idle);
-    let last = state;
+    let last = state.clone();
     assert_eq!(state.unit(false), refused(Refusal::LastClock));
     // 3 comes before 4.
     assert_eq!(state.unit(true), refused(Refusal::LastClock));
@@ -290,7 +292,7 @@ fn a_state_that_is_not_well_formed_is_refused_by_every_call() {
     for (number, fault) in FAULTS.iter().enumerate() {
         let mut state = state_in_hand();
         fault(&mut state);
-        let before = state;
+        let before = state.clone();
         let not_formed = refused(Refusal::NotWellFormed);
         assert!(!state.well_formed(), "fault {number}");
         assert_eq!(state.choose(), Err(Refusal::NotWellFormed));

@@ -149,3 +149,10 @@ impl Random {
             .collect()
     }
 }
+
+/// W12: one stream, task 3, c 2, d 5, every 10 from 0.
+pub fn small_sheet() -> Vec<u8> {
+    vec![
+        0x10, 0x98, 0x00, 0x10, 0x00, 0x0a, 0x00, 0x00, 0x50, 0x00, 0x00,
+    ]
+}

@@ -152,6 +152,23 @@ fn main() -> ExitCode {
     table.row(what, Some(1.5), &|| proved::read(&sheet, 15), &|| {
         slow::read(&sheet, 15)
     });
+    let what = "feeding that sheet in one piece, beside reading it";
+    table.row(what, None, &|| proved::fed(&sheet, 0, 15), &|| {
+        proved::read(&sheet, 15)
+    });
+    let small = inputs::small_sheet();
+    for (name, sheet) in [
+        ("a full sheet of 378 bytes", &sheet),
+        ("a sheet of one stream, 11 bytes", &small),
+    ] {
+        for size in [64, 8, 1] {
+            let what = format!("{name} in pieces of {size}, beside one piece");
+            let limit = if size == 1 { Some(3.0) } else { None };
+            table.row(&what, limit, &|| proved::fed(sheet, size, 0), &|| {
+                proved::fed(sheet, 0, 0)
+            });
+        }
+    }
     table.steps(16, 4);
     table.steps(1, 1);
     if table.within {

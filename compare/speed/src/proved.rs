@@ -2,6 +2,7 @@
 
 extern "C" {
     fn sheet_read(bytes: *const u8, bytes_len: usize, k: usize) -> u64;
+    fn sheet_fed(bytes: *const u8, bytes_len: usize, size: usize, k: usize) -> u64;
     fn sheet_verdict(bytes: *const u8, bytes_len: usize) -> u64;
     fn sheet_in_calls(bytes: *const u8, bytes_len: usize, n: u32) -> u64;
     fn sheet_run(bytes: *const u8, bytes_len: usize, calls: *const u8, calls_len: usize) -> u64;
@@ -11,6 +12,12 @@ extern "C" {
 pub fn read(sheet: &[u8], k: usize) -> u64 {
     // SAFETY: the function requires nothing and reads only the bytes that are lent.
     unsafe { sheet_read(sheet.as_ptr(), sheet.len(), k) }
+}
+
+/// The same, the bytes fed in pieces of `size`, 0 for all in one.
+pub fn fed(sheet: &[u8], size: usize, k: usize) -> u64 {
+    // SAFETY: as above.
+    unsafe { sheet_fed(sheet.as_ptr(), sheet.len(), size, k) }
 }
 
 /// 0 accept, 256 late, 257 overload or the refusal's number, and the late length.

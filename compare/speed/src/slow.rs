@@ -30,7 +30,7 @@ pub fn verdict(sheet: &[u8]) -> u64 {
 
 pub fn run(sheet: &[u8], calls: &[u8]) -> u64 {
     let set = second::sheet::read(sheet, IN_FORCE).unwrap_or(Set::EMPTY);
-    let (mut state, _) = State::start(&set);
+    let (mut state, _) = State::start(&set, IN_FORCE);
     for &call in calls {
         match call {
             0..=15 => state.post(call.into()),

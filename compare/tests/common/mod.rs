@@ -18,8 +18,13 @@ pub fn said_with(requests: u32, script: &str) -> String {
 /// All that a script prints once a request is in force, 0 for from the beginning: the requests
 /// behind it do not change it.
 pub fn said_from(request: u32, script: &str) -> String {
+    said_between(request, RENDERED, script)
+}
+
+/// All that a script prints once a request is in force, and until one comes that changes it.
+pub fn said_between(request: u32, last: u32, script: &str) -> String {
     let said = said_with(request, script);
-    for requests in request..=RENDERED {
+    for requests in request..=last {
         assert_eq!(said_with(requests, script), said, "{requests}: {script}");
     }
     said

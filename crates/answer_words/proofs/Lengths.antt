@@ -9,7 +9,7 @@ use Rattle.rules.specs.declared.Tuple.{Tuple}
 use Rattle.rules.specs.declared.Tuple.the-variants.{Once, Every}
 use Rattle.rules.specs.declared.ReadAnswer.{ReadAnswer}
 use Rattle.rules.specs.declared.ReadAnswer.the-variants.{Read, Refused}
-use Rattle.rules.specs.Numbers.{Says, number, refused, refused-with-0, started, posted, none, runs, ran, passed, done, cut, idle, gives, tuples, accept, late, overload, read, wrote, ended, recorded, opened, tested, tested-accept, tested-late}
+use Rattle.rules.specs.Numbers.{Says, number, refused, refused-with-0, started, posted, none, runs, ran, passed, done, cut, idle, gives, tuples, accept, late, overload, read, fed, wrote, ended, recorded, opened, tested, tested-accept, tested-late}
 use Rattle.ascii.specs.Decimal.{letters, decimalOf, signedOf, spaced}
 use Rattle.ascii.proofs.Digits.{digits-short}
 use Rattle.line.specs.Line.{lineRoom}
@@ -60,6 +60,7 @@ says-short accept = omega arith
 says-short (late i w) = omega (arith, two (letters "late") i w)
 says-short overload = omega arith
 says-short read = omega arith
+says-short fed = omega arith
 says-short (wrote n) = omega (arith, one (letters "wrote") n)
 says-short ended = omega arith
 says-short (recorded n) = omega (arith, one (letters "recorded") n)

@@ -8,7 +8,7 @@ use Rattle.rules.specs.declared.ReadAnswer.{ReadAnswer}
 use Rattle.rules.specs.declared.ReadAnswer.the-variants.{Read, Refused}
 use Rattle.rules.specs.declared.ReplayAnswer.{ReplayAnswer}
 use Rattle.rules.specs.declared.ReplayAnswer.the-variants.{Called, Ended, Refused as NoStep}
-use Rattle.rules.specs.Numbers.{Says, callSays, number, refused, refused-with-0, started, posted, none, runs, ran, passed, done, cut, idle, gives, tuples, accept, late, overload, read, wrote, ended, recorded, opened, tested, tested-accept, tested-late}
+use Rattle.rules.specs.Numbers.{Says, callSays, number, refused, refused-with-0, started, posted, none, runs, ran, passed, done, cut, idle, gives, tuples, accept, late, overload, read, fed, wrote, ended, recorded, opened, tested, tested-accept, tested-late}
 use Rattle.rules.specs.Runs.{Step}
 use Rattle.ascii.specs.Decimal.{letters, decimalOf, signedOf, spaced, newline}
 
@@ -41,6 +41,7 @@ says accept = letters "accept"
 says (late i w) = letters "late" ++ nr i ++ nr w
 says overload = letters "overload"
 says read = letters "read"
+says fed = letters "fed"
 says (wrote n) = letters "wrote" ++ nr n
 says ended = letters "end"
 says (recorded n) = letters "recorded" ++ nr n

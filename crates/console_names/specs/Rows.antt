@@ -12,8 +12,9 @@ use Rattle.console_names.specs.declared.SetCommand.the-variants.{Read, S
 use Rattle.console_names.specs.declared.StateCommand.the-variants.{Start, Clock, Pending, Message, Post, Unit, Done, Staged}
 use Rattle.console_names.specs.declared.Question.the-variants as ask
 use Rattle.console_names.specs.declared.ReplayCommand.the-variants.{Recording, Next, Reader, Where}
+use Rattle.console_names.specs.declared.CableCommand.the-variants.{Cable as NewCable, Feed, Close}
 use Rattle.console_names.specs.declared.Command.{Command}
-use Rattle.console_names.specs.declared.Command.the-variants.{Unknown, Set, State, Ask, Replay, Record}
+use Rattle.console_names.specs.declared.Command.the-variants.{Unknown, Set, State, Ask, Replay, Record, Cable}
 use Rattle.console_names.specs.declared.Text.{Text}
 use Rattle.console_names.specs.declared.Text.the-variants.{Nothing, Hex, Steps}
 use Rattle.console_names.specs.declared.Row.{Row}
@@ -122,6 +123,10 @@ replayRow w =
     ∷ []
     )
 
+-- **CR 5**
+unfoldable pub cableRow : List ℕ → Row → Row
+cableRow w = among w (row "cable" (Cable NewCable) [] ∷ hexRow "feed" (Cable Feed) ∷ row "close" (Cable Close) [] ∷ [])
+
 -- "A line that is not one of those below .. prints `?`"
 unfoldable pub rowOf : List ℕ → Row
-rowOf w = replayRow w (questionRow w (stateRow w (setRow w (asks Unknown []))))
+rowOf w = cableRow w (replayRow w (questionRow w (stateRow w (setRow w (asks Unknown [])))))

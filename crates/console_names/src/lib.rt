@@ -1,7 +1,7 @@
 // The console's commands by name, in groups, and what each asks for.
 ghost use mathlib.Core.Path.{_≡_};
 ghost use mathlib.Core.List.{_∷_, []};
-ghost use Rattle.console_names.specs.Rows.{mostBytes, ifNamed, setRow, stateRow, questionRow, replayRow, rowOf};
+ghost use Rattle.console_names.specs.Rows.{mostBytes, ifNamed, setRow, stateRow, questionRow, replayRow, cableRow, rowOf};
 
 // The commands that change the set.
 pub enum SetCommand {
@@ -48,6 +48,13 @@ pub enum ReplayCommand {
     Where,
 }
 
+// The commands of the service cable.
+pub enum CableCommand {
+    Cable,
+    Feed,
+    Close,
+}
+
 // The commands of a check in calls.
 pub enum CheckCommand {
     Open,
@@ -67,6 +74,7 @@ pub enum Command {
     Replay(ReplayCommand),
     // The recording of a trace.
     Record,
+    Cable(CableCommand),
 }
 
 // What stands behind a command's numbers.
@@ -246,10 +254,32 @@ fn replay_row(w: &[u8], other: Row) -> Row
     r
 }
 
+fn of_cable(k: CableCommand) -> Row
+    ensures { λ r. ⌜ r ≡ record { command = Command.Cable k; count = 0; most = 0 ∷ 0 ∷ 0 ∷ 0 ∷ 0 ∷ []; text = Text.Nothing } ⌝ }
+{
+    asks(Command::Cable(k), 0, [0; NUMBERS])
+}
+
+fn cable_row(w: &[u8], other: Row) -> Row
+    ensures { λ r. ⌜ r ≡ cableRow (now (w .entry)) other ⌝ }
+{
+    let mut r = other;
+    let cable = of_cable(CableCommand::Cable);
+    r = named(w, b"cable", cable, r);
+    let feed = asks_hex(Command::Cable(CableCommand::Feed));
+    r = named(w, b"feed", feed, r);
+    let close = of_cable(CableCommand::Close);
+    r = named(w, b"close", close, r);
+    r
+}
+
 // The row of the command that has this name.
 pub fn row_of(w: &[u8]) -> Row
     ensures { λ r. ⌜ r ≡ rowOf (now (w .entry)) ⌝ }
 {
     let none = asks(Command::Unknown, 0, [0; NUMBERS]);
-    replay_row(w, question_row(w, state_row(w, set_row(w, none))))
+    cable_row(
+        w,
+        replay_row(w, question_row(w, state_row(w, set_row(w, none)))),
+    )
 }

@@ -11,12 +11,13 @@ use Rattle.ascii.specs.Hex.{unhexed}
 use Rattle.page.specs.Pages.{roomFor}
 use Rattle.page.proofs.Prints.{printed-there, end-there}
 use Rattle.console_names.specs.declared.Command.{Command}
-use Rattle.console_names.specs.declared.Command.the-variants.{Nothing, Unknown, Set, State, Ask, Replay, Record}
+use Rattle.console_names.specs.declared.Command.the-variants.{Nothing, Unknown, Set, State, Ask, Replay, Record, Cable}
 use Rattle.console_names.specs.Rows.{nth}
 use Rattle.console_set.proofs.Puts.{set-short}
 use Rattle.console_state.proofs.Steps.{state-short}
 use Rattle.console_replay.proofs.Replays.{replay-short}
 use Rattle.console_replay.proofs.Records.{record-short}
+use Rattle.console_cable.proofs.Cables.{cable-short}
 use Rattle.console_ask.specs.Questions.{answerRoom}
 use Rattle.console_ask.proofs.Fits.{answer-fits}
 use Rattle.console_parse.specs.Lines.{orderOf}
@@ -34,6 +35,7 @@ command-fits (State k) ns text d w all p = omega (arith, ap length p, state-shor
 command-fits (Ask q) ns text d w all p = answer-fits q ns (d .set) (d .state) w all p
 command-fits (Replay k) ns text d w all p = omega (arith, ap length p, replay-short k (unhexed text) (d .state) (d .replay))
 command-fits Record ns text d w all p = omega (arith, ap length p, record-short text (nth ns 0))
+command-fits (Cable k) ns text d w all p = omega (arith, ap length p, cable-short k (unhexed text) (d .carried))
 
 pub obeyed-whole : (d : Desk) (line out : List ℕ) (at : ℕ) (r : Step) (page : List ℕ) (t : Obeyed d line out at r page)
     → length (d .state .messages) ≡ 64 → roomFor out at answerRoom ≡ true

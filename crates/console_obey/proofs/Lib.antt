@@ -2,3 +2,4 @@ pub mod Texts
 pub mod Obeys
 pub mod Fits
 pub mod Steps
+pub mod Cables

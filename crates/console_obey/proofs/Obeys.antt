@@ -20,11 +20,12 @@ use Rattle.page.specs.Pages.{roomFor, appended, endOf}
 use Rattle.page.proofs.Prints.{room-less}
 use Rattle.page.proofs.Pieces.{onto-line, onto-none, onto-once}
 use Rattle.console_names.specs.declared.Command.{Command}
-use Rattle.console_names.specs.declared.Command.the-variants.{Nothing, Unknown, Set, State, Ask, Replay, Record}
+use Rattle.console_names.specs.declared.Command.the-variants.{Nothing, Unknown, Set, State, Ask, Replay, Record, Cable}
 use Rattle.console_names.specs.declared.SetCommand.{SetCommand}
 use Rattle.console_names.specs.declared.StateCommand.{StateCommand}
 use Rattle.console_names.specs.declared.Question.{Question}
 use Rattle.console_names.specs.declared.ReplayCommand.{ReplayCommand}
+use Rattle.console_names.specs.declared.CableCommand.{CableCommand}
 use Rattle.console_names.specs.Rows.{nth}
 use Rattle.console_parse.specs.declared.Order.{Order}
 use Rattle.console_parse.specs.Lines.{orderOf}
@@ -40,15 +41,19 @@ use Rattle.console_replay.specs.ReplayCommands.{firstReplay, replayAfter, repla
 use Rattle.console_replay.specs.Records.{recordLines, recordRoom, Records}
 use Rattle.console_replay.proofs.Replays.{replay-short}
 use Rattle.console_replay.proofs.Records.{with-room as records-onto}
+use Rattle.sheet_carried.specs.declared.Carried.{Carried}
+use Rattle.console_cable.specs.declared.CableAfter.{CableAfter}
+use Rattle.console_cable.specs.CableCommands.{firstCarried, cableAfter, cableSetAfter, cableLine}
+use Rattle.console_cable.proofs.Cables.{cable-short}
 use Rattle.console_ask.specs.Questions.{Asks, Answered, answerRoom}
 use Rattle.console_ask.proofs.Once.{prints-once}
 use Rattle.console_obey.specs.declared.Desk.{Desk}
 use Rattle.console_obey.specs.declared.Step.{Step}
 use Rattle.console_obey.specs.Obeyed.{firstDesk, Prints, Stepped, textOf, Obeyed, ObeysIf, Obeys}
 
-pub begun : (x : Streams) (s : StartResult) (t : Replayed) → x ≡ emptySet → s ≡ startOf x → t ≡ firstReplay
-    → _≡_ {A = Desk} (record { set = x; state = s .state; replay = t }) firstDesk
-begun x s t e f g = rw (f, e, g)
+pub begun : (x : Streams) (s : StartResult) (t : Replayed) (k : Carried) → x ≡ emptySet → s ≡ startOf x → t ≡ firstReplay → k ≡ firstCarried
+    → _≡_ {A = Desk} (record { set = x; state = s .state; replay = t; carried = k }) firstDesk
+begun x s t k e f g h = rw (f, e, g, h)
 
 -- ---- a command of each group
 
@@ -70,11 +75,11 @@ module _ (d : Desk) (ns text out : List ℕ) (at : ℕ) where
     pub set-step : (k : SetCommand) (bytes : List ℕ) (a : SetAfter) → bytes ≡ unhexed text
         → a ≡ record { set = setAfter k ns bytes (d .set); line = holding (setLine k bytes) }
         → (end ≡ endOf out at (a .line)) × (page ≡ appended out at (a .line))
-        → Stepped d (Set k) ns text out at (record { desk = record { set = a .set; state = d .state; replay = d .replay }; at = end }) page
+        → Stepped d (Set k) ns text out at (record { desk = record { set = a .set; state = d .state; replay = d .replay; carried = d .carried }; at = end }) page
     set-step k bytes a f e p =
         let g : a ≡ record { set = setAfter k ns (unhexed text) (d .set); line = holding (setLine k (unhexed text)) } = rw f at e in
         record {
-          left = ap (λ (b : SetAfter). record { set = b .set; state = d .state; replay = d .replay }) g;
+          left = ap (λ (b : SetAfter). record { set = b .set; state = d .state; replay = d .replay; carried = d .carried }) g;
           bytes = setLine k (unhexed text);
           prints = refl;
           onto = onto-line out (setLine k (unhexed text)) at (a .line) end page (set-short k (unhexed text)) (ap (λ (b : SetAfter). b .line) g) p;
@@ -83,10 +88,10 @@ module _ (d : Desk) (ns text out : List ℕ) (at : ℕ) where
     pub state-step : (k : StateCommand) (a : StateAfter)
         → a ≡ record { state = stateAfter k ns (d .set) (d .state); line = holding (stateLine k ns (d .set) (d .state)) }
         → (end ≡ endOf out at (a .line)) × (page ≡ appended out at (a .line))
-        → Stepped d (State k) ns text out at (record { desk = record { set = d .set; state = a .state; replay = d .replay }; at = end }) page
+        → Stepped d (State k) ns text out at (record { desk = record { set = d .set; state = a .state; replay = d .replay; carried = d .carried }; at = end }) page
     state-step k a e p =
         record {
-          left = ap (λ (b : StateAfter). record { set = d .set; state = b .state; replay = d .replay }) e;
+          left = ap (λ (b : StateAfter). record { set = d .set; state = b .state; replay = d .replay; carried = d .carried }) e;
           bytes = stateLine k ns (d .set) (d .state);
           prints = refl;
           onto =
@@ -102,7 +107,7 @@ module _ (d : Desk) (ns text out : List ℕ) (at : ℕ) where
           line = holding (replayLineOf k bytes (d .state) (d .replay));
         }
         → (end ≡ endOf out at (a .line)) × (page ≡ appended out at (a .line))
-        → Stepped d (Replay k) ns text out at (record { desk = record { set = d .set; state = a .state; replay = a .replay }; at = end }) page
+        → Stepped d (Replay k) ns text out at (record { desk = record { set = d .set; state = a .state; replay = a .replay; carried = d .carried }; at = end }) page
     replayed-step k bytes a f e p =
         let line : List ℕ = replayLineOf k (unhexed text) (d .state) (d .replay) in
         let g : a
@@ -112,12 +117,32 @@ module _ (d : Desk) (ns text out : List ℕ) (at : ℕ) where
           line = holding (replayLineOf k (unhexed text) (d .state) (d .replay));
         } = rw f at e in
         record {
-          left = ap (λ (b : ReplayAfter). record { set = d .set; state = b .state; replay = b .replay }) g;
+          left = ap (λ (b : ReplayAfter). record { set = d .set; state = b .state; replay = b .replay; carried = d .carried }) g;
           bytes = line;
           prints = refl;
           onto =
               onto-line out line at (a .line) end page (replay-short k (unhexed text) (d .state) (d .replay))
               (ap (λ (b : ReplayAfter). b .line) g) p;
+        }
+
+    pub cable-step : (k : CableCommand) (bytes : List ℕ) (a : CableAfter) → bytes ≡ unhexed text
+        → a
+        ≡ record { carried = cableAfter k bytes (d .carried); set = cableSetAfter k (d .carried) (d .set); line = holding (cableLine k bytes (d .carried)) }
+        → (end ≡ endOf out at (a .line)) × (page ≡ appended out at (a .line))
+        → Stepped d (Cable k) ns text out at (record { desk = record { set = a .set; state = d .state; replay = d .replay; carried = a .carried }; at = end }) page
+    cable-step k bytes a f e p =
+        let line : List ℕ = cableLine k (unhexed text) (d .carried) in
+        let g : a
+        ≡ record {
+          carried = cableAfter k (unhexed text) (d .carried);
+          set = cableSetAfter k (d .carried) (d .set);
+          line = holding (cableLine k (unhexed text) (d .carried));
+        } = rw f at e in
+        record {
+          left = ap (λ (b : CableAfter). record { set = b .set; state = d .state; replay = d .replay; carried = b .carried }) g;
+          bytes = line;
+          prints = refl;
+          onto = onto-line out line at (a .line) end page (cable-short k (unhexed text) (d .carried)) (ap (λ (b : CableAfter). b .line) g) p;
         }
 
     pub record-step : roomFor out at answerRoom ≡ true → Records text (nth ns 0) out at end page
@@ -168,6 +193,7 @@ command-once (State k) ns text d v w p q = p ∙ sym q
 command-once (Ask a) ns text d v w p q = prints-once a ns (d .set) (d .state) v w p q
 command-once (Replay k) ns text d v w p q = p ∙ sym q
 command-once Record ns text d v w p q = p ∙ sym q
+command-once (Cable k) ns text d v w p q = p ∙ sym q
 
 module _ (d : Desk) (line out : List ℕ) (at : ℕ) where
   pub obeys-once : (r s : Step) (p q : List ℕ) → Obeys d line out at r p → Obeys d line out at s q → (r ≡ s) × (p ≡ q)

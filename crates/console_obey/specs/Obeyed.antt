@@ -12,21 +12,22 @@ use Rattle.ascii.specs.Hex.{unhexed}
 use Rattle.answer_words.specs.Words.{lineOf}
 use Rattle.page.specs.Pages.{roomFor, Onto}
 use Rattle.console_names.specs.declared.Command.{Command}
-use Rattle.console_names.specs.declared.Command.the-variants.{Nothing, Unknown, Set, State, Ask, Replay, Record}
+use Rattle.console_names.specs.declared.Command.the-variants.{Nothing, Unknown, Set, State, Ask, Replay, Record, Cable}
 use Rattle.console_names.specs.Rows.{nth}
 use Rattle.console_parse.specs.Lines.{orderOf}
 use Rattle.console_set.specs.SetCommands.{setAfter, setLine}
 use Rattle.console_state.specs.StateCommands.{stateAfter, stateLine}
 use Rattle.console_replay.specs.ReplayCommands.{firstReplay, replayAfter, replayStateAfter, replayLineOf}
 use Rattle.console_replay.specs.Records.{recordLines}
+use Rattle.console_cable.specs.CableCommands.{firstCarried, cableAfter, cableSetAfter, cableLine}
 use Rattle.console_ask.specs.Questions.{Prints as AskPrints, answerRoom}
 use Rattle.console_obey.specs.declared.Desk.{Desk}
 use Rattle.console_obey.specs.declared.Step.{Step}
 
 -- "The console holds a set (at first the empty set) and a state (at first the start of the empty set)." And a recording: "At first it is
--- empty."
+-- empty." And what is carried of a sheet in pieces: "(So it is at first.)"
 abbrev pub firstDesk : Desk
-firstDesk = record { set = emptySet; state = startOf emptySet .state; replay = firstReplay }
+firstDesk = record { set = emptySet; state = startOf emptySet .state; replay = firstReplay; carried = firstCarried }
 
 -- What a command with these numbers leaves; `text` is what stands behind them: the steps of a trace for `record`, else hex.
 abbrev pub leaves : Command → List ℕ → List ℕ → Desk → Desk
@@ -34,8 +35,8 @@ leaves Nothing ns text d = d
 -- "A line that is not one of those below .. prints `?` and changes nothing."
 leaves Unknown ns text d = d
 -- "the set becomes": the state stays; "the state becomes": the set stays
-leaves (Set k) ns text d = record { set = setAfter k ns (unhexed text) (d .set); state = d .state; replay = d .replay }
-leaves (State k) ns text d = record { set = d .set; state = stateAfter k ns (d .set) (d .state); replay = d .replay }
+leaves (Set k) ns text d = record { set = setAfter k ns (unhexed text) (d .set); state = d .state; replay = d .replay; carried = d .carried }
+leaves (State k) ns text d = record { set = d .set; state = stateAfter k ns (d .set) (d .state); replay = d .replay; carried = d .carried }
 leaves (Ask q) ns text d = d
 -- "one step of the replay on the console's state"
 leaves (Replay k) ns text d =
@@ -43,8 +44,17 @@ leaves (Replay k) ns text d =
       set = d .set;
       state = replayStateAfter k (d .replay) (d .state);
       replay = replayAfter k ns (unhexed text) (d .state) (d .replay);
+      carried = d .carried;
     }
 leaves Record ns text d = d
+-- "does what it does with the set, and the carried state is new again"
+leaves (Cable k) ns text d =
+    record {
+      set = cableSetAfter k (d .carried) (d .set);
+      state = d .state;
+      replay = d .replay;
+      carried = cableAfter k (unhexed text) (d .carried);
+    }
 
 -- The bytes that it prints.
 abbrev pub Prints : Command → List ℕ → List ℕ → Desk → List ℕ → Type 0
@@ -56,6 +66,7 @@ Prints (State k) ns text d w = w ≡ stateLine k ns (d .set) (d .state)
 Prints (Ask q) ns text d w = AskPrints q ns (d .set) (d .state) w
 Prints (Replay k) ns text d w = w ≡ replayLineOf k (unhexed text) (d .state) (d .replay)
 Prints Record ns text d w = w ≡ recordLines text (nth ns 0)
+Prints (Cable k) ns text d w = w ≡ cableLine k (unhexed text) (d .carried)
 
 -- A command obeyed: what it leaves, and the page with what it prints.
 pub record Stepped (d : Desk) (k : Command) (ns text out : List ℕ) (at : ℕ) (r : Step) (page : List ℕ) : Type 0 where

@@ -9,6 +9,7 @@ ghost use Rattle.page.specs.Pages.{roomFor};
 ghost use Rattle.console_parse.specs.Lines.{longest};
 ghost use Rattle.console_ask.specs.Questions.{answerRoom};
 ghost use Rattle.console_obey.specs.Obeyed.{firstDesk, Stepped, Obeys};
+use console_names::CableCommand;
 use console_names::Command;
 use console_names::NUMBERS;
 use console_names::Question;
@@ -18,12 +19,14 @@ use console_names::StateCommand;
 use console_replay::Replay;
 use rules::Set;
 use rules::State;
+use sheet_carried::Carried;
 
 // What the console holds.
 pub struct Desk {
     pub set: Set,
     pub state: State,
     pub replay: Replay,
+    pub carried: Carried,
 }
 
 // What the console holds after a command, and where the page ends.
@@ -40,7 +43,13 @@ pub fn first() -> Desk
     let r = scheduler::start(set);
     let state = r.state;
     let replay = console_replay::first();
-    Desk { set, state, replay }
+    let carried = sheet_read::cable();
+    Desk {
+        set,
+        state,
+        replay,
+        carried,
+    }
 }
 
 // ---- a command of each group; `bytes` are those that stand in hex in its text
@@ -68,8 +77,14 @@ fn set_step(
     let set = a.set;
     let state = d.state;
     let replay = d.replay;
+    let carried = d.carried;
     let end = page::append(out, at, a.line);
-    let desk = Desk { set, state, replay };
+    let desk = Desk {
+        set,
+        state,
+        replay,
+        carried,
+    };
     Step { desk, at: end }
 }
 
@@ -87,8 +102,14 @@ fn state_step(
     let set = d.set;
     let state = a.state;
     let replay = d.replay;
+    let carried = d.carried;
     let end = page::append(out, at, a.line);
-    let desk = Desk { set, state, replay };
+    let desk = Desk {
+        set,
+        state,
+        replay,
+        carried,
+    };
     Step { desk, at: end }
 }
 
@@ -123,11 +144,13 @@ fn replayed_step(
     let set = d.set;
     let stepped = a.state;
     let replay = a.replay;
+    let carried = d.carried;
     let end = page::append(out, at, a.line);
     let desk = Desk {
         set,
         state: stepped,
         replay,
+        carried,
     };
     Step { desk, at: end }
 }
@@ -138,6 +161,33 @@ fn record_step(d: Desk, n: [u32; NUMBERS], text: &[u8], out: &mut [u8], at: usiz
 {
     let end = console_replay::record_onto(n[0], text, out, at);
     Step { desk: d, at: end }
+}
+
+fn cable_step(
+    d: Desk,
+    k: CableCommand,
+    n: [u32; NUMBERS],
+    text: &[u8],
+    bytes: &[u8],
+    out: &mut [u8],
+    at: usize,
+) -> Step
+    requires { ⌜ now bytes ≡ unhexed (now text) ⌝ }
+    ensures { λ r. ⌜ Stepped d (Command.Cable k) n (now (text .entry)) (now (out .entry)) at r (now (out .exit)) ⌝ }
+{
+    let a = console_cable::after(d.carried, d.set, k, bytes);
+    let closed = a.set;
+    let state = d.state;
+    let replay = d.replay;
+    let fed = a.carried;
+    let end = page::append(out, at, a.line);
+    let desk = Desk {
+        set: closed,
+        state,
+        replay,
+        carried: fed,
+    };
+    Step { desk, at: end }
 }
 
 // ---- every command
@@ -162,6 +212,7 @@ fn command_step(
         Command::Ask(q) => question_step(d, q, n, text, out, at),
         Command::Replay(c) => replayed_step(d, c, n, text, bytes, out, at),
         Command::Record => record_step(d, n, text, out, at),
+        Command::Cable(c) => cable_step(d, c, n, text, bytes, out, at),
     }
 }
 

@@ -2,7 +2,7 @@
 ghost use mathlib.Core.Path.{_≡_};
 ghost use Prim.Native.Nat.{_≤_};
 ghost use lib.ListN.{length};
-ghost use Rattle.rules.specs.Numbers.{startSays, chooseSays, countSays, jitterSays, writeSays, recordSays};
+ghost use Rattle.rules.specs.Numbers.{startSays, chooseSays, countSays, jitterSays, writeSays, recordSays, feedSays};
 ghost use Rattle.line.specs.Line.{holding, puts};
 ghost use mathlib.Core.List.{[]};
 ghost use Rattle.ascii.specs.Decimal.{letters};
@@ -11,6 +11,7 @@ ghost use Rattle.console_words.specs.Words.{validWords, formedWords, rec
 use line::Line;
 use rules::ChooseAnswer;
 use rules::CountAnswer;
+use rules::FeedAnswer;
 use rules::JitterAnswer;
 use rules::ReadAnswer;
 use rules::RecordAnswer;
@@ -86,6 +87,15 @@ fn record_words(l: Line, a: RecordAnswer) -> Line
     }
 }
 
+fn feed_words(l: Line, a: FeedAnswer) -> Line
+    ensures { λ r. ⌜ r ≡ puts l (says (feedSays a)) ⌝ }
+{
+    match a {
+        FeedAnswer::Fed => line::word(l, b"fed"),
+        FeedAnswer::Refused(why) => answer_words::refused(l, why),
+    }
+}
+
 fn read_words(l: Line, a: ReadAnswer, n: usize) -> Line
     ensures { λ r. ⌜ r ≡ puts l (readWords a n) ⌝ }
 {
@@ -129,6 +139,12 @@ pub fn record_line(a: RecordAnswer) -> Line
     ensures { λ r. ⌜ r ≡ holding (lineOf (says (recordSays a))) ⌝ }
 {
     line::put(record_words(line::blank(), a), b'\n')
+}
+
+pub fn feed_line(a: FeedAnswer) -> Line
+    ensures { λ r. ⌜ r ≡ holding (lineOf (says (feedSays a))) ⌝ }
+{
+    line::put(feed_words(line::blank(), a), b'\n')
 }
 
 // The bytes of a recording.

@@ -1,11 +1,15 @@
 // Questions about a sheet for a caller in another language: bytes come in, one number goes out.
 ghost use mathlib.Core.Path.{_≡_};
+ghost use Prim.Native.Nat.{_<_, _≤_};
+ghost use Rattle.laws.specs.Bits.{bits};
 ghost use Rattle.rules.specs.Sheet.{readOf};
+ghost use Rattle.sheet_carried.specs.Reader.{run, startOf};
 ghost use Rattle.load_check.specs.Sheets.{SheetVerdict};
 ghost use Rattle.exports.specs.Codes.{halves, answerNumber, readCode, kindOf, lengthOf, verdictCode, VerdictOfSheet, runCode};
 use rules::ReadAnswer;
 use rules::Set;
 use rules::Verdict;
+use sheet_carried::Carried;
 
 // Two numbers in one, each by its lowest 32 bits.
 fn in_halves(upper: u64, lower: u64) -> u64
@@ -31,6 +35,51 @@ pub extern "C" fn sheet_read(bytes: &[u8], k: usize) -> u64
     ensures { λ r. ⌜ r ≡ readCode (readOf (now (bytes .entry))) k ⌝ }
 {
     let r = sheet_read::read(bytes);
+    let a = r.answer;
+    let set = r.set;
+    let s = stream_valid::stream_at(set, k);
+    in_halves(answer_number(a), s.deadline as u64)
+}
+
+// ---- reading in pieces
+
+// How many of the bytes that are left come as one piece: `size` of them, or all for a size of 0 or where there are not so many.
+fn piece_of(size: usize, rest: usize) -> usize
+    requires { ⌜ 0 < rest ⌝ }
+    ensures { λ r. ⌜ (0 < r) × (r ≤ rest) ⌝ }
+{
+    if size == 0 {
+        return rest;
+    }
+    if size < rest {
+        return size;
+    }
+    rest
+}
+
+// The bytes are fed in pieces of `size`.
+fn fed(bytes: &[u8], size: usize) -> Carried
+    ensures { λ r. ⌜ r ≡ run startOf (bits (now (bytes .entry))) ⌝ }
+{
+    let mut c = sheet_read::cable();
+    let mut at: usize = 0;
+    while at < bytes.len() {
+        let end = at + piece_of(size, bytes.len() - at);
+        let r = sheet_read::feed(c, &bytes[at..end]);
+        let next = r.carried;
+        c = next;
+        at = end;
+    }
+    c
+}
+
+// As `sheet_read`, the bytes fed in pieces of `size`: however they are cut, the number is the same.
+#[no_mangle]
+pub extern "C" fn sheet_fed(bytes: &[u8], size: usize, k: usize) -> u64
+    ensures { λ r. ⌜ r ≡ readCode (readOf (now (bytes .entry))) k ⌝ }
+{
+    let c = fed(bytes, size);
+    let r = sheet_read::close(c);
     let a = r.answer;
     let set = r.set;
     let s = stream_valid::stream_at(set, k);

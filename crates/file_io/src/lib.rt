@@ -37,6 +37,36 @@ pub fn read_sheet() -> ReadResult {
     sheet_read::read(&bytes[..n])
 }
 
+// ---- the file set.bin, written
+
+// Tells which file cannot be written, and takes the new one away.
+fn give_up(what: &[u8]) -> bool {
+    os::fail(what);
+    os::unlink(b"set.bin.new");
+    false
+}
+
+// Writes the sheet to a file of its own, which then takes the place of set.bin: that is the whole sheet, or as it was.
+pub fn save_sheet(bytes: &[u8]) -> bool {
+    let fd = os::open_overwrite(b"set.bin.new");
+    if fd < 0 {
+        os::fail(b"set.bin.new");
+        return false;
+    }
+    let written = io::write_all(fd, bytes);
+    let closed = libc::close(fd);
+    if !written {
+        return give_up(b"set.bin.new");
+    }
+    if closed < 0 {
+        return give_up(b"set.bin.new");
+    }
+    if os::rename(b"set.bin.new", b"set.bin") < 0 {
+        return give_up(b"set.bin");
+    }
+    true
+}
+
 // ---- standard input
 
 // Of standard input a program reads at most 2,097,152 bytes: the buffer for it has one more. Only its length is told, which lending it needs.

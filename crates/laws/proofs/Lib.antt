@@ -5,3 +5,4 @@ pub mod Fits
 pub mod Gates
 pub mod Fields
 pub mod Packing
+pub mod Arrays

@@ -13,7 +13,7 @@ use Rattle.rules.specs.declared.Call.the-variants.{Posts, Units}
 use Rattle.rules.specs.declared.PostAnswer.the-variants.{Posted}
 use Rattle.rules.specs.States.{wellFormed, stagesIn, taskOf, costOf, mostPending, lastClock}
 use Rattle.rules.specs.Steps.{newMessage, added, postOf, messageAt, placeOf, chooseOf, laxityOf, servedOf, emptyUnit, unitOf, callOf}
-use Rattle.rules.specs.Numbers.{Says, refused, refused-with-0, started, posted, none, runs, ran, passed, done as finishes, cut, idle, gives, tuples, accept, late, overload, read, wrote, ended, recorded, opened, tested, tested-accept, tested-late, postSays, chooseSays, unitSays, callSays}
+use Rattle.rules.specs.Numbers.{Says, refused, refused-with-0, started, posted, none, runs, ran, passed, done as finishes, cut, idle, gives, tuples, accept, late, overload, read, fed, wrote, ended, recorded, opened, tested, tested-accept, tested-late, postSays, chooseSays, unitSays, callSays}
 use Rattle.promise_steps.specs.Refusals.{saysToPost, saysToUnit, Twelve, One, NotInSet, Two, AllPlacesTaken, Three, AtLastClock, Four, DoneWithNothing, RefusedSame}
 
 -- the number of a refusal, 0 of any other answer: two that say the same have the same
@@ -35,6 +35,7 @@ no-of accept = 0
 no-of (late i w) = 0
 no-of overload = 0
 no-of read = 0
+no-of fed = 0
 no-of (wrote n) = 0
 no-of ended = 0
 no-of (recorded n) = 0

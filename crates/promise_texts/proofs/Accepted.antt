@@ -23,9 +23,8 @@ use Rattle.rules.specs.declared.Refusal.the-variants.{OutOfRule}
 use Rattle.rules.specs.Streams.{offset, offsetAt, jitterOk, jitterOf}
 use Rattle.rules.specs.Sheet.{streamOf, setOf}
 use Rattle.rules.specs.Valid.{Between, ValidCycle, ValidPlace, ValidStage}
-use Rattle.sheet_read.proofs.Filled.{cond-elim}
-use Rattle.sheet_write.proofs.Back.{Chain}
-use Rattle.sheet_write.proofs.Accepted.{GoodStream, stream-four, stream-ok, set-ok, set-placed}
+use Rattle.sheet_carried.proofs.Filled.{cond-elim}
+use Rattle.sheet_carried.proofs.Streams.{Chain, GoodStream, set-ok, set-placed, stream-four, stream-ok}
 use Rattle.ascii.specs.Decimal.{letters, readOn}
 use Rattle.ascii.specs.Same.{same}
 use Rattle.text_line.specs.declared.Fault.{Fault}

@@ -20,7 +20,7 @@ use Rattle.rules.specs.Streams.{noStage, noTuple, noStream, offset, offsetAt, s
 use Rattle.rules.specs.Sheet.{streamOf}
 use Rattle.rules.specs.Valid.{Between, ValidCycle, ValidPlace, ValidStage, ValidStream, FirstZero}
 use Rattle.rules.proofs.Valid.{valid-place, valid-stream}
-use Rattle.sheet_write.proofs.Whole.{stream-holds, whole-stream}
+use Rattle.sheet_carried.proofs.Whole.{stream-holds, whole-stream}
 use Rattle.ascii.specs.Decimal.{letters, decimalOf}
 use Rattle.ascii.specs.Same.{same}
 use Rattle.text_line.specs.declared.LineRead.{LineRead}

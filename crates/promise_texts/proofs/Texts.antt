@@ -22,7 +22,7 @@ use Rattle.rules.specs.Streams.{FourPlaces, Placed, streamsOf, streamOk, valid}
 use Rattle.rules.specs.Sheet.{setOf, sheetOf, readOf}
 use Rattle.rules.specs.Valid.{ValidSet, ValidStream}
 use Rattle.rules.proofs.Valid.{valid-stream, valid-set, streams-few}
-use Rattle.sheet_write.proofs.Whole.{Staged, set-holds, whole-set, version-within, set-staged}
+use Rattle.sheet_carried.proofs.Whole.{Staged, set-holds, whole-set, version-within, set-staged}
 use Rattle.sheet_write.proofs.Back.{read-back}
 use Rattle.sheet_write.proofs.Rounds.{SheetOf, read-exactly}
 use Rattle.ascii.specs.Same.{same}

@@ -7,4 +7,5 @@ pub mod Sheet
 pub mod Numbers
 pub mod Runs
 pub mod Recordings
+pub mod Pieces
 pub mod Resumed

@@ -23,6 +23,8 @@ use Rattle.rules.specs.declared.Verdict.{Verdict}
 use Rattle.rules.specs.declared.Verdict.the-variants.{Accept, Late, Overload, Refused as VerdictRefused}
 use Rattle.rules.specs.declared.ReadAnswer.{ReadAnswer}
 use Rattle.rules.specs.declared.ReadAnswer.the-variants.{Read, Refused as ReadRefused}
+use Rattle.rules.specs.declared.FeedAnswer.{FeedAnswer}
+use Rattle.rules.specs.declared.FeedAnswer.the-variants.{Fed, Refused as FeedRefused}
 use Rattle.rules.specs.declared.ReplayAnswer.{ReplayAnswer}
 use Rattle.rules.specs.declared.ReplayAnswer.the-variants.{Called, Ended, Refused as ReplayRefused}
 use Rattle.rules.specs.declared.RecordAnswer.{RecordAnswer}
@@ -71,6 +73,7 @@ pub data Says : Type 0 where
   late : (length demand : ℕ) → Says
   overload : Says
   read : Says
+  fed : Says
   wrote : (bytes : ℕ) → Says
   ended : Says
   recorded : (bytes : ℕ) → Says
@@ -125,6 +128,11 @@ verdictSays (VerdictRefused why) = refused (number why)
 abbrev pub readSays : ReadAnswer → Says
 readSays Read = read
 readSays (ReadRefused why) = refused (number why)
+
+-- request 5: feeding a piece says nothing but that, or 12
+abbrev pub feedSays : FeedAnswer → Says
+feedSays Fed = fed
+feedSays (FeedRefused why) = refused (number why)
 
 abbrev pub writeSays : WriteAnswer → Says
 writeSays (Wrote n) = wrote n

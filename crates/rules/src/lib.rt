@@ -169,6 +169,12 @@ pub struct ReadResult {
     pub set: Set,
 }
 
+// What feeding a piece of a sheet answers: nothing is told of the sheet before closing.
+pub enum FeedAnswer {
+    Fed,
+    Refused(Refusal),
+}
+
 pub enum WriteAnswer {
     // bytes written
     Wrote(usize),

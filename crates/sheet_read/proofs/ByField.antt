@@ -23,13 +23,13 @@ use Rattle.rules.specs.declared.ReadResult.{ReadResult}
 use Rattle.rules.specs.declared.ReadAnswer.the-variants.{Read}
 use Rattle.rules.specs.Streams.{noStage, noStream, noTuple, streamsOf}
 use Rattle.rules.specs.Sheet.{field, inRule, isZero, noSet, readBits, readDeadline, readEnd, readHead, readOf, readStages, readStream, readStreams, readTuples, setOf, streamOf, tupleOf}
-use Rattle.sheet_read.specs.declared.Carried.{Carried}
-use Rattle.sheet_read.specs.Table.{answerOf, behindOf, firstOrder, followingOf, greatestOf, inRuleOf, leastOf, openedOf, orderOf, refusalOf, rowOf, secondOrder, whyOf, widthOf}
-use Rattle.sheet_read.specs.Reader.{begun, behindCost, behindOffset, behindVersion, closeOf, goesOn, lastStage, nextField, nextOf, nextStage, nextStream, nextTuple, noStages, noTuples, placedIn, reading, refusedOf, run, stageIn, stagedIn, startOf, stepBy, stepOf, streamIn, valueAt, withStream}
-use Rattle.sheet_read.specs.Kept.{Holds, Kept, KeptAt, mostWhole, stagesWhole, tuplesWhole}
-use Rattle.sheet_read.proofs.Filled.{holds-more, taken-more}
-use Rattle.sheet_read.proofs.Rows.{behind-padding, by-value-row, by-values, pad-rule, same-order, width-none, width-pad, width-some, within-all, within-zero}
-use Rattle.sheet_read.proofs.Keeps.{kept-start, kept-step, value-fits}
+use Rattle.sheet_carried.specs.declared.Carried.{Carried}
+use Rattle.sheet_carried.specs.Table.{answerOf, behindOf, firstOrder, followingOf, greatestOf, inRuleOf, leastOf, openedOf, orderOf, refusalOf, rowOf, secondOrder, whyOf, widthOf}
+use Rattle.sheet_carried.specs.Reader.{begun, behindCost, behindOffset, behindVersion, closeOf, goesOn, lastStage, nextField, nextOf, nextStage, nextStream, nextTuple, noStages, noTuples, placedIn, reading, refusedOf, run, stageIn, stagedIn, startOf, stepBy, stepOf, streamIn, valueAt, withStream}
+use Rattle.sheet_carried.specs.Kept.{Holds, Kept, KeptAt, mostWhole, stagesWhole, tuplesWhole}
+use Rattle.sheet_carried.proofs.Filled.{holds-more, taken-more}
+use Rattle.sheet_carried.proofs.Rows.{behind-padding, by-value-row, by-values, pad-rule, same-order, width-none, width-pad, width-some, within-all, within-zero}
+use Rattle.sheet_carried.proofs.Keeps.{kept-start, kept-step, value-fits}
 
 -- ---- the definition's reading from a state of the machine on
 

@@ -24,15 +24,15 @@ use Rattle.rules.specs.declared.Stream.{Stream}
 use Rattle.rules.specs.declared.TuplePlace.{TuplePlace}
 use Rattle.rules.specs.Streams.{emptySet}
 use Rattle.rules.specs.Sheet.{tupleOf}
-use Rattle.sheet_read.specs.declared.SheetField.{SheetField}
-use Rattle.sheet_read.specs.declared.Point.{Point}
-use Rattle.sheet_read.specs.declared.Carried.{Carried}
-use Rattle.sheet_read.specs.Table.{behindOf, followingOf, inRuleOf, openedOf, refusalOf, widthOf}
-use Rattle.sheet_read.specs.Reader.{begun, behindCost, behindOffset, behindVersion, frontOf, goesOn, joinedOf, lastStage, nextField, nextOf, nextStage, nextStream, nextTuple, noStages, noTuples, noValues, pointAt, reading, refusedOf, ruleOf, run, stageIn, streamIn, tupled, valueAt, withStream, withVersion}
-use Rattle.sheet_read.specs.Kept.{Kept, KeptAt, mostWhole}
-use Rattle.sheet_read.proofs.Rows.{behind-padding, row-some, same-order, width-le, width-none}
-use Rattle.sheet_read.proofs.Keeps.{kept-run}
-use Rattle.sheet_read.proofs.Chunks.{run-append, run-part, run-stopped, run-whole}
+use Rattle.sheet_carried.specs.declared.SheetField.{SheetField}
+use Rattle.sheet_carried.specs.declared.Point.{Point}
+use Rattle.sheet_carried.specs.declared.Carried.{Carried}
+use Rattle.sheet_carried.specs.Table.{behindOf, followingOf, inRuleOf, openedOf, refusalOf, widthOf}
+use Rattle.sheet_carried.specs.Reader.{begun, behindCost, behindOffset, behindVersion, frontOf, goesOn, joinedOf, lastStage, nextField, nextOf, nextStage, nextStream, nextTuple, noStages, noTuples, noValues, pointAt, reading, refusedOf, ruleOf, run, stageIn, streamIn, tupled, valueAt, withStream, withVersion}
+use Rattle.sheet_carried.specs.Kept.{Kept, KeptAt, mostWhole}
+use Rattle.sheet_carried.proofs.Rows.{behind-padding, row-some, same-order, width-le, width-none}
+use Rattle.sheet_carried.proofs.Keeps.{kept-run}
+use Rattle.sheet_carried.proofs.Chunks.{run-append, run-part, run-stopped, run-whole}
 
 -- ---- bits behind those that have come
 

@@ -1,3 +1,1 @@
-pub mod Table
-pub mod Reader
-pub mod Kept
+pub mod Cable

@@ -1,14 +1,14 @@
 // What the sheet reads as when no bit comes any more.
 ghost use mathlib.Core.Path.{_≡_};
-ghost use Rattle.sheet_read.specs.Table.{answerOf};
-ghost use Rattle.sheet_read.specs.Reader.{closeOf};
-ghost use Rattle.sheet_read.specs.Kept.{Kept};
-use crate::Carried;
+ghost use Rattle.sheet_carried.specs.Table.{answerOf};
+ghost use Rattle.sheet_carried.specs.Reader.{closeOf};
+ghost use Rattle.sheet_carried.specs.Kept.{Kept};
 use crate::feeding;
 use crate::table;
 use rules::ReadAnswer;
 use rules::ReadResult;
 use rules::Refusal;
+use sheet_carried::Carried;
 
 fn answer(f: usize) -> ReadAnswer
     ensures { λ r. ⌜ r ≡ answerOf f ⌝ }

@@ -4,10 +4,8 @@ ghost use Prim.Native.Nat.{_+_, _<_, _≤_};
 ghost use Rattle.laws.specs.Bits.{bits};
 ghost use Rattle.rules.specs.Streams.{emptySet, noStream};
 ghost use Rattle.rules.specs.Sheet.{tupleOf};
-ghost use Rattle.sheet_read.specs.Reader.{frontOf, joinedOf, noStages, noTuples, refusedOf, run, stageIn, startOf, streamIn};
-ghost use Rattle.sheet_read.specs.Kept.{Holds, Kept};
-use crate::Carried;
-use crate::Point;
+ghost use Rattle.sheet_carried.specs.Reader.{frontOf, joinedOf, noStages, noTuples, refusedOf, run, stageIn, startOf, streamIn};
+ghost use Rattle.sheet_carried.specs.Kept.{Holds, Kept};
 use crate::table;
 use bits::Gathered;
 use rules::Set;
@@ -15,6 +13,8 @@ use rules::Stage;
 use rules::Stream;
 use rules::Tuple;
 use rules::TuplePlace;
+use sheet_carried::Carried;
+use sheet_carried::Point;
 
 // ---- stages, tuples and streams
 

@@ -1,49 +1,68 @@
-// A sheet is read, of either version.
+// A sheet is read, of either version: whole, or in pieces.
 // The reader takes bits: it keeps the whole fields that it has read, and the bits that have come of the next one.
 mod closing; // closing.rt: what the sheet reads as when no bit comes any more
 mod feeding; // feeding.rt: bits come, field after field
 mod table; // table.rt: the fields of a sheet as data
 
+use rules::FeedAnswer;
+use rules::ReadAnswer;
 use rules::ReadResult;
-use rules::Set;
-use rules::Stage;
-use rules::TuplePlace;
+use rules::Refusal;
+use sheet_carried::Carried;
 ghost use mathlib.Core.Path.{_≡_};
 ghost use Rattle.rules.specs.Sheet.{readOf};
-
-// ---- the reader's state
-
-// How many bits a field of a sheet has, and from where to where its value may be.
-pub struct SheetField {
-    pub width: u32,
-    pub least: u32,
-    pub greatest: u32,
-}
-
-// The field that comes, by its row in the table; how many whole stages (before a task or a cost) or whole tuples (before a cycle or an
-// offset) of the stream that is being read stand before it, and 0 before any other field; the bits that have come of it as a number,
-// and how many have not.
-pub struct Point {
-    pub row: usize,
-    pub whole: usize,
-    pub acc: u64,
-    pub left: u32,
-}
-
-// What is kept between two pieces: a point; the values that have been read, each in its field's place; the whole stages and the whole
-// tuples of the stream that is being read; the streams that are whole, in a set of the version that was read. The version stands in
-// the set alone and a cost in its stage alone. What has not been read is zero, and the version of a set 1.
-pub struct Carried {
-    pub point: Point,
-    pub values: [u32; 9],
-    pub stages: [Stage; 4],
-    pub places: [TuplePlace; 4],
-    pub set: Set,
-}
+ghost use Rattle.sheet_carried.specs.Reader.{startOf};
+ghost use Rattle.sheet_read.specs.Cable.{closedOf, feedOf};
 
 // What a string of bytes reads as: the set, or a refusal with the empty set.
 pub fn read(bytes: &[u8]) -> ReadResult
     ensures { λ r. ⌜ r ≡ readOf (now (bytes .entry)) ⌝ }
 {
     closing::close(feeding::feed(feeding::start(), bytes))
+}
+
+// ---- in pieces
+
+// What feeding a piece answers, and what is carried behind it.
+pub struct FeedResult {
+    pub answer: FeedAnswer,
+    pub carried: Carried,
+}
+
+// What is carried before the first piece.
+pub fn cable() -> Carried
+    ensures { λ r. ⌜ r ≡ startOf ⌝ }
+{
+    feeding::start()
+}
+
+// A piece of a sheet, any bytes: fed, or 12 for what no pieces could have left, unchanged.
+pub fn feed(c: Carried, piece: &[u8]) -> FeedResult
+    ensures { λ r. ⌜ r ≡ feedOf c (now (piece .entry)) ⌝ }
+{
+    if sheet_carried::could_be_left(c) {
+        FeedResult {
+            answer: FeedAnswer::Fed,
+            carried: feeding::feed(c, piece),
+        }
+    } else {
+        FeedResult {
+            answer: FeedAnswer::Refused(Refusal::IllFormed),
+            carried: c,
+        }
+    }
+}
+
+// What the bytes that were fed read as; 12 with the empty set for what no pieces could have left.
+pub fn close(c: Carried) -> ReadResult
+    ensures { λ r. ⌜ r ≡ closedOf c ⌝ }
+{
+    if sheet_carried::could_be_left(c) {
+        closing::close(c)
+    } else {
+        ReadResult {
+            answer: ReadAnswer::Refused(Refusal::IllFormed),
+            set: stream_valid::empty_set(),
+        }
+    }
 }

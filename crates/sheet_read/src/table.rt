@@ -2,10 +2,10 @@
 ghost use mathlib.Core.Path.{_≡_};
 ghost use Prim.Native.Nat.{_<_};
 ghost use Rattle.laws.specs.Lists.{within};
-ghost use Rattle.sheet_read.specs.Table.{row, rowOf, greatestOf, refusalOf, behindOf, openedOf, followingOf};
-ghost use Rattle.sheet_read.specs.Reader.{pointAt, ruleOf};
-use crate::Point;
-use crate::SheetField;
+ghost use Rattle.sheet_carried.specs.Table.{row, rowOf, greatestOf, refusalOf, behindOf, openedOf, followingOf};
+ghost use Rattle.sheet_carried.specs.Reader.{pointAt, ruleOf};
+use sheet_carried::Point;
+use sheet_carried::SheetField;
 
 // The rows that something else than the next row can come behind, or that a value is looked up by.
 pub(crate) const VERSION: usize = 0;

@@ -25,184 +25,24 @@ use Rattle.rules.specs.declared.ReadResult.{ReadResult}
 use Rattle.rules.specs.Streams.{FourPlaces, Placed, cycleOk, noStage, noStream, noTuple, offset, offsetAt, oneStage, setTests, stageOk, stageUnused, streamOk, streamTests, streamUnused, streamsOf, tupleOk, tupleUnused, tuplesOk, valid, versionOk}
 use Rattle.rules.specs.Sheet.{field, headBits, inRule, noSet, placeBits, readDeadline, readEnd, readHead, readStages, readStream, readStreams, readTuples, setOf, stageBits, streamBits, streamOf, tupleBits, tupleOf}
 use Rattle.rules.specs.Valid.{Between, ValidCycle, ValidStage}
-use Rattle.sheet_read.proofs.Filled.{cond-elim}
-use Rattle.sheet_write.proofs.Whole.{Staged}
-use Rattle.sheet_write.proofs.Back.{Chain, costNext, countNext, cycleNext, deadlineNext, headBy, headNext, offsetNext, readHeadBy, taskNext, tuplesNext}
+use Rattle.sheet_carried.proofs.Filled.{cond-elim}
+use Rattle.sheet_carried.proofs.Streams.{Chain, GoodStream, cycle-of, offset-of, set-ok, set-placed, stream-four, stream-ok, streams-of, within-high, within-low}
+use Rattle.sheet_write.proofs.Back.{costNext, countNext, cycleNext, deadlineNext, headBy, headNext, offsetNext, readHeadBy, taskNext, tuplesNext}
 
--- ---- tests that pass, put together
-
-every-of : (ts : List Bool) → All Passes ts → every ts ≡ true
-every-of [] h = refl
-every-of (t ∷ []) h = h .0
-every-of (t ∷ (u ∷ ts)) h = ap₂ (λ (a b : Bool). a && b) (h .0) (every-of (u ∷ ts) (h .1))
-
-both : (a b : Bool) → a ≡ true → b ≡ true → a && b ≡ true
-both a b h k = ap₂ (λ (p q : Bool). p && q) h k
-
-all-same : {A : Type 0} (p : A → Bool) (n : ℕ) (a : A) → p a ≡ true → all p (replicate n a) ≡ true
-unfolding all
-all-same p zero a h = refl
-all-same p (suc n) a h = both (p a) (all p (replicate n a)) h (all-same p n a h)
-
--- ---- one tuple that was read
-
-offset-of : (z a : ℕ) → offsetAt (tupleOf z a) ≡ a
-offset-of z a = cond-elim (λ (t : Tuple). offset t ≡ a) (eqb z 0) (Once a) (Every z a) (λ e. refl) (λ e. refl)
+-- ---- the bits of what was read
 
 bits-of : (z a : ℕ) → placeBits (tupleOf z a) ≡ toBits 20 z ++ toBits 17 a
 bits-of z a =
     cond-elim (λ (t : Tuple). tupleBits t ≡ toBits 20 z ++ toBits 17 a) (eqb z 0) (Once a) (Every z a)
     (λ e. ap (λ (n : ℕ). toBits 20 n ++ toBits 17 a) (sym (eqb-true z 0 e))) (λ e. refl)
 
-cycle-of : (z a : ℕ) → z ≤ 1000000 → ValidCycle (tupleOf z a .tuple)
-cycle-of z a h =
-    cond-elim ValidCycle (eqb z 0) (Once a) (Every z a) (λ e. tt) (λ e. record { low = omega (arith, eqb-false z 0 e); high = h })
-
-within-both : (a x b : ℕ) → Between a x b → within a x b ≡ true
-within-both a x b h = both (leb a x) (leb x b) (le-leb a x (h .low)) (le-leb x b (h .high))
-
-cycle-ok : (t : Tuple) → ValidCycle t → cycleOk t ≡ true
-cycle-ok (Once a) v = refl
-cycle-ok (Every z a) v = within-both 1 z 1000000 v
-
-within-low : (a x b : ℕ) → within a x b ≡ true → a ≤ x
-within-low a x b e = leb-true a x (and-parts (leb a x) (leb x b) e .0)
-
-within-high : (a x b : ℕ) → within a x b ≡ true → x ≤ b
-within-high a x b e = leb-true x b (and-parts (leb a x) (leb x b) e .1)
-
--- offsets in order pass the test of a stream's tuples
-scan-of : (low high : ℕ) (ps : List TuplePlace) → Chain low high ps → scan tupleOk offsetAt low ps ≡ true
-unfolding scan tupleOk
-scan-of low high [] c = refl
-scan-of low high (p ∷ ps) c =
-    both (tupleOk low p) (scan tupleOk offsetAt (offsetAt p) ps)
-    (every-of (leb low (offset (p .tuple)) ∷ leb (offset (p .tuple)) 100000 ∷ cycleOk (p .tuple) ∷ []) (
-      le-leb low (offset (p .tuple)) (within-low low (offsetAt p) high (c .0)),
-      (le-leb (offset (p .tuple)) 100000 (c .1 .0 .offset), (cycle-ok (p .tuple) (c .1 .0 .cycle), tt)),
-    ))
-    (scan-of (offsetAt p) 100000 ps (c .1 .1))
-
-first-ok : (ps rest : List TuplePlace) → 0 < length ps → Chain 0 0 ps → eqb (offsetAt (getD (ps ++ rest) 0 noTuple)) 0 ≡ true
-first-ok [] rest h c = absurd (omega arith)
-first-ok (p ∷ ps) rest h c = eq-eqb (offsetAt p) 0 (omega (arith, within-high 0 (offsetAt p) 0 (c .0)))
-
--- ---- a stream that was read
-
-no-tuple-unused : tupleUnused noTuple ≡ true
-unfolding tupleUnused
-no-tuple-unused = refl
-
-stage-ok : (g : Stage) → ValidStage g → stageOk g ≡ true
-unfolding stageOk
-stage-ok g v = both (leb (g .task) 15) (within 1 (g .cost) 65535) (le-leb (g .task) 15 (v .task)) (within-both 1 (g .cost) 65535 (v .cost))
-
-stages-ok : (gs : List Stage) → All ValidStage gs → all stageOk gs ≡ true
-unfolding all
-stages-ok [] v = refl
-stages-ok (g ∷ gs) v = both (stageOk g) (all stageOk gs) (stage-ok g (v .0)) (stages-ok gs (v .1))
-
-no-stage-unused : stageUnused noStage ≡ true
-unfolding stageUnused
-no-stage-unused = refl
-
--- places of which the first are in use
-places-length : {A : Type 0} (N : ℕ) (none : A) (l : List A) → length l ≤ N → length (l ++ replicate (N - length l) none) ≡ N
-places-length {A} N none l h = omega (arith, length-append l (replicate (N - length l) none), length-replicate {A = A} (N - length l) none)
-
-rest-unused : {A : Type 0} (p : A → Bool) (N : ℕ) (none : A) (l : List A) → p none ≡ true → all p (drop (length l) (l ++ replicate (N - length l) none)) ≡ true
-rest-unused p N none l h = ap (all p) (drop-append-seam l (replicate (N - length l) none)) ∙ all-same p (N - length l) none h
-
 module _ (gs : List Stage) (deadline : ℕ) (ps : List TuplePlace) (shallow : length gs ≤ 4) (few : length ps ≤ 4) where
-  pub stream-four : FourPlaces (streamOf gs deadline ps)
-  stream-four = record { stages = places-length 4 noStage gs shallow; tuples = places-length 4 noTuple ps few }
-
-  pub stream-ok : 0 < length gs → All ValidStage gs → within 1 deadline 200000 ≡ true → 0 < length ps → Chain 0 0 ps → streamOk (streamOf gs deadline ps) ≡ true
-  unfolding streamOk tuplesOk
-  stream-ok deep v d some h =
-      every-of (streamTests (streamOf gs deadline ps)) (
-        both (leb 1 (length gs)) (leb (length gs) 4) (le-leb 1 (length gs) deep) (le-leb (length gs) 4 shallow),
-        (
-          ap (all stageOk) (take-append-seam gs (replicate (4 - length gs) noStage)) ∙ stages-ok gs v,
-          (
-            rest-unused stageUnused 4 noStage gs no-stage-unused,
-            (
-              d,
-              (
-                both (leb 1 (length ps)) (leb (length ps) 4) (le-leb 1 (length ps) some) (le-leb (length ps) 4 few),
-                (
-                  first-ok ps (replicate (4 - length ps) noTuple) some h,
-                  (
-                    ap (scan tupleOk offsetAt 0) (take-append-seam ps (replicate (4 - length ps) noTuple)) ∙ scan-of 0 0 ps h,
-                    (rest-unused tupleUnused 4 noTuple ps no-tuple-unused, tt),
-                  ),
-                ),
-              ),
-            ),
-          ),
-        ),
-      )
-
   stream-is : (version n : ℕ) → length ps ≡ suc n → streamBits version (streamOf gs deadline ps) ≡ headBy (eqb version 1) gs (length gs) deadline ++ (toBits 2 n ++ flat placeBits ps)
   unfolding streamBits headBits
   stream-is version n e =
       ap (λ (hs : List Stage). headBy (eqb version 1) hs (length gs) deadline ++ (toBits 2 (length ps - 1) ++ flat placeBits (take (length ps) (ps ++ replicate (4 - length ps) noTuple)))) (take-append-seam gs (replicate (4 - length gs) noStage))
       ∙ ap₂ (λ (k : ℕ) (l : List TuplePlace). headBy (eqb version 1) gs (length gs) deadline ++ (toBits 2 k ++ flat placeBits l)) (let q : length ps - 1 ≡ n = omega arith in q)
       (take-append-seam ps (replicate (4 - length ps) noTuple))
-
--- a stream of a set of the version
-pub record GoodStream (version : ℕ) (s : Stream) : Type 0 where
-  pub ok : streamOk s ≡ true
-  pub four : FourPlaces s
-  pub staged : Staged version s
-
--- ---- a set that was read
-
-streams-of : (version : ℕ) (qs : List Stream) → streamsOf (setOf version qs) ≡ qs
-streams-of version qs = take-append-seam qs (replicate (16 - length qs) noStream)
-
-no-stream-unused : streamUnused noStream ≡ true
-unfolding streamUnused all stageUnused tupleUnused
-no-stream-unused = refl
-
-no-stream-four : FourPlaces noStream
-no-stream-four = record { stages = refl; tuples = refl }
-
-module _ (version : ℕ) where
-  good-ok : (qs : List Stream) → All (GoodStream version) qs → all streamOk qs ≡ true
-  unfolding all
-  good-ok [] g = refl
-  good-ok (q ∷ qs) g = both (streamOk q) (all streamOk qs) (g .0 .ok) (good-ok qs (g .1))
-
-  good-one : version ≡ 1 → (qs : List Stream) → All (GoodStream version) qs → all oneStage qs ≡ true
-  unfolding all
-  good-one e [] g = refl
-  good-one e (q ∷ qs) g = both (oneStage q) (all oneStage qs) (eq-eqb (q .depth) 1 (g .0 .staged e)) (good-one e qs (g .1))
-
-  good-version : (qs : List Stream) → within 1 version 2 ≡ true → All (GoodStream version) qs → versionOk (setOf version qs) ≡ true
-  unfolding versionOk
-  good-version qs w g =
-      cond-elim (λ (b : Bool). b ≡ true) (eqb version 1) (all oneStage (streamsOf (setOf version qs))) (eqb version 2)
-      (λ e. ap (all oneStage) (streams-of version qs) ∙ good-one (eqb-true version 1 e) qs g)
-      (λ e. eq-eqb version 2 (omega (arith, eqb-false version 1 e, within-low 1 version 2 w, within-high 1 version 2 w)))
-
-  pub set-ok : (qs : List Stream) → within 1 version 2 ≡ true → length qs ≤ 16 → All (GoodStream version) qs → valid (setOf version qs) ≡ true
-  unfolding valid
-  set-ok qs w few g =
-      every-of (setTests (setOf version qs)) (
-        le-leb (length qs) 16 few,
-        (
-          ap (all streamOk) (streams-of version qs) ∙ good-ok qs g,
-          (rest-unused streamUnused 16 noStream qs no-stream-unused, (good-version qs w g, tt)),
-        ),
-      )
-
-  pub set-placed : (qs : List Stream) → length qs ≤ 16 → All (GoodStream version) qs → Placed (setOf version qs)
-  set-placed qs few g =
-      record {
-        sixteen = places-length 16 noStream qs few;
-        four = all-append FourPlaces qs (replicate (16 - length qs) noStream) (all-map (GoodStream version) FourPlaces qs (λ q k. k .four) g) (all-replicate FourPlaces (16 - length qs) noStream no-stream-four);
-      }
 
 -- what was read before the number of a stream's tuples
 record HeadRead (first : Bool) (gs : List Stage) (d : ℕ) : Type 0 where

@@ -27,7 +27,8 @@ use Rattle.rules.specs.Streams.{FourPlaces, Placed, cycleOk, offset, offsetAt, 
 use Rattle.rules.specs.Sheet.{field, headBits, inRule, isZero, noSet, placeBits, readBits, readDeadline, readEnd, readHead, readOf, readStages, readStream, readStreams, readTuples, setOf, sheetBits, sheetOf, stageBits, streamBits, streamOf, tupleBits, tupleOf}
 use Rattle.rules.specs.Valid.{Between, FirstZero, ValidCycle, ValidPlace, ValidSet, ValidStage, ValidStream}
 use Rattle.rules.proofs.Valid.{valid-place, valid-set}
-use Rattle.sheet_write.proofs.Whole.{Staged, set-holds, set-staged, stream-holds, version-within, whole-set, whole-stream}
+use Rattle.sheet_carried.proofs.Streams.{Chain, chain-first, within-is}
+use Rattle.sheet_carried.proofs.Whole.{Staged, set-holds, set-staged, stream-holds, version-within, whole-set, whole-stream}
 
 -- a field that was written is read: one law for every width
 field-reads : (w v : ℕ) (rest : List ℕ) (next : ℕ → List ℕ → ReadResult) → v < 2 ^ w → field w (toBits w v ++ rest) next ≡ next v rest
@@ -37,36 +38,7 @@ field-reads w v rest next h =
 passes : (ok : Bool) (r : ReadResult) → ok ≡ true → inRule ok r ≡ r
 passes ok r e = ap (λ (b : Bool). cond b r (noSet OutOfRule)) e
 
-within-is : (a x b : ℕ) → a ≤ x → x ≤ b → within a x b ≡ true
-within-is a x b h k = ap₂ (λ (p q : Bool). p && q) (le-leb a x h) (le-leb x b k)
-
 -- ---- tuples
-
--- tuples whose offsets never fall, the first from low to high
-abbrev pub Chain : ℕ → ℕ → List TuplePlace → Type 0
-Chain low high [] = Unit {0}
-Chain low high (p ∷ ps) = (within low (offsetAt p) high ≡ true) × (ValidPlace p × Chain (offsetAt p) 100000 ps)
-
-low-of : (before : ℕ) (p : TuplePlace) → tupleOk before p ≡ true → before ≤ offsetAt p
-unfolding tupleOk
-low-of before p e =
-    let u : All Passes (leb before (offset (p .tuple)) ∷ leb (offset (p .tuple)) 100000 ∷ cycleOk (p .tuple) ∷ []) = every-all (leb before (offset (p .tuple)) ∷ leb (offset (p .tuple)) 100000 ∷ cycleOk (p .tuple) ∷ []) e in
-    leb-true before (offset (p .tuple)) (u .0)
-
-chain-of : (before : ℕ) (ps : List TuplePlace) → scan tupleOk offsetAt before ps ≡ true → Chain before 100000 ps
-unfolding scan
-chain-of before [] e = tt
-chain-of before (p ∷ ps) e =
-    let u = and-parts (tupleOk before p) (scan tupleOk offsetAt (offsetAt p) ps) e in
-    let v : ValidPlace p = valid-place before p (u .0) in
-    (within-is before (offsetAt p) 100000 (low-of before p (u .0)) (v .offset), (v, chain-of (offsetAt p) ps (u .1)))
-
-chain-first : (ps : List TuplePlace) → FirstZero ps → tuplesOk ps ≡ true → Chain 0 0 ps
-unfolding tuplesOk scan
-chain-first [] z e = tt
-chain-first (p ∷ ps) z e =
-    let u = and-parts (tupleOk 0 p) (scan tupleOk offsetAt (offsetAt p) ps) e in
-    (within-is 0 (offsetAt p) 0 (omega arith) (omega (arith, z)), (valid-place 0 p (u .0), chain-of (offsetAt p) ps (u .1)))
 
 abbrev place : Tuple → TuplePlace
 place t = record { tuple = t }

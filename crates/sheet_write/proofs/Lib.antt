@@ -1,4 +1,3 @@
-pub mod Whole
 pub mod Back
 pub mod Accepted
 pub mod Rounds

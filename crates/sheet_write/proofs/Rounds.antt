@@ -30,10 +30,10 @@ use Rattle.rules.specs.Sheet.{headBits, isZero, noSet, placeBits, readBits, rea
 use Rattle.rules.specs.Numbers.{number, readSays, refused, writeSays, wrote}
 use Rattle.rules.specs.Valid.{ValidSet, ValidStream}
 use Rattle.rules.proofs.Valid.{streams-few, valid-set}
-use Rattle.sheet_read.proofs.Filled.{cond-elim}
+use Rattle.sheet_carried.proofs.Filled.{cond-elim}
 use Rattle.sheet_write.specs.Answers.{Begins, ReadPlaced, ReadRefusals, SheetTells, SixExactly, TenExactly, WriteElevenExactly, WriteSevenExactly, WroteExactly, readingSays}
 use Rattle.sheet_write.specs.Long.{FirstAtMost, FullSheet, FullStream, SheetAtMost, longestFirst, longestSheet}
-use Rattle.sheet_write.proofs.Whole.{Staged, set-holds, set-staged, whole-set}
+use Rattle.sheet_carried.proofs.Whole.{Staged, set-holds, set-staged, whole-set}
 use Rattle.sheet_write.proofs.Back.{fields-read, headBy, read-back, sheet-bits, versionNext}
 use Rattle.sheet_write.proofs.Accepted.{count-ends, field-ends}
 

@@ -64,7 +64,7 @@ fn tuple_fits(used: bool, before: u32, p: TuplePlace) -> bool
 }
 
 // The tuples in use are in the rules and their offsets never fall; the other places are unused.
-fn tuples_fit(s: Stream) -> bool
+pub fn tuples_fit(s: Stream) -> bool
     ensures { λ r. ⌜ r ≡ (tuplesOk (tuplesOf s) && all tupleUnused (drop (s .count) (s .tuples))) ⌝ }
 {
     let n = s.count;
@@ -116,7 +116,7 @@ fn stage_fits(used: bool, g: Stage) -> bool
 }
 
 // The stages in use are in the rules; the other places are unused.
-fn stages_fit(s: Stream) -> bool
+pub fn stages_fit(s: Stream) -> bool
     ensures { λ r. ⌜ r ≡ (all stageOk (stagesOf s) && all stageUnused (drop (s .depth) (s .stages))) ⌝ }
 {
     let n = s.depth;

@@ -97,41 +97,13 @@ fn listen() -> Ear {
     e
 }
 
-// Tells which file cannot be written, and takes the new one away.
-fn give_up(what: &[u8]) -> bool {
-    os::fail(what);
-    os::unlink(b"set.bin.new");
-    false
-}
-
-// Writes the sheet to a file of its own, which then takes the place of set.bin: that is the whole sheet, or as it was.
-fn save(bytes: &[u8]) -> bool {
-    let fd = os::open_overwrite(b"set.bin.new");
-    if fd < 0 {
-        os::fail(b"set.bin.new");
-        return false;
-    }
-    let written = io::write_all(fd, bytes);
-    let closed = libc::close(fd);
-    if !written {
-        return give_up(b"set.bin.new");
-    }
-    if closed < 0 {
-        return give_up(b"set.bin.new");
-    }
-    if os::rename(b"set.bin.new", b"set.bin") < 0 {
-        return give_up(b"set.bin");
-    }
-    true
-}
-
 fn keep(x: Set) -> bool {
     let count = x.count;
     let mut bytes = [0u8; rules::LONGEST_SHEET];
     match sheet_write::write(x, &mut bytes) {
         WriteAnswer::Wrote(n) => {
             let len = page::within(n, &bytes);
-            if save(&bytes[..len]) {
+            if file_io::save_sheet(&bytes[..len]) {
                 file_io::say(text_faults::made_line(count as u64, len as u64))
             } else {
                 false

@@ -31,6 +31,7 @@ struct Stored {
     version_2: u64,
     calls: u64,
     passed: u64,
+    at_door: u64,
 }
 
 impl Stored {
@@ -42,6 +43,7 @@ impl Stored {
             version_2: 0,
             calls: 0,
             passed: 0,
+            at_door: 0,
         }
     }
 
@@ -53,15 +55,17 @@ impl Stored {
         self.version_2 += u64::from(!run.sheet_refused && sheet[0] >> 4 == 2);
         self.calls += run.calls;
         self.passed += run.output.matches(" passed ").count() as u64;
+        self.at_door += run.output.matches(" refused 15\n").count() as u64;
     }
 
     /// What is counted.
-    fn counts(&self) -> [(&'static str, u64); 4] {
+    fn counts(&self) -> [(&'static str, u64); 5] {
         [
             ("damaged sheets", self.damaged),
             ("sheets of version 2", self.version_2),
             ("calls", self.calls),
             ("passed", self.passed),
+            ("refused at a door", self.at_door),
         ]
     }
 }

@@ -1,5 +1,6 @@
 //! Random cases for the programs that read a sheet and standard input: a trace or a recording.
 
+use second::requests::DOOR;
 use second::set::Set;
 use second::sheet;
 use second::trace::Step;
@@ -24,6 +25,7 @@ pub const TO_RUN: Lengths = Lengths {
     long: 3_000,
     long_one_in: 60,
     full_one_in: 40,
+    millions_one_in: 4_000,
 };
 
 /// Cases to be stored, so most of them are small.
@@ -32,6 +34,7 @@ pub const TO_STORE: Lengths = Lengths {
     long: 500,
     long_one_in: 100,
     full_one_in: 120,
+    millions_one_in: 0,
 };
 
 /// Traces of a few steps, so that none and each number of padding bits come up.
@@ -40,6 +43,7 @@ const SHORT: Lengths = Lengths {
     long: 20,
     long_one_in: 10,
     full_one_in: 1_000,
+    millions_one_in: 0,
 };
 
 /// At most so many calls are recorded.
@@ -99,15 +103,34 @@ fn sheet_and_set(which: Sheets, random: &mut Random, requests: u32) -> (Option<V
 
 /// A case of such sheets, made for the requests up to a number in force.
 pub fn make_of(which: Sheets, random: &mut Random, lengths: &Lengths, requests: u32) -> Case {
+    let millions = lengths.millions_one_in;
+    if requests >= DOOR && millions > 0 && random.one_in(millions) {
+        return over_millions(random, requests);
+    }
     let (sheet, set) = sheet_and_set(which, random, requests);
-    let input = traces::make(random, &set, lengths);
+    let input = traces::make(random, &set, lengths, requests);
     Case { sheet, input }
+}
+
+/// A case of a million units or more, with posts at doors that stay shut for long.
+fn over_millions(random: &mut Random, requests: u32) -> Case {
+    let set = loop {
+        let set = sets::with_long_doors(random, requests);
+        if sets::worth_judging(random, &set) {
+            break set;
+        }
+    };
+    let units = random.between(1_000_000, 2_200_000);
+    Case {
+        sheet: Some(sheets::of_set(&set)),
+        input: traces::over_millions(random, &set, units, requests),
+    }
 }
 
 /// A case for the replay program: a sheet and a recording.
 pub fn to_replay(random: &mut Random, requests: u32) -> Case {
     let (sheet, set) = sheet_and_set(Sheets::MoreGood, random, requests);
-    let calls = lengthened(traces::steps(random, &set, &TO_RUN), random);
+    let calls = lengthened(traces::steps(random, &set, &TO_RUN, requests), random);
     let input = recordings::any(random, &calls);
     Case { sheet, input }
 }
@@ -116,11 +139,27 @@ pub fn to_replay(random: &mut Random, requests: u32) -> Case {
 pub fn to_record(random: &mut Random, requests: u32) -> Case {
     let set = sets::small(random, requests);
     let input = match random.below(50) {
-        0 => lengthened_trace(random, &set),
-        1..=10 => traces::make(random, &set, &SHORT),
-        _ => traces::make(random, &set, &TO_RUN),
+        0 => lengthened_trace(random, &set, requests),
+        1..=10 => traces::make(random, &set, &SHORT, requests),
+        _ => traces::make(random, &set, &TO_RUN, requests),
     };
     Case { sheet: None, input }
+}
+
+/// A case for the check program: a sheet, and no input.
+pub fn to_check(random: &mut Random, requests: u32) -> Case {
+    let sheet = loop {
+        let set = sets::to_check(random, requests);
+        let sheet = mixed(random, &set, 32, requests);
+        let read = sheet::read(sheet.as_deref().unwrap_or(&[]), requests).unwrap_or(set);
+        if sets::worth_judging(random, &read) {
+            break sheet;
+        }
+    };
+    Case {
+        sheet,
+        input: Vec::new(),
+    }
 }
 
 /// The calls, now and then many times over.
@@ -134,8 +173,8 @@ fn lengthened(calls: Vec<Step>, random: &mut Random) -> Vec<Step> {
 }
 
 /// A trace of many steps.
-fn lengthened_trace(random: &mut Random, set: &Set) -> Vec<u8> {
-    let mut trace = traces::make(random, set, &TO_RUN);
+fn lengthened_trace(random: &mut Random, set: &Set, requests: u32) -> Vec<u8> {
+    let mut trace = traces::make(random, set, &TO_RUN, requests);
     trace = trace.repeat(random.index(40) + 1);
     trace.truncate(2 * MOST_CALLS);
     trace

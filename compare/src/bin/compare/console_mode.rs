@@ -1,35 +1,108 @@
-//! `compare console BIN LINES SEED`: the console program against the library, line by line.
+//! `compare console BIN LINES SEED`, `compare pieces BIN SHEETS SEED`, `compare check BIN SETS SEED`:
+//! the console program against the library, line by line.
 
 use std::io;
+
+use second::requests;
 
 use crate::programs::{self, Program, TemporaryFolder};
 use crate::random::Random;
 use crate::scripts::{self, Line};
 
-/// About so many lines in one run of the program.
-const LINES_IN_SCRIPT: u64 = 2_000;
+/// A kind of scripts for the console.
+pub struct Kind {
+    /// Its name.
+    name: &'static str,
+    /// The request that brings what it is about, 0 for document 01.
+    request: u32,
+    /// What is counted.
+    counted: &'static str,
+    /// How much of it is in one run of the program, about.
+    in_script: u64,
+    /// Makes a script of at least so much, with the requests up to a number in force.
+    make: fn(&mut Random, u32, u64) -> Made,
+}
+
+/// A script that was made.
+pub struct Made {
+    pub script: Vec<Line>,
+    /// How much it has of what is counted.
+    pub count: u64,
+    /// What else is counted of it.
+    pub others: Vec<(&'static str, u64)>,
+}
+
+/// Scripts about everything.
+pub const CONSOLE: Kind = Kind {
+    name: "console",
+    request: 0,
+    counted: "lines",
+    in_script: 2_000,
+    make: |random, requests, at_least| {
+        let script = scripts::make(random, requests, at_least as usize);
+        Made {
+            count: script.len() as u64,
+            script,
+            others: Vec::new(),
+        }
+    },
+};
+
+/// Scripts of sheets that are cut into pieces.
+pub const PIECES: Kind = Kind {
+    name: "pieces",
+    request: requests::PIECES,
+    counted: "sheets",
+    in_script: 60,
+    make: scripts::in_pieces,
+};
+
+/// Scripts of sets whose check is divided among calls.
+pub const CHECK: Kind = Kind {
+    name: "check",
+    request: requests::RESUMABLE,
+    counted: "sets",
+    in_script: 100,
+    make: scripts::divided_checks,
+};
+
+impl Kind {
+    /// Nothing, or that the request that brings what it is about is not in force.
+    pub fn in_force(&self, requests: u32) -> io::Result<()> {
+        programs::in_force(self.name, self.request, requests)
+    }
+}
 
 /// Compares; whether all agreed.
-pub fn compare(program: &Program, requests: u32, lines: u64, seed: u64) -> io::Result<bool> {
+pub fn compare(
+    kind: &Kind,
+    program: &Program,
+    requests: u32,
+    wanted: u64,
+    seed: u64,
+) -> io::Result<bool> {
     let folder = TemporaryFolder::new()?;
     let mut compared = 0;
     let mut number = 0;
-    while compared < lines {
+    let mut totals: Vec<(&str, u64)> = Vec::new();
+    while compared < wanted {
         let mut random = Random::for_case(seed, number);
-        let at_least = LINES_IN_SCRIPT.min(lines - compared) as usize;
-        let script = scripts::make(&mut random, requests, at_least);
-        let input = input_of(&mut random, &script);
+        let at_least = kind.in_script.min(wanted - compared);
+        let made = (kind.make)(&mut random, requests, at_least);
+        programs::add(&mut totals, &made.others);
+        let input = input_of(&mut random, &made.script);
         let piece = random.pick(&[61, 4_096, usize::MAX]);
         let found = program.run(folder.path(), &input, piece)?;
-        if let Some(agreed) = lines_agreed(&script, &found) {
-            report(seed, number, &script, &input, agreed, &found)?;
-            println!("{} lines, 1 differ", compared + agreed as u64 + 1);
+        if let Some(agreed) = lines_agreed(&made.script, &found) {
+            report(kind, seed, number, &made.script, &input, agreed, &found)?;
+            let upto = (agreed as u64 + 1).min(made.count);
+            programs::say_totals(compared + upto, kind.counted, &totals, 1);
             return Ok(false);
         }
-        compared += script.len() as u64;
+        compared += made.count;
         number += 1;
     }
-    println!("{compared} lines, 0 differ");
+    programs::say_totals(compared, kind.counted, &totals, 0);
     Ok(true)
 }
 
@@ -61,6 +134,7 @@ fn lines_agreed(script: &[Line], found: &[u8]) -> Option<usize> {
 }
 
 fn report(
+    kind: &Kind,
     seed: u64,
     number: u64,
     script: &[Line],
@@ -68,9 +142,10 @@ fn report(
     place: usize,
     found: &[u8],
 ) -> io::Result<()> {
+    let name = kind.name;
     let expected: String = script.iter().map(|line| line.answer.as_str()).collect();
     let folder = programs::write_out(
-        &format!("console-seed-{seed}-script-{number}"),
+        &format!("{name}-seed-{seed}-script-{number}"),
         &[
             ("script", input),
             ("expected.txt", expected.as_bytes()),
@@ -78,7 +153,7 @@ fn report(
         ],
     )?;
     println!(
-        "console script {number} of seed {seed} differs, written to {}",
+        "{name} script {number} of seed {seed} differs, written to {}",
         folder.display()
     );
     println!(

@@ -3,9 +3,11 @@
 #![forbid(unsafe_code)]
 
 mod batch_mode;
+mod cable_mode;
 mod cases;
 mod console_mode;
 mod ontime_mode;
+mod pieces;
 mod plays;
 mod process_mode;
 mod programs;
@@ -32,6 +34,10 @@ compare many BIN CASES SEED     the program BIN of many cases against the librar
 compare damaged BIN CASES SEED  the program BIN of many cases against the library, on damaged sheets
 compare replay BIN CASES SEED   the replay program BIN against the library
 compare record BIN CASES SEED   the record program BIN against the library
+compare pieces BIN SHEETS SEED  the console program BIN on sheets that come in pieces
+compare cable BIN CASES SEED    the cable program BIN against the library
+compare check BIN SETS SEED     the console program BIN on checks that are divided among calls
+compare checks BIN CASES SEED   the check program BIN against the library
 compare batch CASES SEED DIR    writes DIR/cases.bin and DIR/expected.txt
 compare answers FILE            prints what is expected of the stored cases in FILE
 compare answers-replay FILE     the same of cases with recordings
@@ -64,20 +70,31 @@ fn main() -> ExitCode {
 fn run(arguments: &[&str], requests: u32) -> Option<io::Result<bool>> {
     let number = |word: &str| word.parse::<u64>().ok();
     match arguments {
-        [which @ ("trace" | "replay" | "record"), program, cases, seed] => {
+        [which @ ("trace" | "replay" | "record" | "checks"), program, cases, seed] => {
             let (cases, seed) = (number(cases)?, number(seed)?);
             let kind = match *which {
                 "trace" => process_mode::TRACE,
                 "replay" => process_mode::REPLAY,
-                _ => process_mode::RECORD,
+                "record" => process_mode::RECORD,
+                _ => process_mode::CHECKS,
             };
             let program = kind.in_force(requests).and_then(|()| Program::at(program));
             Some(program.and_then(|p| process_mode::compare(&kind, &p, requests, cases, seed)))
         }
-        ["console", program, lines, seed] => {
-            let (lines, seed) = (number(lines)?, number(seed)?);
-            let program = Program::at(program);
-            Some(program.and_then(|p| console_mode::compare(&p, requests, lines, seed)))
+        [which @ ("console" | "pieces" | "check"), program, count, seed] => {
+            let (count, seed) = (number(count)?, number(seed)?);
+            let kind = match *which {
+                "console" => console_mode::CONSOLE,
+                "pieces" => console_mode::PIECES,
+                _ => console_mode::CHECK,
+            };
+            let program = kind.in_force(requests).and_then(|()| Program::at(program));
+            Some(program.and_then(|p| console_mode::compare(&kind, &p, requests, count, seed)))
+        }
+        ["cable", program, cases, seed] => {
+            let (cases, seed) = (number(cases)?, number(seed)?);
+            let program = cable_mode::in_force(requests).and_then(|()| Program::at(program));
+            Some(program.and_then(|p| cable_mode::compare(&p, requests, cases, seed)))
         }
         [which @ ("many" | "damaged"), program, cases, seed] => {
             let (cases, seed) = (number(cases)?, number(seed)?);

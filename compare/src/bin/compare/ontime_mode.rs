@@ -1,9 +1,13 @@
 //! `compare ontime CASES SEED`: no run of an accepted set that keeps every event limit misses a
 //! deadline. Here only the library runs.
+//!
+//! With request 6 in force also that no run at all of an accepted set whose streams all have doors
+//! misses one: the caller keeps no limit there.
 
 use std::io;
 
 use second::load::{self, Verdict};
+use second::requests::DOOR;
 use second::set::Set;
 use second::sheet::VERSION_2;
 
@@ -32,6 +36,18 @@ struct Counts {
     late_sets_that_miss: u64,
     late_of_version_2: u64,
     late_of_version_2_that_miss: u64,
+    refused_at_door: u64,
+    with_doors: WithDoors,
+}
+
+/// Of accepted sets whose streams all have doors.
+#[derive(Default)]
+struct WithDoors {
+    sets: u64,
+    runs: u64,
+    posts: u64,
+    refused: u64,
+    units: u64,
 }
 
 /// Tries; whether no accepted set missed. A case is a random set whose costs were raised as far as
@@ -47,13 +63,24 @@ pub fn check(requests: u32, cases: u64, seed: u64) -> io::Result<bool> {
                 break tight;
             }
         };
-        if let Some(trace) = accepted_set_that_misses(&mut random, &tight.accepted, &mut counts) {
-            report(seed, number, &tight.accepted, &trace)?;
-            print(number + 1, &counts, 1);
+        let accepted = &tight.accepted;
+        if let Some(trace) = accepted_set_that_misses(&mut random, accepted, requests, &mut counts)
+        {
+            report(seed, number, accepted, &trace)?;
+            print(number + 1, requests, &counts, 1);
             return Ok(false);
         }
+        if requests >= DOOR {
+            let set = accepted_set_with_doors(&mut random, version);
+            let counts_of_doors = &mut counts.with_doors;
+            if let Some(trace) = missed_with_doors(&mut random, &set, requests, counts_of_doors) {
+                report(seed, number, &set, &trace)?;
+                print(number + 1, requests, &counts, 1);
+                return Ok(false);
+            }
+        }
         if let Some(late) = tight.late {
-            let misses = u64::from(late_set_misses(&mut random, &late));
+            let misses = u64::from(late_set_misses(&mut random, &late, requests));
             counts.late_sets += 1;
             counts.late_sets_that_miss += misses;
             if late.version == VERSION_2 {
@@ -62,12 +89,17 @@ pub fn check(requests: u32, cases: u64, seed: u64) -> io::Result<bool> {
             }
         }
     }
-    print(cases, &counts, 0);
+    print(cases, requests, &counts, 0);
     Ok(true)
 }
 
 /// Runs an accepted set in many ways. The trace of a run that misses, which there must not be.
-fn accepted_set_that_misses(random: &mut Random, set: &Set, counts: &mut Counts) -> Option<String> {
+fn accepted_set_that_misses(
+    random: &mut Random,
+    set: &Set,
+    requests: u32,
+    counts: &mut Counts,
+) -> Option<String> {
     counts.accepted_sets += 1;
     counts.of_version_2 += u64::from(set.version == VERSION_2);
     let has_stages = set.used_streams().iter().any(|s| s.stage_count > 1);
@@ -77,13 +109,51 @@ fn accepted_set_that_misses(random: &mut Random, set: &Set, counts: &mut Counts)
             0 => Plan::early(),
             _ => Plan::any(random, set),
         };
-        let mut play = Play::new(set);
+        let mut play = Play::new(set, requests);
         play.follow(random, &plan, LAST_CLOCK);
         counts.runs += 1;
         counts.posts += play.post_count;
         counts.units += play.unit_count;
         counts.passed += play.passed_count;
         counts.full += play.full_count;
+        counts.refused_at_door += play.door_count;
+        if play.missed {
+            return Some(play.trace);
+        }
+    }
+    None
+}
+
+/// An accepted set whose streams all have doors.
+fn accepted_set_with_doors(random: &mut Random, version: u32) -> Set {
+    loop {
+        let set = sets::to_run_on_time_with_doors(random, version);
+        if let Some(tight) = sets::tight(random, set) {
+            return tight.accepted;
+        }
+    }
+}
+
+/// Runs such a set in many ways, with posts as often as possible and at random, whatever the
+/// limits. The trace of a run that misses, which there must not be.
+fn missed_with_doors(
+    random: &mut Random,
+    set: &Set,
+    requests: u32,
+    counts: &mut WithDoors,
+) -> Option<String> {
+    counts.sets += 1;
+    for run in 0..RUNS_OF_ACCEPTED_SET {
+        let plan = match run {
+            0 => Plan::early(),
+            _ => Plan::any(random, set),
+        };
+        let mut play = Play::new(set, requests);
+        play.follow(random, &plan, LAST_CLOCK);
+        counts.runs += 1;
+        counts.posts += play.post_count;
+        counts.refused += play.door_count;
+        counts.units += play.unit_count;
         if play.missed {
             return Some(play.trace);
         }
@@ -93,7 +163,7 @@ fn accepted_set_that_misses(random: &mut Random, set: &Set, counts: &mut Counts)
 
 /// Looks for a run of a late set that misses. There need not be one: "Late is about what could
 /// happen, so a set judged late may still run on time."
-fn late_set_misses(random: &mut Random, set: &Set) -> bool {
+fn late_set_misses(random: &mut Random, set: &Set, requests: u32) -> bool {
     let Verdict::Late { length, .. } = load::verdict(set) else {
         return false;
     };
@@ -103,7 +173,7 @@ fn late_set_misses(random: &mut Random, set: &Set) -> bool {
             1 => Plan::early(),
             _ => Plan::any(random, set),
         };
-        let mut play = Play::new(set);
+        let mut play = Play::new(set, requests);
         play.follow(random, &plan, LAST_CLOCK);
         play.missed
     })
@@ -124,7 +194,7 @@ fn report(seed: u64, number: u64, set: &Set, trace: &str) -> io::Result<()> {
     Ok(())
 }
 
-fn print(cases: u64, counts: &Counts, missed: u64) {
+fn print(cases: u64, requests: u32, counts: &Counts, missed: u64) {
     println!(
         "{cases} cases, {} accepted sets, {} runs, {} posts, {} units, {missed} missed",
         counts.accepted_sets, counts.runs, counts.posts, counts.units
@@ -140,4 +210,11 @@ fn print(cases: u64, counts: &Counts, missed: u64) {
         counts.late_of_version_2,
         counts.late_of_version_2_that_miss
     );
+    if requests >= DOOR {
+        let doors = &counts.with_doors;
+        println!(
+            "{} posts refused at a door; of {} accepted sets whose streams all have doors {} runs, {} posts accepted, {} refused with 15, {} units, {missed} missed",
+            counts.refused_at_door, doors.sets, doors.runs, doors.posts, doors.refused, doors.units
+        );
+    }
 }

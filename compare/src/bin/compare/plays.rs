@@ -1,5 +1,11 @@
 //! Runs that keep every event limit, made to miss a deadline if that can be done.
+//!
+//! With request 6 in force the caller keeps the limits of streams without a door alone: "demand 3
+//! keeps its event-limit condition only for those". The others are posted as often as the plan
+//! likes, and the door refuses what comes too early.
 
+use second::refusal::Refusal;
+use second::requests::DOOR;
 use second::set::{Set, Stream, GREATEST_TASK, STAGE_PLACES, STREAM_PLACES};
 use second::sheet::VERSION_2;
 use second::state::{Answer, Message, State};
@@ -177,6 +183,7 @@ const UNITS_TO_OPEN: u32 = 60;
 /// A run while it is made.
 pub struct Play<'a> {
     set: &'a Set,
+    requests: u32,
     state: State,
     /// The clocks of each stream's accepted posts.
     posts: Vec<Vec<u32>>,
@@ -184,7 +191,10 @@ pub struct Play<'a> {
     opened: u32,
     /// The same run for the trace program.
     pub trace: String,
+    /// How many posts were accepted.
     pub post_count: u64,
+    /// How many were refused at a door.
+    pub door_count: u64,
     pub unit_count: u64,
     /// How many messages passed to their next stage.
     pub passed_count: u64,
@@ -198,15 +208,17 @@ pub struct Play<'a> {
 }
 
 impl<'a> Play<'a> {
-    pub fn new(set: &'a Set) -> Play<'a> {
-        let (state, _) = State::start(set);
+    pub fn new(set: &'a Set, requests: u32) -> Play<'a> {
+        let (state, _) = State::start(set, requests);
         Play {
             set,
+            requests,
             state,
             posts: vec![Vec::new(); set.count as usize],
             opened: 0,
             trace: String::new(),
             post_count: 0,
+            door_count: 0,
             unit_count: 0,
             passed_count: 0,
             full_count: 0,
@@ -299,10 +311,12 @@ impl<'a> Play<'a> {
         }
     }
 
-    /// Posts if the event limit is kept; whether it was accepted.
+    /// Posts if the event limit is kept, or whatever the limit where a door keeps it; whether it
+    /// was accepted.
     fn post_if_allowed(&mut self, stream: usize) -> bool {
         let clock = self.state.clock;
-        if !keeps_limit(&self.set.streams[stream], &self.posts[stream], clock) {
+        let has_door = self.requests >= DOOR && self.set.streams[stream].door().is_some();
+        if !has_door && !keeps_limit(&self.set.streams[stream], &self.posts[stream], clock) {
             return false;
         }
         match self.state.post(stream as u32) {
@@ -312,6 +326,10 @@ impl<'a> Play<'a> {
                 self.trace += &format!("p{stream:x}");
                 self.post_count += 1;
                 true
+            }
+            Answer::Refused(Refusal::AtTheDoor) => {
+                self.door_count += 1;
+                false
             }
             _ => false,
         }
@@ -416,7 +434,7 @@ mod tests {
                 continue;
             }
             let plan = Plan::any(&mut random, &set);
-            let mut play = Play::new(&set);
+            let mut play = Play::new(&set, RENDERED);
             play.follow(&mut random, &plan, 200);
             let sheet = crate::sheets::of_set(&set);
             let run = second::trace::run(&sheet, play.trace.as_bytes(), RENDERED);
@@ -445,7 +463,7 @@ mod tests {
         };
         assert_eq!(load::verdict(&set), late);
         let plan = Plan::critical(&set, 3);
-        let mut play = Play::new(&set);
+        let mut play = Play::new(&set, RENDERED);
         play.follow(&mut Random::new(1), &plan, 100);
         assert!(play.missed);
         assert_eq!(play.trace, "p1ddup0uud");
@@ -460,7 +478,7 @@ mod tests {
             let Some(tight) = sets::tight(&mut random, set) else {
                 continue;
             };
-            let mut play = Play::new(&tight.accepted);
+            let mut play = Play::new(&tight.accepted, RENDERED);
             play.follow(&mut random, &Plan::early(), 200);
             assert!(!play.missed);
             posts += play.post_count;

@@ -1,9 +1,10 @@
-//! `compare trace|replay|record BIN CASES SEED`: a program against the library, whole outputs, a
-//! process for each case.
+//! `compare trace|replay|record|checks BIN CASES SEED`: a program against the library, whole outputs,
+//! a process for each case.
 
 use std::fs;
 use std::io;
 
+use second::check;
 use second::recording;
 use second::replay;
 use second::requests;
@@ -98,17 +99,44 @@ pub const RECORD: Kind = Kind {
     first_difference: programs::first_different_byte,
 };
 
+/// The check program. Its progress on standard error is not compared.
+pub const CHECKS: Kind = Kind {
+    name: "check",
+    request: requests::RESUMABLE,
+    input: "input",
+    written: ["expected.txt", "found.txt"],
+    make: cases::to_check,
+    expected: |case, requests| {
+        let output = check::run(sheet_of(case), requests);
+        let verdict = |word| u64::from(output.starts_with(word));
+        let lines = |word| output.lines().filter(|line| line.starts_with(word)).count() as u64;
+        Expected {
+            counts: vec![
+                ("accepted", verdict("accept")),
+                ("late", verdict("late")),
+                ("overload", verdict("overload")),
+                ("refused", verdict("refused")),
+                ("streams due", lines("stream ")),
+                ("of them more than once", more_than_once(&output)),
+                ("tasks blocked", lines("task ")),
+            ],
+            output: output.into_bytes(),
+        }
+    },
+    first_difference: programs::first_difference,
+};
+
 impl Kind {
     /// Nothing, or that the request that brings the program is not in force.
     pub fn in_force(&self, requests: u32) -> io::Result<()> {
-        if self.request <= requests {
-            return Ok(());
-        }
-        let Kind { name, request, .. } = self;
-        Err(io::Error::other(format!(
-            "request {request}, which brings the program {name}, is not in force"
-        )))
+        programs::in_force(self.name, self.request, requests)
     }
+}
+
+/// How many lines say that a stream is due more than once.
+fn more_than_once(output: &str) -> u64 {
+    let due = output.lines().filter(|line| line.starts_with("stream "));
+    due.filter(|line| !line.ends_with(" times 1")).count() as u64
 }
 
 fn sheet_of(case: &Case) -> &[u8] {
@@ -122,6 +150,10 @@ fn counts_of_run(case: &Case, run: &Run) -> Vec<(&'static str, u64)> {
         ("sheets of version 2", u64::from(version_2)),
         ("calls", run.calls),
         ("passed", run.output.matches(" passed ").count() as u64),
+        (
+            "refused at a door",
+            run.output.matches(" refused 15\n").count() as u64,
+        ),
     ]
 }
 
@@ -141,34 +173,15 @@ pub fn compare(
         let expected = (kind.expected)(&case, requests);
         let piece = random.pick(&[5, 64, usize::MAX, usize::MAX]);
         let found = run_case(program, &folder, &case, piece)?;
-        add(&mut totals, &expected.counts);
+        programs::add(&mut totals, &expected.counts);
         if found != expected.output {
             report(kind, seed, number, &case, &expected.output, &found)?;
-            say_totals(number + 1, &totals, 1);
+            programs::say_totals(number + 1, "cases", &totals, 1);
             return Ok(false);
         }
     }
-    say_totals(cases, &totals, 0);
+    programs::say_totals(cases, "cases", &totals, 0);
     Ok(true)
-}
-
-/// Adds the counts of a case to those of the cases before it.
-fn add(totals: &mut Vec<(&'static str, u64)>, counts: &[(&'static str, u64)]) {
-    if totals.is_empty() {
-        totals.extend(counts);
-    } else {
-        for (total, count) in totals.iter_mut().zip(counts) {
-            total.1 += count.1;
-        }
-    }
-}
-
-fn say_totals(cases: u64, totals: &[(&str, u64)], differ: u64) {
-    let mut line = format!("{cases} cases");
-    for (name, count) in totals {
-        line += &format!(", {count} {name}");
-    }
-    println!("{line}, {differ} differ");
 }
 
 /// Runs the program with the case's set.bin, or without one, and its input in pieces.
@@ -218,19 +231,19 @@ mod tests {
     use super::*;
     use second::requests::RENDERED;
 
-    /// The totals of 200 cases, by name.
+    /// The totals of 400 cases, by name.
     fn totals(kind: &Kind) -> Vec<(&'static str, u64)> {
         let mut totals = Vec::new();
-        for number in 0..200 {
+        for number in 0..400 {
             let case = (kind.make)(&mut Random::for_case(1, number), RENDERED);
-            add(&mut totals, &(kind.expected)(&case, RENDERED).counts);
+            programs::add(&mut totals, &(kind.expected)(&case, RENDERED).counts);
         }
         totals
     }
 
     #[test]
     fn every_kind_of_case_comes_up() {
-        for kind in [&TRACE, &REPLAY, &RECORD] {
+        for kind in [&TRACE, &REPLAY, &RECORD, &CHECKS] {
             let totals = totals(kind);
             for (name, total) in &totals {
                 assert!(*total >= 20, "{} {name}: {total}", kind.name);
@@ -239,7 +252,7 @@ mod tests {
                 // About one sheet in four.
                 let (name, damaged) = totals[0];
                 assert_eq!(name, "damaged sheets");
-                assert!((30..=70).contains(&damaged), "{damaged}");
+                assert!((60..=140).contains(&damaged), "{damaged}");
             }
         }
     }

@@ -71,6 +71,36 @@ impl Drop for TemporaryFolder {
     }
 }
 
+/// Nothing, or that the request that brings what is to be compared is not in force.
+pub fn in_force(name: &str, request: u32, requests: u32) -> io::Result<()> {
+    if request <= requests {
+        return Ok(());
+    }
+    Err(io::Error::other(format!(
+        "request {request}, which brings {name}, is not in force"
+    )))
+}
+
+/// Adds the counts of a case to those of the cases before it.
+pub fn add(totals: &mut Vec<(&'static str, u64)>, counts: &[(&'static str, u64)]) {
+    if totals.is_empty() {
+        totals.extend(counts);
+    } else {
+        for (total, count) in totals.iter_mut().zip(counts) {
+            total.1 += count.1;
+        }
+    }
+}
+
+/// Prints how much was compared, the counts, and how much of it differs.
+pub fn say_totals(compared: u64, counted: &str, totals: &[(&str, u64)], differ: u64) {
+    let mut line = format!("{compared} {counted}");
+    for (name, count) in totals {
+        line += &format!(", {count} {name}");
+    }
+    println!("{line}, {differ} differ");
+}
+
 /// Writes the files of a difference into the folder `differ/NAME` and gives its path.
 pub fn write_out(name: &str, files: &[(&str, &[u8])]) -> io::Result<PathBuf> {
     let folder = Path::new("differ").join(name);

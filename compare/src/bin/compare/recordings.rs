@@ -112,11 +112,12 @@ mod tests {
             long: 100,
             long_one_in: 10,
             full_one_in: 20,
+            millions_one_in: 0,
         };
         let (mut ends, mut stops, mut after) = (0, 0, 0);
         for _ in 0..1_000 {
             let set = sets::small(&mut random, RENDERED);
-            let calls = traces::steps(&mut random, &set, &lengths);
+            let calls = traces::steps(&mut random, &set, &lengths, RENDERED);
             let recording = damaged(&mut random, &calls);
             let output = second::replay::run(&sheets::of_set(&set), &recording, RENDERED).output;
             match output.lines().last() {

@@ -3,6 +3,7 @@
 //! Before request 4 is in force all have version 1, and they are those that were made before there
 //! were stages.
 
+use second::check::{Position, Went};
 use second::load::{self, Verdict};
 use second::requests::STAGES;
 use second::set::{
@@ -66,6 +67,82 @@ pub fn to_run_on_time(random: &mut Random, version: u32) -> Set {
     let count = random.pick(&[1, 2, 2, 3, 3, 4, 4, 5, 6, 8, 11, 16]);
     let longest_deadline = random.pick(&[10, 40, 40, 150]);
     small_streams(random, version, count, longest_deadline)
+}
+
+/// The same of streams that all have doors, of each kind.
+pub fn to_run_on_time_with_doors(random: &mut Random, version: u32) -> Set {
+    let mut set = to_run_on_time(random, version);
+    let count = set.count as usize;
+    put_small_doors(random, &mut set.streams[..count]);
+    set
+}
+
+/// A few streams with small numbers, most of them with doors, of each kind.
+pub fn small_with_doors(random: &mut Random, requests: u32) -> Set {
+    let version = version(random, requests);
+    let mut set = loop {
+        let set = small_of(random, version);
+        if set.count > 0 {
+            break set;
+        }
+    };
+    let with_doors = random.between(1, set.count) as usize;
+    put_small_doors(random, &mut set.streams[..with_doors]);
+    set
+}
+
+/// Puts tuples that have a door in place of the streams' own.
+fn put_small_doors(random: &mut Random, streams: &mut [Stream]) {
+    let common = random.pick(&[12, 20, 24, 30, 60, 120, 720]);
+    for stream in streams {
+        let cycle = match random.below(6) {
+            0 => random.between(1, 9),
+            _ => divisor(random, common),
+        };
+        let offset = match random.below(6) {
+            0 => 0,
+            1 => cycle,
+            2 => cycle + random.between(1, 12),
+            _ => random.between(0, cycle),
+        };
+        put_door(random, stream, cycle, offset);
+    }
+}
+
+/// Puts tuples that have a door: once at 0, every z, or once at 0 and every z from a.
+fn put_door(random: &mut Random, stream: &mut Stream, cycle: u32, offset: u32) {
+    stream.tuples = [Tuple::UNUSED; TUPLE_PLACES];
+    stream.tuple_count = 1;
+    match random.below(6) {
+        0 => {}
+        1..=2 => stream.tuples[0] = Tuple::Every { cycle, offset: 0 },
+        _ => {
+            stream.tuple_count = 2;
+            stream.tuples[1] = Tuple::Every { cycle, offset };
+        }
+    }
+}
+
+/// A few streams with doors that stay shut for long. Most such sets have an H above 1,000,000, and
+/// are judged at once.
+pub fn with_long_doors(random: &mut Random, requests: u32) -> Set {
+    let version = version(random, requests);
+    let mut set = small_with_doors(random, requests);
+    set.version = version;
+    for stream in &mut set.streams[..set.count as usize] {
+        if version == VERSION_1 {
+            stream.stage_count = 1;
+            stream.stages[1..].fill(Stage::UNUSED);
+        }
+        let cycle = match random.below(4) {
+            0 => GREATEST_CYCLE,
+            1 => GREATEST_CYCLE - random.between(0, 3),
+            _ => random.between(100_000, GREATEST_CYCLE),
+        };
+        let offset = at_edge(random, 0, GREATEST_OFFSET);
+        put_door(random, stream, cycle, offset);
+    }
+    set
 }
 
 /// Streams with small numbers on few tasks. Their cycles mostly divide one number, so that H
@@ -218,6 +295,30 @@ fn close_to_late(random: &mut Random, version: u32) -> Set {
         }
     }
     small_of(random, version)
+}
+
+/// A set to be checked length by length: most are just accepted or just late, with many streams and
+/// blocking; few are overload.
+pub fn to_check(random: &mut Random, requests: u32) -> Set {
+    loop {
+        let version = version(random, requests);
+        let set = match random.below(4) {
+            0 => any(random, requests),
+            _ => {
+                let set = to_run_on_time(random, version);
+                match tight(random, set) {
+                    Some(Tight {
+                        late: Some(late), ..
+                    }) if !random.one_in(3) => late,
+                    Some(tight) => tight.accepted,
+                    None => continue,
+                }
+            }
+        };
+        if load::lengths_tested(&set, 1) > 0 || random.one_in(4) {
+            return set;
+        }
+    }
 }
 
 /// A set whose long-run load is H, or one cycle's cost more or less.
@@ -384,6 +485,25 @@ pub fn worth_judging(random: &mut Random, set: &Set) -> bool {
         || judged_within(set, 100_000)
         || random.one_in(50) && judged_within(set, 2_000_000)
         || random.one_in(2_000)
+}
+
+/// Whether a call of the resumable check that tests up to so many lengths is to be made in this
+/// case, in the same way.
+pub fn worth_testing(random: &mut Random, position: &Position, count: u32) -> bool {
+    let tuples: u64 = position
+        .set
+        .streams
+        .iter()
+        .map(|stream| u64::from(stream.tuple_count))
+        .sum();
+    let within = |work: u64| {
+        let lengths = (work / (tuples + 1)) as u32;
+        match position.go(count.min(lengths + 1)) {
+            Ok(Went::On { tested, .. } | Went::Ended { tested, .. }) => tested <= lengths,
+            Err(_) => true,
+        }
+    };
+    within(100_000) || random.one_in(50) && within(2_000_000) || random.one_in(2_000)
 }
 
 #[cfg(test)]

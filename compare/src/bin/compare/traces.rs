@@ -1,8 +1,10 @@
 //! Random traces for a set, and the calls they make.
 
+use second::requests::DOOR;
 use second::set::Set;
 use second::sheet::VERSION_2;
-use second::trace::Step;
+use second::state::State;
+use second::trace::{call, Step};
 
 use crate::random::Random;
 
@@ -18,12 +20,14 @@ pub struct Lengths {
     pub long_one_in: u64,
     /// One part of a trace in so many fills the table.
     pub full_one_in: u64,
+    /// Once there are doors, one trace in so many has millions of units; none with 0.
+    pub millions_one_in: u64,
 }
 
 /// A trace: steps, with spaces and newlines between them, and now and then a byte that is not
 /// allowed.
-pub fn make(random: &mut Random, set: &Set, lengths: &Lengths) -> Vec<u8> {
-    let steps = steps(random, set, lengths);
+pub fn make(random: &mut Random, set: &Set, lengths: &Lengths, requests: u32) -> Vec<u8> {
+    let steps = steps(random, set, lengths, requests);
     let mut trace = spaced(random, &steps);
     if random.one_in(4) {
         damage(random, &mut trace);
@@ -32,22 +36,34 @@ pub fn make(random: &mut Random, set: &Set, lengths: &Lengths) -> Vec<u8> {
 }
 
 /// The steps of a trace: parts that each post, run or both.
-pub fn steps(random: &mut Random, set: &Set, lengths: &Lengths) -> Vec<Step> {
+pub fn steps(random: &mut Random, set: &Set, lengths: &Lengths, requests: u32) -> Vec<Step> {
     let at_least = if random.one_in(lengths.long_one_in) {
         lengths.long
     } else {
         lengths.usual
     };
     let wanted = random.index(2 * at_least as usize + 1);
-    let mut steps = Steps {
-        random,
-        set,
-        steps: Vec::new(),
-    };
+    let mut steps = Steps::new(random, set, requests);
     while steps.steps.len() < wanted {
         steps.part(lengths.full_one_in);
     }
     steps.steps
+}
+
+/// A trace of about so many units, most of them idle, with posts where a door opens, a unit before
+/// and a unit after.
+pub fn over_millions(random: &mut Random, set: &Set, units: u32, requests: u32) -> Vec<u8> {
+    let mut steps = Steps::new(random, set, requests);
+    while steps.state.clock < units {
+        if let Some(place) = steps.with_door() {
+            steps.post_at_door(place, u32::MAX);
+        }
+        let idle = steps.random.pick(&[0, 1, 1_000, 100_000]);
+        for _ in 0..idle {
+            steps.push(Step::Unit);
+        }
+    }
+    steps.steps.iter().flat_map(|&step| written(step)).collect()
 }
 
 /// A step as a trace has it, one or two bytes.
@@ -63,13 +79,33 @@ pub fn written(step: Step) -> Vec<u8> {
 struct Steps<'a> {
     random: &'a mut Random,
     set: &'a Set,
+    requests: u32,
     steps: Vec<Step>,
+    /// Where the steps lead, once there are doors.
+    state: State,
+}
+
+impl<'a> Steps<'a> {
+    fn new(random: &'a mut Random, set: &'a Set, requests: u32) -> Steps<'a> {
+        let (state, _) = State::start(set, requests);
+        Steps {
+            random,
+            set,
+            requests,
+            steps: Vec::new(),
+            state,
+        }
+    }
 }
 
 impl Steps<'_> {
     fn part(&mut self, full_one_in: u64) {
         if self.random.one_in(full_one_in) {
             return self.fill_table();
+        }
+        if self.requests >= DOOR && self.random.one_in(4) {
+            let most_units = self.random.pick(&[20, 20, 60, 400]);
+            return self.at_a_door(most_units);
         }
         if self.set.version == VERSION_2 && self.random.one_in(3) {
             return self.through_stages();
@@ -83,14 +119,21 @@ impl Steps<'_> {
         }
     }
 
+    fn push(&mut self, step: Step) {
+        self.steps.push(step);
+        if self.requests >= DOOR {
+            call(&mut self.state, step);
+        }
+    }
+
     fn post(&mut self, stream: usize) {
-        self.steps.push(Step::Post(stream as u32));
+        self.push(Step::Post(stream as u32));
     }
 
     /// A unit, with done once in so many times; never with 0.
     fn unit(&mut self, done_one_in: u64) {
         let done = done_one_in > 0 && self.random.one_in(done_one_in);
-        self.steps.push(if done { Step::Done } else { Step::Unit });
+        self.push(if done { Step::Done } else { Step::Unit });
     }
 
     /// A stream of the set, seldom one that is not in it.
@@ -136,14 +179,75 @@ impl Steps<'_> {
     fn fill_table(&mut self) {
         let one_stream = self.stream();
         let same = self.random.one_in(2);
+        let without_door = self.without_door();
         for _ in 0..self.random.between(64, 76) {
             let stream = if same { one_stream } else { self.stream() };
+            // A door would keep the table from being full.
+            let stream = match without_door {
+                Some(other) if !self.random.one_in(8) => other,
+                _ => stream,
+            };
             self.post(stream);
             if self.random.one_in(12) {
                 self.unit(3);
             }
         }
         self.run();
+    }
+
+    /// A stream whose door keeps nothing out, once there are doors.
+    fn without_door(&mut self) -> Option<usize> {
+        if self.requests < DOOR {
+            return None;
+        }
+        let streams = self.set.used_streams();
+        let places: Vec<usize> = (0..streams.len())
+            .filter(|&place| streams[place].door().is_none())
+            .collect();
+        (!places.is_empty()).then(|| self.random.pick(&places))
+    }
+
+    /// A stream with a door.
+    fn with_door(&mut self) -> Option<usize> {
+        let streams = self.set.used_streams();
+        let places: Vec<usize> = (0..streams.len())
+            .filter(|&place| streams[place].door().is_some())
+            .collect();
+        (!places.is_empty()).then(|| self.random.pick(&places))
+    }
+
+    /// Posts of a stream at its door, several times.
+    fn at_a_door(&mut self, most_units: u32) {
+        let Some(place) = self.with_door() else {
+            return self.mixed();
+        };
+        for _ in 0..self.random.between(1, 5) {
+            self.post_at_door(place, most_units);
+        }
+    }
+
+    /// Posts of a stream when its door opens, a unit before or a unit after, and again at once, if
+    /// that takes at most so many units; else at once.
+    fn post_at_door(&mut self, place: usize, most_units: u32) {
+        let Some(door) = self.set.streams[place].door() else {
+            return;
+        };
+        let units = self.state.waits[place].saturating_sub(door.open_up_to());
+        let units = match self.random.below(6) {
+            0..=1 => units.saturating_sub(1),
+            2..=4 => units,
+            _ => units.saturating_add(1),
+        };
+        if units > most_units {
+            return self.post(place);
+        }
+        for _ in 0..units {
+            let done = self.state.pending > 0 && self.random.one_in(4);
+            self.push(if done { Step::Done } else { Step::Unit });
+        }
+        for _ in 0..self.random.pick(&[1, 1, 2, 3]) {
+            self.post(place);
+        }
     }
 
     /// A message is started, and then a more urgent one comes, of the same task if there is one.
@@ -185,12 +289,12 @@ impl Steps<'_> {
                 _ => last,
             };
             for _ in 0..before {
-                self.steps.push(Step::Unit);
+                self.push(Step::Unit);
             }
             if place == cut_at {
-                return self.steps.push(Step::Unit);
+                return self.push(Step::Unit);
             }
-            self.steps.push(Step::Done);
+            self.push(Step::Done);
         }
     }
 
@@ -258,11 +362,12 @@ mod tests {
             long: 400,
             long_one_in: 10,
             full_one_in: 20,
+            millions_one_in: 0,
         };
         let mut output = String::new();
         for _ in 0..500 {
             let set = sets::small(&mut random, RENDERED);
-            let trace = make(&mut random, &set, &lengths);
+            let trace = make(&mut random, &set, &lengths, RENDERED);
             output += &second::trace::run(&sheets::of_set(&set), &trace, RENDERED).output;
         }
         for answer in [
@@ -275,6 +380,7 @@ mod tests {
             " refused 1\n",
             " refused 2\n",
             " refused 4\n",
+            " refused 15\n",
             "\nrefused 9\n",
         ] {
             assert!(output.matches(answer).count() > 50, "{answer}");
@@ -292,13 +398,14 @@ mod tests {
             long: 400,
             long_one_in: 10,
             full_one_in: 20,
+            millions_one_in: 0,
         };
         // Of streams of four stages.
         let (mut passed, mut cut, mut finished) = ([0; 4], [0; 4], [0; 4]);
-        for _ in 0..500 {
+        for _ in 0..1_000 {
             let set = sets::small_of(&mut random, VERSION_2);
-            let (mut state, _) = State::start(&set);
-            for step in steps(&mut random, &set, &lengths) {
+            let (mut state, _) = State::start(&set, RENDERED);
+            for step in steps(&mut random, &set, &lengths, RENDERED) {
                 let chosen = state.chosen_message().copied();
                 let answer = call(&mut state, step);
                 let Some(message) = chosen else { continue };

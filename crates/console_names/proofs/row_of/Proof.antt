@@ -1,7 +1,7 @@
 -- `console_names::row_of` meets its contract.
 -- Assumes nothing.
 use mathlib.Core.Path.{ap, _∙_}
-use Rattle.console_names.specs.Rows.{setRow, stateRow, questionRow, replayRow, rowOf}
+use Rattle.console_names.specs.Rows.{setRow, stateRow, questionRow, replayRow, cableRow, rowOf}
 use borrow.Author.Needs.{needs}
 use Rattle.console_names.proofs.row_of.Statement.{statement}
 use Rattle.console_names.proofs.row_of.Tie as tie
@@ -21,14 +21,18 @@ question-row-requires c κs = search needs
 replay-row-requires : tie.Need-replay-row-requires
 replay-row-requires c κs = search needs
 
+cable-row-requires : tie.Need-cable-row-requires
+cable-row-requires c κs = search needs
+
 returns : tie.Need-returns
 unfolding rowOf
 returns c =
-    let q = c .before in
+    let q = c .before .before in
     let set = q .before .before in
-    c .replay-row .ensures
+    c .cable-row .ensures
+    ∙ ap (cableRow _) (c .before .replay-row .ensures
     ∙ ap (replayRow _) (q .question-row .ensures
-    ∙ ap (questionRow _) (q .before .state-row .ensures ∙ ap (stateRow _) (set .set-row .ensures ∙ ap (setRow _) (set .before .asks .ensures))))
+    ∙ ap (questionRow _) (q .before .state-row .ensures ∙ ap (stateRow _) (set .set-row .ensures ∙ ap (setRow _) (set .before .asks .ensures)))))
 
 pub row-of-spec : {M : Type 1} → statement M
 row-of-spec =
@@ -39,4 +43,5 @@ row-of-spec =
     state-row-requires
     question-row-requires
     replay-row-requires
+    cable-row-requires
     returns)

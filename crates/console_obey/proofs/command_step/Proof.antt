@@ -44,6 +44,12 @@ enum-told-3 c = search needs
 record-step-requires : tie.Need-record-step-requires
 record-step-requires c κs = search needs
 
+enum-known-k-5 : tie.Need-enum-known-k-5
+enum-known-k-5 c = search needs
+
+cable-step-requires : tie.Need-cable-step-requires
+cable-step-requires c κs = search needs
+
 returns : tie.Need-returns
 returns c =
     let a = c .before .before .before .before .before .args in
@@ -103,6 +109,15 @@ returns-7 c =
     let a = e .before .before .before .before .before .args in
     by-command (a .d) (a .n) (a .text .now) (a .out .now) (a .at) (a .k) _ _ _ (e .enum-told3 .given .1) (c .before .before .record-step .ensures)
 
+same-length-7 : tie.Need-same-length-7
+same-length-7 c = search needs
+
+returns-8 : tie.Need-returns-8
+returns-8 c =
+    let e = c .before .before .before .before .before in
+    let a = e .before .before .before .before .before .args in
+    by-command (a .d) (a .n) (a .text .now) (a .out .now) (a .at) (a .k) _ _ _ (e .k5 .given .1) (c .before .before .cable-step .ensures)
+
 pub command-step-spec : {M : Type 1} → statement M
 command-step-spec =
     tie.close
@@ -120,6 +135,8 @@ command-step-spec =
     replayed-step-requires
     enum-told-3
     record-step-requires
+    enum-known-k-5
+    cable-step-requires
     returns
     same-length
     returns-2
@@ -132,4 +149,6 @@ command-step-spec =
     same-length-5
     returns-6
     same-length-6
-    returns-7)
+    returns-7
+    same-length-7
+    returns-8)

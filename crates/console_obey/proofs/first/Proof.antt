@@ -14,8 +14,11 @@ start-requires c κs = search needs
 first-requires : tie.Need-first-requires
 first-requires c κs = search needs
 
+cable-requires : tie.Need-cable-requires
+cable-requires c κs = search needs
+
 returns : tie.Need-returns
-returns c = begun _ _ _ (c .before .before .before .empty-set .ensures) (c .before .before .start .ensures) (c .first .ensures)
+returns c = begun _ _ _ _ (c .before .before .before .before .empty-set .ensures) (c .before .before .before .start .ensures) (c .before .first .ensures) (c .cable .ensures)
 
 pub first-spec : {M : Type 1} → statement M
-first-spec = tie.close (tie.spec empty-set-requires start-requires first-requires returns)
+first-spec = tie.close (tie.spec empty-set-requires start-requires first-requires cable-requires returns)

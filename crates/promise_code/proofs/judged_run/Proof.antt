@@ -7,7 +7,7 @@ use Rattle.rules.specs.Streams.{Placed, FourPlaces}
 use Rattle.rules.specs.Load.{VerdictOf}
 use Rattle.promise_demand3.specs.Statements.{NeverMissed}
 use Rattle.promise_demand3.proofs.Promise.{never-missed}
-use Rattle.promise_code.proofs.Places.{each-all}
+use Rattle.laws.proofs.Arrays.{each-all}
 use Rattle.promise_code.proofs.judged_run.Statement.{statement}
 use Rattle.promise_code.proofs.judged_run.Tie as tie
 

@@ -1,10 +1,10 @@
 use mathlib.Core.Path.{sym, ap, subst, _∙_}
 use Rattle.laws.specs.Bits.{bits}
 use Rattle.laws.proofs.Fields.{bits-bits}
-use Rattle.sheet_read.specs.declared.Carried.{Carried}
-use Rattle.sheet_read.specs.Reader.{closeOf, run, startOf}
-use Rattle.sheet_read.specs.Kept.{Kept}
-use Rattle.sheet_read.proofs.Keeps.{kept-run, kept-start}
+use Rattle.sheet_carried.specs.declared.Carried.{Carried}
+use Rattle.sheet_carried.specs.Reader.{closeOf, run, startOf}
+use Rattle.sheet_carried.specs.Kept.{Kept}
+use Rattle.sheet_carried.proofs.Keeps.{kept-run, kept-start}
 use Rattle.sheet_read.proofs.ByField.{by-field}
 use native.Mathlib.Omega.{arith}
 use borrow.Author.Needs.{needs}

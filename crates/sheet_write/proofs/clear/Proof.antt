@@ -4,7 +4,7 @@ use Prim.Native.Nat.{ℕ, _+_, _-_, _≤_}
 use mathlib.Core.Path.{_≡_, refl, sym, ap, _∙_}
 use mathlib.Core.List.{List, _++_}
 use lib.ListN.{drop, length, length-set, replicate, set}
-use Rattle.sheet_read.proofs.Filled.{cleared-more}
+use Rattle.sheet_carried.proofs.Filled.{cleared-more}
 use Rattle.sheet_write.proofs.clear.Statement.{statement}
 use Rattle.sheet_write.proofs.clear.Tie as tie
 use Rattle.sheet_write.proofs.clear.Reads as reads

@@ -15,6 +15,7 @@ const IN_SCENE: Lengths = Lengths {
     long: 120,
     long_one_in: 12,
     full_one_in: 30,
+    millions_one_in: 0,
 };
 
 /// Recordings of which the first step is an end, 13, 14 or a call.
@@ -43,7 +44,7 @@ impl Script<'_> {
     /// Calls for the state's set.
     fn calls(&mut self) -> Vec<Step> {
         let set = self.state().set;
-        traces::steps(self.random, &set, &IN_SCENE)
+        traces::steps(self.random, &set, &IN_SCENE, self.console.requests)
     }
 
     fn say_recording(&mut self, recording: &[u8]) {
@@ -193,7 +194,7 @@ impl Script<'_> {
                 let (byte, bit) = self.place();
                 self.say(format!("reader {byte} {bit}"));
             }
-            let before = *self.state();
+            let before = self.state().clone();
             for put in self.state_fault() {
                 self.say(put);
             }

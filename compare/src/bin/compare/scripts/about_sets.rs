@@ -84,7 +84,7 @@ impl Script<'_> {
     }
 
     /// Lines that put one number of the set at, just below or just above its limit.
-    fn set_fault(&mut self) -> Vec<String> {
+    pub(super) fn set_fault(&mut self) -> Vec<String> {
         let set = *self.set();
         let count = (set.count as usize).min(STREAM_PLACES);
         // The places of the set, and the first that is not.
@@ -303,7 +303,7 @@ impl Script<'_> {
     }
 
     /// Puts the numbers back that differ from an earlier set.
-    fn put_back(&mut self, before: &Set) {
+    pub(super) fn put_back(&mut self, before: &Set) {
         let now = *self.set();
         if now.count != before.count {
             self.say(format!("streams {}", before.count));

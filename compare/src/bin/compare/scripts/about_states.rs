@@ -1,6 +1,6 @@
 //! Scenes about the console's state.
 
-use second::requests::{REPLAY, STAGES};
+use second::requests::{DOOR, REPLAY, STAGES};
 use second::set::{Stage, Stream, GREATEST_TASK, STAGE_PLACES, STREAM_PLACES};
 use second::sheet::VERSION_2;
 use second::state::{Message, State, LAST_CLOCK, MESSAGE_PLACES};
@@ -147,6 +147,9 @@ impl Script<'_> {
             .map(|(place, message)| staged_line(place, message))
             .collect();
         self.random.shuffle(&mut staged);
+        if self.in_force(DOOR) && self.random.one_in(2) {
+            staged.extend(self.some_waits());
+        }
         for put in puts.into_iter().chain(staged) {
             self.say(put);
         }
@@ -212,7 +215,7 @@ impl Script<'_> {
             _ => self.steps(),
         }
         for _ in 0..self.random.between(1, 8) {
-            let before = *self.state();
+            let before = self.state().clone();
             for put in self.state_fault() {
                 self.say(put);
             }
@@ -231,7 +234,7 @@ impl Script<'_> {
 
     /// Lines that put one number of the state at, just below or just above its limit.
     pub(super) fn state_fault(&mut self) -> Vec<String> {
-        let state = *self.state();
+        let state = self.state().clone();
         let pending = (state.pending as usize).min(MESSAGE_PLACES);
         let place = self.random.index(pending.max(1));
         let mut message = state.messages[place];
@@ -242,9 +245,14 @@ impl Script<'_> {
             .unwrap_or(&Stream::UNUSED);
         let stage = message.stage.min(STAGE_PLACES as u32 - 1) as usize;
         let cost = stream.stages[stage].cost;
-        let faults = if self.in_force(STAGES) { 16 } else { 10 };
+        let faults = match self.console.requests {
+            DOOR.. => 19,
+            STAGES.. => 16,
+            _ => 10,
+        };
         match self.random.below(faults) {
-            10.. => self.staged_fault(place),
+            16.. => vec![self.door_fault()],
+            10..=15 => self.staged_fault(place),
             0 => {
                 // The clock at its last, and next to where messages were posted.
                 let posted = message.deadline.saturating_sub(stream.deadline);
@@ -312,7 +320,7 @@ impl Script<'_> {
 
     /// The same of the stages of messages.
     fn staged_fault(&mut self, place: usize) -> Vec<String> {
-        let state = *self.state();
+        let state = self.state().clone();
         let pending = (state.pending as usize).min(MESSAGE_PLACES);
         let mut message = state.messages[place];
         let streams = &state.set.streams;
@@ -435,7 +443,7 @@ impl Script<'_> {
                 self.say("formed");
                 self.say("choose");
                 if self.random.one_in(4) {
-                    let before = *self.state();
+                    let before = self.state().clone();
                     self.step();
                     self.say("state");
                     self.put_state_back(&before);
@@ -446,7 +454,7 @@ impl Script<'_> {
 
     /// Puts the numbers back that differ from an earlier state of the same set.
     pub(super) fn put_state_back(&mut self, before: &State) {
-        let now = *self.state();
+        let now = self.state().clone();
         if now.clock != before.clock {
             self.say(format!("clock {}", before.clock));
         }
@@ -460,6 +468,11 @@ impl Script<'_> {
             }
             if self.state().messages[place].stage != before.stage {
                 self.say(staged_line(place, before));
+            }
+        }
+        for (place, &wait) in before.waits.iter().enumerate() {
+            if self.state().waits[place] != wait {
+                self.say(format!("door {place} {wait}"));
             }
         }
     }

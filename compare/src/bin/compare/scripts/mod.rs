@@ -4,18 +4,25 @@
 //! scene knows the set and the state it has in hand. Scenes never look at what the first program
 //! answers.
 
+mod about_cables;
+mod about_checks;
+mod about_doors;
 mod about_recordings;
 mod about_sets;
 mod about_states;
 mod odd_lines;
 
 use second::console::Console;
-use second::requests::{REPLAY, STAGES};
+use second::requests::{DOOR, PIECES, REPLAY, RESUMABLE, STAGES};
 use second::set::{Set, GREATEST_COST, GREATEST_CYCLE, GREATEST_DEADLINE, GREATEST_OFFSET};
 use second::state::{State, LAST_CLOCK};
 
+use crate::console_mode::Made;
 use crate::random::Random;
 use crate::sets;
+
+use about_cables::Fed;
+use about_checks::Checked;
 
 /// A line of a script, without its newline, and all that it prints.
 pub struct Line {
@@ -25,15 +32,57 @@ pub struct Line {
 
 /// A script of at least so many lines, with the requests up to a number in force.
 pub fn make(random: &mut Random, requests: u32, at_least: usize) -> Vec<Line> {
-    let mut script = Script {
-        random,
-        console: Console::new(requests),
-        lines: Vec::new(),
-    };
+    let mut script = Script::new(random, requests);
     while script.lines.len() < at_least {
         script.scene();
     }
     script.lines
+}
+
+/// A script of so many sheets that are cut into pieces, with the requests up to a number in force.
+pub fn in_pieces(random: &mut Random, requests: u32, sheets: u64) -> Made {
+    let mut script = Script::new(random, requests);
+    let mut fed = Fed::default();
+    for _ in 0..sheets {
+        script.sheet_in_pieces(&mut fed);
+    }
+    let [missing, version, rule, behind] = fed.refused;
+    Made {
+        script: script.lines,
+        count: sheets,
+        others: vec![
+            ("refused with 5", missing),
+            ("with 6", version),
+            ("with 7", rule),
+            ("with 10", behind),
+            ("pieces", fed.pieces),
+            ("of no bytes", fed.empty_pieces),
+        ],
+    }
+}
+
+/// A script of so many sets whose check is divided among calls, with the requests up to a number in
+/// force.
+pub fn divided_checks(random: &mut Random, requests: u32, sets: u64) -> Made {
+    let mut script = Script::new(random, requests);
+    let mut checked = Checked::default();
+    while checked.verdicts.iter().sum::<u64>() < sets {
+        script.divided_check(&mut checked);
+    }
+    let [accept, late, overload, invalid, long] = checked.verdicts;
+    Made {
+        script: script.lines,
+        count: sets,
+        others: vec![
+            ("accepted", accept),
+            ("late", late),
+            ("overload", overload),
+            ("refused with 7", invalid),
+            ("with 8", long),
+            ("calls", checked.calls),
+            ("lengths", checked.lengths),
+        ],
+    }
 }
 
 struct Script<'a> {
@@ -42,13 +91,37 @@ struct Script<'a> {
     lines: Vec<Line>,
 }
 
+impl<'a> Script<'a> {
+    fn new(random: &'a mut Random, requests: u32) -> Script<'a> {
+        Script {
+            random,
+            console: Console::new(requests),
+            lines: Vec::new(),
+        }
+    }
+}
+
 impl Script<'_> {
-    /// Adds a line. A `verdict` that would take long is mostly left out.
+    /// Adds a line. A `verdict`, or a call of the resumable check, that would take long is mostly
+    /// left out.
     fn say(&mut self, text: impl AsRef<[u8]>) {
         let text = text.as_ref().to_vec();
         if text == b"verdict" && !sets::worth_judging(self.random, &self.console.set) {
             return;
         }
+        let number = text.strip_prefix(b"go ").map(str::from_utf8);
+        if let Some(Ok(number)) = number {
+            let number = number.parse().unwrap_or(0);
+            if !sets::worth_testing(self.random, &self.console.position, number) {
+                return;
+            }
+        }
+        self.say_at_once(text);
+    }
+
+    /// Adds a line, however long it takes.
+    fn say_at_once(&mut self, text: impl Into<Vec<u8>>) {
+        let text = text.into();
         let answer = self.console.line(&text);
         self.lines.push(Line { text, answer });
     }
@@ -69,6 +142,9 @@ impl Script<'_> {
     /// Several lines about one thing.
     fn scene(&mut self) {
         let scenes = match self.console.requests {
+            RESUMABLE.. => 94,
+            DOOR.. => 83,
+            PIECES.. => 71,
             STAGES.. => 63,
             REPLAY.. => 52,
             _ => 40,
@@ -94,7 +170,16 @@ impl Script<'_> {
             48..=51 => self.recorded(),
             52..=56 => self.stages_run(),
             57..=59 => self.two_started(),
-            _ => self.any_stages(),
+            60..=62 => self.any_stages(),
+            63..=68 => self.cables(),
+            69 => self.cut_at_every_place(),
+            70 => self.pieces_behind_a_refused_sheet(),
+            71..=76 => self.doors_run(),
+            77..=80 => self.waits_by_hand(),
+            81..=82 => self.full_table_at_the_door(),
+            83..=87 => self.check_in_calls(),
+            88..=91 => self.resumed(),
+            _ => self.opened_and_stopped(),
         }
     }
 }
@@ -164,7 +249,7 @@ mod tests {
     /// The lines of many scripts.
     fn many_lines(seed: u64, requests: u32) -> Vec<Line> {
         let mut random = Random::new(seed);
-        (0..60)
+        (0..250)
             .flat_map(|_| make(&mut random, requests, 500))
             .collect()
     }
@@ -232,6 +317,14 @@ mod tests {
             "\nrecorded ",
         ];
         let of_stages = [" passed ", "\nstaged 0 ", "\nstaged 63 "];
+        let of_pieces = ["\nfed\n"];
+        let of_doors = [" refused 15\n", "\ndoor 0 ", "\ndoor 15 "];
+        let of_check = [
+            "\nopen\n",
+            "\ntested 0 next ",
+            "\ntested 1 accept\n",
+            " late ",
+        ];
         for requests in 0..=RENDERED {
             let lines = many_lines(1, requests);
             come_up(&lines, &of_document_01);
@@ -241,6 +334,15 @@ mod tests {
             if requests >= STAGES {
                 come_up(&lines, &of_stages);
             }
+            if requests >= PIECES {
+                come_up(&lines, &of_pieces);
+            }
+            if requests >= DOOR {
+                come_up(&lines, &of_doors);
+            }
+            if requests >= RESUMABLE {
+                come_up(&lines, &of_check);
+            }
         }
     }
 
@@ -248,7 +350,20 @@ mod tests {
     fn commands_of_a_request_that_is_not_in_force_come_up_seldom_and_are_none() {
         let of_a_replay: &[&str] = &["recording", "next", "reader", "where", "record"];
         let of_stages: &[&str] = &["version", "stages", "stage", "staged"];
-        for (requests, commands) in [(0, of_a_replay), (0, of_stages), (LESS_STACK, of_stages)] {
+        let of_pieces: &[&str] = &["cable", "feed", "close"];
+        let of_doors: &[&str] = &["door"];
+        let of_check: &[&str] = &["open", "go", "resume"];
+        for (requests, commands) in [
+            (0, of_a_replay),
+            (0, of_stages),
+            (LESS_STACK, of_stages),
+            (0, of_pieces),
+            (STAGES, of_pieces),
+            (0, of_doors),
+            (PIECES, of_doors),
+            (0, of_check),
+            (DOOR, of_check),
+        ] {
             let lines = many_lines(1, requests);
             for command in commands {
                 let found: Vec<&Line> = lines
@@ -268,12 +383,12 @@ mod tests {
         let (mut valid, mut invalid) = ([0; 5], [0; 5]);
         let (mut formed, mut not_formed) = ([0; 4], 0);
         let mut two_started = [0; 2];
-        for _ in 0..60 {
+        for _ in 0..150 {
             let script = make(&mut random, RENDERED, 500);
             let mut console = Console::new(RENDERED);
             for line in script {
                 let set = console.set;
-                let state = console.state;
+                let state = console.state.clone();
                 match name(&line) {
                     b"valid" | b"verdict" | b"demand" | b"write" => {
                         let most = set.streams.iter().map(|s| s.stage_count.min(4)).max();

@@ -91,6 +91,33 @@ const ODD_LINES: &[&[u8]] = &[
     b"staged 0 0 0",
     b"passed",
     b"passed 0 0",
+    b"cable 0",
+    b"cable ",
+    b"cables",
+    b"feed ",
+    b"feed 1",
+    b"feed 10 00",
+    b"feed  10",
+    b"feed 1G",
+    b"feed A0",
+    b"fed",
+    b"close 0",
+    b"close ",
+    b"closed",
+    b"door",
+    b"door 0",
+    b"door 0 0 0",
+    b"doors 0 1",
+    b"open 0",
+    b"open ",
+    b"opened",
+    b"go",
+    b"go ",
+    b"go 1 1",
+    b"goes 1",
+    b"resume",
+    b"resume 1 1",
+    b"tested 1",
     b"#",
     b"// unit",
 ];
@@ -130,6 +157,13 @@ impl Script<'_> {
             ("stages", 2),
             ("stage", 4),
             ("staged", 2),
+            ("cable", 0),
+            ("feed", 0),
+            ("close", 0),
+            ("door", 2),
+            ("open", 0),
+            ("go", 1),
+            ("resume", 1),
         ]);
         let mut line = name.to_string();
         for place in 0..numbers {
@@ -144,6 +178,7 @@ impl Script<'_> {
         line += match name {
             "recording" => self.random.pick(&["", " 01b0", " 5555c0"]),
             "record" => self.random.pick(&["", " p0ud", " uuuu", " pfpf"]),
+            "feed" => self.random.pick(&["", " 10", " 00", " 20", " 2000"]),
             _ => "",
         };
         line
@@ -203,6 +238,8 @@ impl Script<'_> {
             "recording c0",
             "record 1024 u",
             "record 1022 ",
+            "feed 10",
+            "feed ",
         ]);
         let fill = if start.starts_with("record ") {
             self.random.pick(b"uuud0p")
@@ -274,13 +311,17 @@ impl Script<'_> {
             "stage 0 3 0 N",
             "staged N 0",
             "staged 63 N",
+            "door N 0",
+            "door 15 N",
+            "go N",
+            "resume N",
         ]);
         line.replace('N', number).into_bytes()
     }
 
     fn line_with_odd_hex(&mut self) -> Vec<u8> {
         let set = sets::small(self.random, self.console.requests);
-        let name = self.random.pick(&["read", "recording"]);
+        let name = self.random.pick(&["read", "recording", "feed"]);
         let mut line = hex_line(name, &sheets::of_set(&set)).into_bytes();
         let hex = name.len() + 1;
         let place = hex + self.random.index(line.len() - hex);
@@ -296,7 +337,11 @@ impl Script<'_> {
 
     /// An index at, just below or just above its range.
     fn index_out_of_place(&mut self) -> String {
-        match self.random.below(8) {
+        match self.random.below(9) {
+            8 => {
+                let place = around(self.random, &[STREAM_PLACES as u32 - 1]);
+                format!("door {place} 0")
+            }
             0..=1 => {
                 let place = around(self.random, &[STREAM_PLACES as u32 - 1]);
                 format!("stream {place} 0 0 0 0")

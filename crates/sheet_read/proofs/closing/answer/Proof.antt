@@ -1,4 +1,4 @@
-use Rattle.sheet_read.specs.Table.{answerOf, whyOf}
+use Rattle.sheet_carried.specs.Table.{answerOf, whyOf}
 use mathlib.Core.Path.{sym}
 use borrow.Author.Tests.{eq-eqb, ne-eqb, lt-ltb, le-ltb}
 use native.Mathlib.Omega.{arith}

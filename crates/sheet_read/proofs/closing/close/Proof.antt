@@ -2,7 +2,7 @@ use mathlib.Core.Path.{sym, ap, _∙_}
 use Rattle.rules.specs.declared.Set.{Set}
 use Rattle.rules.specs.declared.ReadAnswer.{ReadAnswer}
 use Rattle.rules.specs.declared.ReadAnswer.the-variants.{Refused}
-use Rattle.sheet_read.specs.Reader.{closeAs, closeOf}
+use Rattle.sheet_carried.specs.Reader.{closeAs, closeOf}
 use native.Mathlib.Omega.{arith}
 use borrow.Author.Needs.{needs}
 use Rattle.sheet_read.proofs.closing.close.Statement.{statement}

@@ -3,7 +3,7 @@ use mathlib.Core.Path.{_≡_, refl, ap, ap₂, _∙_}
 use mathlib.Core.List.{List, _++_}
 use lib.ListN.{drop, replicate, set}
 use Rattle.rules.specs.declared.Stream.{Stream}
-use Rattle.sheet_read.proofs.Filled.{cleared-all, cleared-more, holds-length}
+use Rattle.sheet_carried.proofs.Filled.{cleared-all, cleared-more, holds-length}
 use Rattle.rules.specs.Streams.{noStream}
 use native.Mathlib.Omega.{arith}
 use borrow.Author.Needs.{needs}

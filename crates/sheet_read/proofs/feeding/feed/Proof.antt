@@ -8,13 +8,13 @@ use Rattle.laws.specs.Bits.{bits}
 use Rattle.rules.specs.declared.Set.{Set}
 use Rattle.rules.specs.declared.Stage.{Stage}
 use Rattle.rules.specs.declared.TuplePlace.{TuplePlace}
-use Rattle.sheet_read.specs.declared.Point.{Point}
-use Rattle.sheet_read.specs.declared.SheetField.{SheetField}
-use Rattle.sheet_read.specs.declared.Carried.{Carried}
-use Rattle.sheet_read.specs.Table.{inRuleOf, openedOf, refusalOf}
-use Rattle.sheet_read.specs.Reader.{pointAt, refusedOf, ruleOf, run, valueAt}
-use Rattle.sheet_read.specs.Kept.{Kept}
-use Rattle.sheet_read.proofs.Rows.{refusal-row}
+use Rattle.sheet_carried.specs.declared.Point.{Point}
+use Rattle.sheet_carried.specs.declared.SheetField.{SheetField}
+use Rattle.sheet_carried.specs.declared.Carried.{Carried}
+use Rattle.sheet_carried.specs.Table.{inRuleOf, openedOf, refusalOf}
+use Rattle.sheet_carried.specs.Reader.{pointAt, refusedOf, ruleOf, run, valueAt}
+use Rattle.sheet_carried.specs.Kept.{Kept}
+use Rattle.sheet_carried.proofs.Rows.{refusal-row}
 use Rattle.sheet_read.proofs.Turns.{Behind, Turn, ahead, ahead-kept, ahead-runs, both-lt, carried, end-le, fits, got-few, got-some, left-none, left-some, refused-stays, rest, rule-stays, rule-tests, stage-room, stream-room, tuple-room, turn-cycle, turn-field, turn-padding, turn-part, turn-refused, turn-stage, turn-stages, turn-stream, turn-task, turn-tuple, turn-version, turn-whole, turned, turns-end}
 use native.Mathlib.Omega.{arith}
 use borrow.Author.Needs.{needs}

@@ -4,8 +4,8 @@ use Rattle.rules.specs.declared.Set.{Set}
 use Rattle.rules.specs.declared.Stage.{Stage}
 use Rattle.rules.specs.declared.TuplePlace.{TuplePlace}
 use Rattle.rules.specs.Streams.{emptySet}
-use Rattle.sheet_read.specs.declared.Point.{Point}
-use Rattle.sheet_read.specs.Reader.{noValues, pointAt, refusedOf}
+use Rattle.sheet_carried.specs.declared.Point.{Point}
+use Rattle.sheet_carried.specs.Reader.{noValues, pointAt, refusedOf}
 use native.Mathlib.Omega.{arith}
 use borrow.Author.Needs.{needs}
 use Rattle.sheet_read.proofs.feeding.refused.Statement.{statement}

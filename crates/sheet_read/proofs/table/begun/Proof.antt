@@ -1,5 +1,5 @@
 use mathlib.Core.Path.{ap}
-use Rattle.sheet_read.specs.declared.SheetField.{SheetField}
+use Rattle.sheet_carried.specs.declared.SheetField.{SheetField}
 use native.Mathlib.Omega.{arith}
 use borrow.Author.Needs.{needs}
 use Rattle.sheet_read.proofs.table.begun.Statement.{statement}

@@ -1,8 +1,8 @@
 use Prim.Native.Nat.{ℕ, _+_}
 use mathlib.Core.Path.{ap, sym}
 use lib.ListN.{getD}
-use Rattle.sheet_read.specs.Table.{firstOrder}
-use Rattle.sheet_read.proofs.Rows.{first-behind, first-next, second-behind}
+use Rattle.sheet_carried.specs.Table.{firstOrder}
+use Rattle.sheet_carried.proofs.Rows.{first-behind, first-next, second-behind}
 use native.Mathlib.Omega.{arith}
 use borrow.Author.Needs.{needs}
 use Rattle.sheet_read.proofs.table.behind.Statement.{statement}

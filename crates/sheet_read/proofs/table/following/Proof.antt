@@ -1,6 +1,6 @@
 use mathlib.Core.Path.{sym, _∙_}
 use borrow.Author.Tests.{eq-eqb, ne-eqb}
-use Rattle.sheet_read.specs.Table.{followingOf}
+use Rattle.sheet_carried.specs.Table.{followingOf}
 use native.Mathlib.Omega.{arith}
 use borrow.Author.Needs.{needs}
 use Rattle.sheet_read.proofs.table.following.Statement.{statement}

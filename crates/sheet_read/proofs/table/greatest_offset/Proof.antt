@@ -1,6 +1,6 @@
 use mathlib.Core.Path.{ap, sym}
 use mathlib.Core.Bool.{Bool, cond}
-use Rattle.sheet_read.specs.Table.{greatestOf, rowOf}
+use Rattle.sheet_carried.specs.Table.{greatestOf, rowOf}
 use borrow.Author.Tests.{eq-eqb, ne-eqb}
 use native.Mathlib.Omega.{arith}
 use borrow.Author.Needs.{needs}

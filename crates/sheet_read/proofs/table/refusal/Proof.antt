@@ -1,4 +1,4 @@
-use Rattle.sheet_read.specs.Table.{refusalOf}
+use Rattle.sheet_carried.specs.Table.{refusalOf}
 use mathlib.Core.Path.{sym}
 use borrow.Author.Tests.{eq-eqb, ne-eqb, lt-ltb, le-ltb}
 use native.Mathlib.Omega.{arith}

@@ -1,6 +1,6 @@
 use mathlib.Core.Path.{ap, sym, _∙_}
-use Rattle.sheet_read.specs.Table.{rowOf}
-use Rattle.sheet_read.proofs.Rows.{last-value, padding-row, refused-row}
+use Rattle.sheet_carried.specs.Table.{rowOf}
+use Rattle.sheet_carried.proofs.Rows.{last-value, padding-row, refused-row}
 use native.Mathlib.Omega.{arith}
 use borrow.Author.Needs.{needs}
 use Rattle.sheet_read.proofs.table.row.Statement.{statement}

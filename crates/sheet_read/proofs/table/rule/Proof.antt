@@ -1,5 +1,5 @@
 use mathlib.Core.Path.{_∙_}
-use Rattle.sheet_read.proofs.Rows.{rule-offset, rule-other}
+use Rattle.sheet_carried.proofs.Rows.{rule-offset, rule-other}
 use native.Mathlib.Omega.{arith}
 use borrow.Author.Needs.{needs}
 use Rattle.sheet_read.proofs.table.rule.Statement.{statement}

@@ -1,0 +1,2 @@
+pub mod Cables
+pub mod Joined

@@ -1,0 +1,14 @@
+pub mod Filled
+pub mod Whole
+pub mod Streams
+pub mod Rows
+pub mod Keeps
+pub mod Chunks
+pub mod Chains
+pub mod Reached
+pub mod Streamed
+pub mod Sound
+pub mod Complete
+pub mod Exact
+pub mod Ways
+pub mod Counted

@@ -1,0 +1,4 @@
+pub mod Table
+pub mod Reader
+pub mod Kept
+pub mod Left
