@@ -2,16 +2,20 @@
 -- Assumes nothing.
 use Prim.Native.Nat.{_≤_}
 use mathlib.Core.Bool.{Bool, true}
+use mathlib.Core.List.{List}
 use mathlib.Core.Path.{_≡_}
-use lib.ListN.{drop}
+use lib.ListN.{take, drop}
 use Rattle.laws.specs.Lists.{every}
 use Rattle.rules.specs.declared.State.{State}
 use Rattle.rules.specs.Streams.{valid}
 use Rattle.rules.specs.States.{pending, mostPending, messagesOk, stateTests}
 
--- the tests of a state but for the first, "the set is valid"
+-- the tests of a state's clock and messages: but for the first, "the set is valid", and the last, that of the waits
+abbrev pub restTests : State → List Bool
+restTests s = take 5 (drop 1 (stateTests s))
+
 unfoldable pub restFormed : State → Bool
-restFormed s = every (drop 1 (stateTests s))
+restFormed s = every (restTests s)
 
 pub record InRange (s : State) : Type 0 where
   pub set : valid (s .set) ≡ true

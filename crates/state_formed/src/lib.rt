@@ -22,7 +22,7 @@ fn message_unused(m: Message) -> bool
     (m.stream == 0) & ((m.deadline == 0) & ((m.used == 0) & (m.stage == 0)))
 }
 
-// The tests of a state but for the first, that its set is valid. A first pass over the pending messages: each names a stream of the set and one of its
+// The tests of a state but for the first, that its set is valid, and the last, of its waits. A first pass over the pending messages: each names a stream of the set and one of its
 // stages, has used less than that stage's c, was posted by now and not before the one in front of it, and is that stage's task's only started one. A second
 // over the places behind: they are zero. Both passes stand here, since what is handed to another function is copied.
 pub fn formed(s: State) -> bool
@@ -84,5 +84,9 @@ pub fn well_formed(s: State) -> bool
     if !stream_valid::is_valid(s.set) {
         return false;
     }
-    formed(s)
+    if !formed(s) {
+        return false;
+    }
+    let waits = s.waits;
+    stream_doors::waits_ok(s.set, waits)
 }
