@@ -1,12 +1,12 @@
 -- What the test of a well formed state says, as propositions, and what its messages have.
 -- Assumes nothing.
 use Prim.Native.Nat.{ℕ, _+_, _-_, _≤_, _<_}
-use mathlib.Core.Bool.{Bool, true, false, _&&_, false≢true}
+use mathlib.Core.Bool.{Bool, true, false, false≢true}
 use mathlib.Core.List.{[], _∷_}
 use mathlib.Core.Path.{_≡_, refl, ap, sym, _∙_}
 use native.Mathlib.Omega.{arith}
 use borrow.Author.Tests.{leb-true, le-leb, eqb-true}
-use lib.Dec.{leb, eqb}
+use lib.Dec.{eqb}
 use lib.ListN.{length, getD, take, drop}
 use lib.Seq.{getD-take, getD-drop, length-take-le}
 use Rattle.laws.specs.Lists.{below, all}
@@ -21,7 +21,7 @@ use Rattle.rules.specs.States.{noMessage, pending, stagesIn, stageOf, taskOf, p
 use Rattle.rules.specs.Steps.{messageAt}
 use Rattle.rules.specs.Valid.{ValidStage, ValidStream, ValidSet}
 use Rattle.rules.proofs.Valid.{valid-set}
-use Rattle.state_formed.specs.InRange.{InRange, restTests, restFormed}
+use Rattle.state_formed.specs.InRange.{InRange, restFormed}
 use Rattle.state_formed.proofs.Standing.{Standing, standing, stage-room}
 
 -- the default of a place that the machine reads within an array
@@ -115,32 +115,16 @@ module _ (s : State) (h : InRange s) (ms : length (s .messages) ≡ 64) (k : ℕ
     pub stage-read : stageAt (getD (s .set .streams) (messageAt s k .stream) blank) (messageAt s k .stage) ≡ stageOf (s .set) (messageAt s k)
     stage-read = ap (λ (y : Stream). stageAt y (messageAt s k .stage)) stream-read
 
--- a test that fails, of those between the set's and the waits'
-pub no-test : (s : State) (k : ℕ) → getD (restTests s) k true ≡ false → false ≡ restFormed s
+-- a test that fails, of those behind the set's
+pub no-test : (s : State) (k : ℕ) → getD (drop 1 (stateTests s)) k true ≡ false → false ≡ restFormed s
 unfolding restFormed
-no-test s k e = by-test (restFormed s) (λ t. absurd (false≢true (sym e ∙ every-at (restTests s) k t))) (λ t. sym t)
+no-test s k e = by-test (restFormed s) (λ t. absurd (false≢true (sym e ∙ every-at (drop 1 (stateTests s)) k t))) (λ t. sym t)
 
 -- the set's test, and the rest
 pub set-fails : (s : State) → valid (s .set) ≡ false → false ≡ wellFormed s
 unfolding wellFormed
 set-fails s e = rw e refl
 
--- the tests are those of the set, of the rest, and of the waits
-wholly : (a b c d e f : Bool) → (a && (b && (c && (d && (e && f))))) ≡ ((a && (b && (c && (d && e)))) && f)
-wholly true true true true e f = refl
-wholly false b c d e f = refl
-wholly true false c d e f = refl
-wholly true true false d e f = refl
-wholly true true true false e f = refl
-
-rest-and-waits : (s : State) → valid (s .set) ≡ true → wellFormed s ≡ (restFormed s && all (waitOk (s .set) (s .waits)) (below 16))
+pub rest-tells : (s : State) (r : Bool) → valid (s .set) ≡ true → r ≡ restFormed s → r ≡ wellFormed s
 unfolding wellFormed restFormed
-rest-and-waits s e =
-    rw e (wholly (leb (s .count) 64) (leb (s .clock) 4000000000) (messagesOk (s .set) (s .clock) (pending s))
-    (all (startedOnce (s .set) (pending s)) (below 16)) (all messageUnused (drop (s .count) (s .messages))) (all (waitOk (s .set) (s .waits)) (below 16)))
-
-pub rest-fails : (s : State) → valid (s .set) ≡ true → restFormed s ≡ false → false ≡ wellFormed s
-rest-fails s e f = rw (rest-and-waits s e, f)
-
-pub waits-tell : (s : State) (r : Bool) → valid (s .set) ≡ true → restFormed s ≡ true → r ≡ all (waitOk (s .set) (s .waits)) (below 16) → r ≡ wellFormed s
-waits-tell s r e f g = rw (rest-and-waits s e, f) g
+rest-tells s r e f = rw e f

@@ -2,20 +2,16 @@
 -- Assumes nothing.
 use Prim.Native.Nat.{_≤_}
 use mathlib.Core.Bool.{Bool, true}
-use mathlib.Core.List.{List}
 use mathlib.Core.Path.{_≡_}
-use lib.ListN.{take, drop}
+use lib.ListN.{drop}
 use Rattle.laws.specs.Lists.{every}
 use Rattle.rules.specs.declared.State.{State}
 use Rattle.rules.specs.Streams.{valid}
 use Rattle.rules.specs.States.{pending, mostPending, messagesOk, stateTests}
 
--- the tests of a state's clock and messages: but for the first, "the set is valid", and the last, that of the waits
-abbrev pub restTests : State → List Bool
-restTests s = take 5 (drop 1 (stateTests s))
-
+-- the tests of a state but for the first, "the set is valid"
 unfoldable pub restFormed : State → Bool
-restFormed s = every (restTests s)
+restFormed s = every (drop 1 (stateTests s))
 
 pub record InRange (s : State) : Type 0 where
   pub set : valid (s .set) ≡ true

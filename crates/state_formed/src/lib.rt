@@ -22,9 +22,9 @@ fn message_unused(m: Message) -> bool
     (m.stream == 0) & ((m.deadline == 0) & ((m.used == 0) & (m.stage == 0)))
 }
 
-// The tests of a state but for the first, that its set is valid, and the last, of its waits. A first pass over the pending messages: each names a stream of the set and one of its
+// The tests of a state but for the first, that its set is valid. A first pass over the pending messages: each names a stream of the set and one of its
 // stages, has used less than that stage's c, was posted by now and not before the one in front of it, and is that stage's task's only started one. A second
-// over the places behind: they are zero. Both passes stand here, since what is handed to another function is copied.
+// over the places behind: they are zero. Both passes stand here, since what is handed to another function is copied. Last the waits at the doors.
 pub fn formed(s: State) -> bool
     ensures { λ r. ⌜ r ≡ restFormed s ⌝ }
 {
@@ -74,7 +74,9 @@ pub fn formed(s: State) -> bool
         unused = unused & zero;
         k = k + 1;
     }
-    unused
+    let waits = s.waits;
+    let kept = stream_doors::waits_ok(set, waits);
+    unused & kept
 }
 
 // Is the state well formed? A parameter that is not read by an index here is handed on without a copy.
@@ -84,9 +86,5 @@ pub fn well_formed(s: State) -> bool
     if !stream_valid::is_valid(s.set) {
         return false;
     }
-    if !formed(s) {
-        return false;
-    }
-    let waits = s.waits;
-    stream_doors::waits_ok(s.set, waits)
+    formed(s)
 }

@@ -14,7 +14,7 @@ use Rattle.rules.specs.States.{noMessage, messageUnused}
 use Rattle.rules.specs.Streams.{FourPlaces}
 use Rattle.state_formed.proofs.Places.{each-all}
 use Rattle.state_formed.proofs.WellFormed.{no-test}
-use Rattle.state_formed.proofs.Pass.{Opened, Pass, pass-start, pass-out, pass-stream, pass-stage, pass-no, pass-past, pass-task, pass-twice, pass-go, Passed, pass-end, last-test}
+use Rattle.state_formed.proofs.Pass.{Opened, Pass, pass-start, pass-out, pass-stream, pass-stage, pass-no, pass-past, pass-task, pass-twice, pass-go, Passed, pass-end, last-tests}
 use Rattle.state_formed.proofs.formed.Statement.{statement}
 use Rattle.state_formed.proofs.formed.Tie as tie
 
@@ -25,11 +25,11 @@ abbrev μ-loop : tie.MeasureT-loop
 μ-loop s set messages counts₀ before₀ k₀ counts before k = s .count - k
 
 abbrev Inv-loop2 : tie.InvT-loop2
-Inv-loop2 messages before k₀ unused₀ k unused =
+Inv-loop2 s set messages before k₀ unused₀ k unused =
     (length messages ≡ 64) × ((unused && all messageUnused (drop k messages)) ≡ all messageUnused (drop k₀ messages))
 
 abbrev μ-loop2 : tie.MeasureT-loop2
-μ-loop2 messages before k₀ unused₀ k unused = 64 - k
+μ-loop2 s set messages before k₀ unused₀ k unused = 64 - k
 
 returns : tie.Need-returns Inv-loop μ-loop Inv-loop2 μ-loop2
 returns c = no-test _ 0 (lt-leb _ 64 (c .if1 .taken))
@@ -162,13 +162,17 @@ loop2-again c =
     let loop = c .before .before .before .loop2 in
     (loop .inv .0, and-go messageUnused (c .before .before .before .before .before .before .before .before .before .before .before .before .before .args .s .messages) (loop .k) (loop .unused) _ _ noMessage _ (loop .inv .1) refl (c .message-unused .ensures) (omega (arith, c .before .before .loop2-test .taken, loop .inv .0)))
 
+waits-ok-requires : tie.Need-waits-ok-requires Inv-loop μ-loop Inv-loop2 μ-loop2
+waits-ok-requires c κs = search needs
+
 returns-6 : tie.Need-returns-6 Inv-loop μ-loop Inv-loop2 μ-loop2
 returns-6 c =
-    let s = c .before .before .before .before .before .before .before .before .before .before .before .args .s in
-    let loop = c .before .loop2 in
-    let end : c .before .before .before .before .loop .k ≡ s .count = omega (arith, c .before .before .before .before .loop .inv .here, c .before .before .if3 .left) in
-    last-test _ _ (pass-end _ _ _ _ (c .before .before .before .before .loop .inv) (c .before .before .if3 .left))
-    (and-end messageUnused (s .messages) (loop .k) _ _ (loop .inv .1) (omega (arith, c .loop2-test .left, loop .inv .0)) ∙ ap (λ (k : ℕ). all messageUnused (drop k (s .messages))) end)
+    let s = c .before .before .before .before .before .before .before .before .before .before .before .before .before .args .s in
+    let loop = c .before .before .before .loop2 in
+    let end : c .before .before .before .before .before .before .loop .k ≡ s .count = omega (arith, c .before .before .before .before .before .before .loop .inv .here, c .before .before .before .before .if3 .left) in
+    last-tests s (loop .unused) (c .waits-ok .result) (pass-end _ _ _ _ (c .before .before .before .before .before .before .loop .inv) (c .before .before .before .before .if3 .left))
+    (and-end messageUnused (s .messages) (loop .k) _ _ (loop .inv .1) (omega (arith, c .before .before .loop2-test .left, loop .inv .0)) ∙ ap (λ (k : ℕ). all messageUnused (drop k (s .messages))) end)
+    (c .waits-ok .ensures)
 
 pub formed-spec : {M : Type 1} → statement M
 formed-spec =
@@ -205,4 +209,5 @@ formed-spec =
     add-k-2
     loop2-less
     loop2-again
+    waits-ok-requires
     returns-6)
