@@ -4,10 +4,11 @@ use Prim.Native.Nat.{ℕ, zero, suc, _+_, _-_, _≤_, _<_}
 use native.Mathlib.Omega.{arith}
 use mathlib.Core.Bool.{Bool, true, false, cond, false≢true}
 use mathlib.Core.List.{List, [], _∷_}
-use mathlib.Core.Path.{_≡_, refl, ap, sym, _∙_}
+use mathlib.Core.Path.{_≡_, refl, ap, sym, subst, _∙_}
 use borrow.Author.Tests.{ltb-true, ltb-false, leb-true, leb-false, eqb-true}
 use lib.Dec.{ltb, leb, eqb}
 use lib.ListN.{length, getD}
+use Rattle.laws.proofs.Parts.{past}
 use Rattle.laws.proofs.Sums.{by-test, all-take-at}
 use Rattle.rules.specs.declared.Tuple.{Tuple}
 use Rattle.rules.specs.declared.Tuple.the-variants.{Once, Every}
@@ -15,7 +16,7 @@ use Rattle.rules.specs.declared.TuplePlace.{TuplePlace}
 use Rattle.rules.specs.declared.Stream.{Stream}
 use Rattle.rules.specs.declared.Door.{Door}
 use Rattle.rules.specs.declared.Door.the-variants.{Unguarded, Single, Spaced}
-use Rattle.rules.specs.Streams.{FourPlaces, noTuple, noStream, tuplesOf, offset}
+use Rattle.rules.specs.Streams.{noTuple, noStream, tuplesOf, offset}
 use Rattle.rules.specs.Doors.{tupleAt, doorOfOne, doorOfTwo, doorOf, slack, larger, shut, waitAfter, waitLater, waitsLater, mostWait}
 use Rattle.rules.specs.Valid.{Between, ValidCycle, ValidPlace, ValidStream}
 
@@ -81,9 +82,13 @@ most-fits Unguarded v = omega arith
 most-fits Single v = omega arith
 most-fits (Spaced z a) v = omega (arith, larger-is z a, v .0 .low, v .0 .high, v .1)
 
-module _ (s : Stream) (f : FourPlaces s) (v : ValidStream s) where
+module _ (s : Stream) (v : ValidStream s) where
+  -- a place past the end is once at 0
   at-valid : (j : ℕ) → j < s .count → ValidPlace (getD (s .tuples) j noTuple)
-  at-valid j h = all-take-at ValidPlace (s .tuples) (s .count) j noTuple h (omega (arith, v .count .high, f .tuples)) (v .tuples)
+  at-valid j h =
+      by-test (ltb j (length (s .tuples)))
+      (λ e. all-take-at ValidPlace (s .tuples) (s .count) j noTuple h (ltb-true j (length (s .tuples)) e) (v .tuples))
+      (λ e. subst ValidPlace (past (s .tuples) j noTuple (ltb-false j (length (s .tuples)) e)) (record { offset = omega arith; cycle = tt }))
 
   one-valid : (p : TuplePlace) → ValidPlace p → ValidDoor (doorOfOne (p .tuple))
   one-valid p q = go (p .tuple) (q .cycle)
