@@ -1,0 +1,3 @@
+pub mod Limits
+-- HELD
+-- DOORS
