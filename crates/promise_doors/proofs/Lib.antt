@@ -1,3 +1,3 @@
 pub mod Limits
--- HELD
--- DOORS
+pub mod Held
+pub mod Doors
