@@ -253,7 +253,7 @@ refused-same s (Units done) number e = unit-same s done number e
 
 -- ---- a call's refusals are those of document 01's table, and 15: none is a recording's, 13 or 14
 
-abbrev NotOfRecordings : ℕ → Type 0
+abbrev pub NotOfRecordings : ℕ → Type 0
 NotOfRecordings n = (n ≡ 13 → ⊥) × (n ≡ 14 → ⊥)
 
 post-own : (s : State) (k : ℕ) → NotOfRecordings (no-of (saysToPost s k))
