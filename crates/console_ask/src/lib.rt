@@ -47,10 +47,7 @@ fn staged_line(i: usize, m: Message) -> Line
 fn door_line(i: usize, n: u32) -> Line
     ensures { λ r. ⌜ r ≡ holding (doorText i n) ⌝ }
 {
-    line::put(
-        line::two(line::blank(), b"door", i as u64, n as u64),
-        b'\n',
-    )
+    line::put(line::two(line::blank(), b"door", i as u64, n as u64), b'\n')
 }
 
 // A place that is all zero, but for its stage, is left out.
