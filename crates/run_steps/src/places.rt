@@ -16,7 +16,10 @@ pub fn fill(s: State, n: usize) -> State {
 // The 64th and the 65th post, and a freed place takes the next post.
 pub fn full() {
     crate::say::words(b"64th, 65th, freed\n");
-    let s = fill(yard::begin(yard::one(yard::open(yard::stream(0, 2, 5)))), 63);
+    let s = fill(
+        yard::begin(yard::one(yard::open(yard::stream(0, 2, 5)))),
+        63,
+    );
     let s = yard::post(s, 0);
     let s = yard::post(s, 0);
     let s = yard::unit(s, true);
