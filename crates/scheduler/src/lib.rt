@@ -183,9 +183,9 @@ pub fn unit(s: State, done: bool) -> UnitResult
     ensures { λ r. ⌜ r ≡ unitOf s done ⌝ }
 {
     let found = state_choosing::look(s);
+    let waits = s.waits;
+    let later = stream_doors::waits_later(s.set, waits);
     let mut next = s;
-    let waits = next.waits;
-    let later = stream_doors::waits_later(next.set, waits);
     let mut a = UnitAnswer::Idle;
     let what = decide(found, next.clock, done);
     match what {

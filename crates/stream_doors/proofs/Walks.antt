@@ -1,24 +1,17 @@
--- The walks over the streams' places: their waits tested, and what a unit leaves of them.
+-- The door of a stream by its tuples, and the walk over the streams' places: what a unit leaves of the waits.
 -- Assumes nothing.
 use Prim.Native.Nat.{ℕ, zero, suc, _+_, _≤_, _<_}
 use native.Mathlib.Omega.{arith}
 use native.Mathlib.Numerals.{add-one}
-use mathlib.Core.Bool.{Bool, true, false, _&&_}
 use mathlib.Core.List.{List, [], _∷_, _++_, append-assoc, append-nil}
 use mathlib.Core.Path.{_≡_, refl, ap, sym, _∙_}
 use borrow.Author.Tests.{eq-eqb, ne-eqb}
-use lib.Dec.{leb}
-use lib.ListN.{length, getD, take, drop, set, length-set, drop-of-length-le}
+use lib.ListN.{length, getD, take, drop, set, drop-of-length-le}
 use lib.Seq.{take-all, drop-cons, take-suc-set, drop-set-lt}
-use Rattle.laws.specs.Lists.{below, all}
-use Rattle.laws.proofs.Parts.{getD-any}
 use Rattle.rules.specs.declared.Stream.{Stream}
-use Rattle.rules.specs.declared.Set.{Set}
 use Rattle.rules.specs.declared.Door.{Door}
-use Rattle.rules.specs.Streams.{noStream, streamAt}
 use Rattle.rules.specs.declared.Door.the-variants.{Unguarded}
-use Rattle.rules.specs.Doors.{tupleAt, doorOfOne, doorOfTwo, doorOf, waitLater, waitsLater, mostWait}
-use Rattle.rules.specs.States.{waitOk}
+use Rattle.rules.specs.Doors.{tupleAt, doorOfOne, doorOfTwo, doorOf, waitLater, waitsLater}
 
 -- the default of a place that the machine reads within an array
 abbrev pub blank : Stream
@@ -37,27 +30,6 @@ door-two s d e f = rw (e) f
 pub door-none : (s : Stream) → (s .count ≡ 1 → ⊥) → (s .count ≡ 2 → ⊥) → Unguarded ≡ doorOf s
 unfolding doorOf
 door-none s e f = rw (ne-eqb (s .count) 1 e, ne-eqb (s .count) 2 f)
-
--- ---- the test
-
-and-turn : (a b : Bool) → (a && b) ≡ (b && a)
-and-turn true true = refl
-and-turn true false = refl
-and-turn false true = refl
-and-turn false false = refl
-
-pub none-tested : (x : Set) (ws : List ℕ) → true ≡ all (waitOk x ws) []
-unfolding all
-none-tested x ws = refl
-
-pub ok-go : (x : Set) (ws : List ℕ) (k : ℕ) (ok : Bool) (d : Door) (most : ℕ) → length (x .streams) ≡ 16 → k < 16 → ok ≡ all (waitOk x ws) (below k)
-    → d ≡ doorOf (getD (x .streams) k blank) → most ≡ mostWait d → (ok && leb (getD ws k 0) most) ≡ all (waitOk x ws) (below (k + 1))
-unfolding all waitOk
-ok-go x ws k ok d most l h inv e f =
-    rw (add-one k, inv, f, e, getD-any (x .streams) k blank noStream (omega arith)) (and-turn (all (waitOk x ws) (below k)) (leb (getD ws k 0) (mostWait (doorOf (streamAt x k)))))
-
-pub all-tested : (x : Set) (ws : List ℕ) (k : ℕ) (ok : Bool) → k ≤ 16 → 16 ≤ k → ok ≡ all (waitOk x ws) (below k) → ok ≡ all (waitOk x ws) (below 16)
-all-tested x ws k ok h q inv = let e : k ≡ 16 = omega arith in inv ∙ ap (λ (n : ℕ). all (waitOk x ws) (below n)) e
 
 -- ---- a unit passes
 

@@ -1,9 +1,8 @@
 // The doors of streams: which one a stream has, when it is shut, and what is left to wait after an accepted post and after a unit.
 ghost use mathlib.Core.Path.{_≡_};
-ghost use Rattle.laws.specs.Lists.{below, all};
+ghost use lib.Dec.{leb};
 ghost use Rattle.rules.specs.Doors.{doorOfOne, doorOfTwo, doorOf, shut, waitAfter, waitLater, waitsLater, mostWait};
 ghost use Rattle.rules.specs.Doors.{larger as greater};
-ghost use Rattle.rules.specs.States.{waitOk};
 use rules::Door;
 use rules::Set;
 use rules::Stream;
@@ -88,7 +87,7 @@ pub fn wait_after(d: Door, wait: u32) -> u64
 }
 
 // The most that a wait can be.
-pub fn most_wait(d: Door) -> u64
+fn most_wait(d: Door) -> u64
     ensures { λ r. ⌜ r ≡ mostWait d ⌝ }
 {
     match d {
@@ -100,6 +99,14 @@ pub fn most_wait(d: Door) -> u64
             open as u64 + more as u64
         }
     }
+}
+
+// Is a wait at most what the door allows?
+pub fn may_wait(d: Door, wait: u32) -> bool
+    ensures { λ r. ⌜ r ≡ leb wait (mostWait d) ⌝ }
+{
+    let most = most_wait(d);
+    wait as u64 <= most
 }
 
 // The wait after a unit that moved the clock.
@@ -114,22 +121,6 @@ pub fn wait_later(d: Door, wait: u32) -> u32
 }
 
 // ---- all waits
-
-// Is each at most what its stream's door allows?
-pub fn waits_ok(x: Set, ws: [u32; 16]) -> bool
-    ensures { λ r. ⌜ r ≡ all (waitOk x ws) (below 16) ⌝ }
-{
-    let mut ok = true;
-    let mut k: usize = 0;
-    while k < 16 {
-        let s = x.streams[k];
-        let d = door_of(s);
-        let most = most_wait(d);
-        ok = ok & (ws[k] as u64 <= most);
-        k = k + 1;
-    }
-    ok
-}
 
 // What a unit that moved the clock leaves of them.
 pub fn waits_later(x: Set, ws: [u32; 16]) -> [u32; 16]
