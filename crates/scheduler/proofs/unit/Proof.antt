@@ -17,16 +17,16 @@ abbrev μ-loop : tie.MeasureT-loop
 μ-loop done next₀ a i task cost last spent end k₀ next k = end - k
 
 -- where a message is served: what that relies on, and that it is the unit
-facts : (c : tie.After-what2 Inv-loop μ-loop) → Serving (c .before .before .before .before .before .before .before .args .s) (c .what2 .given .0 .0) (c .what2 .given .0 .1 .0) (c .what2 .given .0 .1 .1 .0) (c .what2 .given .0 .1 .1 .1 .0)
+facts : (c : tie.After-what2 Inv-loop μ-loop) → Serving (c .before .before .before .before .before .before .args .s) (c .what2 .given .0 .0) (c .what2 .given .0 .1 .0) (c .what2 .given .0 .1 .1 .0) (c .what2 .given .0 .1 .1 .1 .0)
 facts c =
-    let start = c .before .before .before .before .before .before .before in
-    serving (start .args .s) (start .args .done) (c .before .before .before .before .before .before .look .result) (c .before .before .decide .result) _ _ _ _ (c .before .before .before .before .before .before .look .ensures) (c .before .before .decide .ensures) (c .what2 .given .1) (sized _ (start .args .s .messages) 64 (start .good .0 .1 .1 .1 .1 .1 .0 .1 .0 .1)) (sized _ (start .args .s .set .streams) 16 (start .good .0 .1 .1 .0 .1 .1 .1 .0 .1 .0 .1))
+    let start = c .before .before .before .before .before .before in
+    serving (start .args .s) (start .args .done) (c .before .before .before .before .before .look .result) (c .before .before .decide .result) _ _ _ _ (c .before .before .before .before .before .look .ensures) (c .before .before .decide .ensures) (c .what2 .given .1) (sized _ (start .args .s .messages) 64 (start .good .0 .1 .1 .1 .1 .1 .0 .1 .0 .1)) (sized _ (start .args .s .set .streams) 16 (start .good .0 .1 .1 .0 .1 .1 .1 .0 .1 .0 .1))
 
-serves : (c : tie.After-what2 Inv-loop μ-loop) → servedOf (c .before .before .before .before .before .before .before .args .s) (c .what2 .given .0 .0) (c .before .before .before .before .before .before .before .args .done) ≡ unitOf (c .before .before .before .before .before .before .before .args .s) (c .before .before .before .before .before .before .before .args .done)
-serves c = unit-by _ _ _ _ (c .before .before .before .before .before .before .look .ensures) (sym (c .what2 .given .1) ∙ c .before .before .decide .ensures)
+serves : (c : tie.After-what2 Inv-loop μ-loop) → servedOf (c .before .before .before .before .before .before .args .s) (c .what2 .given .0 .0) (c .before .before .before .before .before .before .args .done) ≡ unitOf (c .before .before .before .before .before .before .args .s) (c .before .before .before .before .before .before .args .done)
+serves c = unit-by _ _ _ _ (c .before .before .before .before .before .look .ensures) (sym (c .what2 .given .1) ∙ c .before .before .decide .ensures)
 
 -- what is left to wait
-later : (c : tie.After-what2 Inv-loop μ-loop) → c .before .before .before .waits-later .result ≡ waitsLater (c .before .before .before .before .before .before .before .args .s .set .streams) (c .before .before .before .before .before .before .before .args .s .waits)
+later : (c : tie.After-what2 Inv-loop μ-loop) → c .before .before .before .waits-later .result ≡ waitsLater (c .before .before .before .before .before .before .args .s .set .streams) (c .before .before .before .before .before .before .args .s .waits)
 later c = c .before .before .before .waits-later .ensures
 
 look-requires : tie.Need-look-requires Inv-loop μ-loop
@@ -118,10 +118,10 @@ element-set-from-on : tie.Need-element-set-from-on Inv-loop μ-loop
 element-set-from-on c = facts (c .before .before .before .before .before .before) .place
 
 returns : tie.Need-returns Inv-loop μ-loop
-returns c = unit-by _ _ _ _ (c .before .before .before .before .before .before .before .look .ensures) (sym (c .before .what .given .1) ∙ c .before .before .before .decide .ensures)
+returns c = unit-by _ _ _ _ (c .before .before .before .before .before .before .look .ensures) (sym (c .before .what .given .1) ∙ c .before .before .before .decide .ensures)
 
 returns-2 : tie.Need-returns-2 Inv-loop μ-loop
-returns-2 c = rw (c .before .before .before .waits-later .ensures) (unit-by _ _ _ _ (c .before .before .before .before .before .before .look .ensures) (sym (c .enum-told .given .1) ∙ c .before .before .decide .ensures))
+returns-2 c = rw (c .before .before .before .waits-later .ensures) (unit-by _ _ _ _ (c .before .before .before .before .before .look .ensures) (sym (c .enum-told .given .1) ∙ c .before .before .decide .ensures))
 
 returns-3 : tie.Need-returns-3 Inv-loop μ-loop
 returns-3 c =
