@@ -133,6 +133,11 @@ module _ (s : State) (done : Bool) (f : ToServe) (w : Work) (e : f ≡ serveOf s
   unfolding serveOf unitOf
   unit-by = rw (q, e) (unit-if s (placeOf s) _ _ _ (wellFormed s) (eqb (s .count) 0) _ done refl)
 
+-- an idle unit, with what is left to wait
+pub idles : (s : State) (done : Bool) (f : ToServe) → f ≡ serveOf s → Rest ≡ workOf f (s .clock) done → (ws : List ℕ) → ws ≡ waitsLater (s .set .streams) (s .waits)
+    → answered (withWaits (ticked s) ws) Idle ≡ unitOf s done
+idles s done f e q ws later = rw later (unit-by s done f Rest e q)
+
 -- what follows of what was found and of the clock
 abbrev Told : Work → ToServe → ℕ → Type 0
 Told (Refuse why) f clock = Unit {0}

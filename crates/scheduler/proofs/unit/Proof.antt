@@ -6,7 +6,7 @@ use mathlib.Core.Path.{_≡_, refl, sym, _∙_}
 use Rattle.laws.proofs.Parts.{sized}
 use Rattle.rules.specs.Doors.{waitsLater}
 use Rattle.rules.specs.Steps.{servedOf, unitOf}
-use Rattle.scheduler.proofs.Serving.{Moving, moving-go, moved-up, leaves, stays, unit-by, Serving, serving, told}
+use Rattle.scheduler.proofs.Serving.{Moving, moving-go, moved-up, leaves, stays, unit-by, idles, Serving, serving, told}
 use Rattle.scheduler.proofs.unit.Statement.{statement}
 use Rattle.scheduler.proofs.unit.Tie as tie
 
@@ -121,7 +121,7 @@ returns : tie.Need-returns Inv-loop μ-loop
 returns c = unit-by _ _ _ _ (c .before .before .before .before .before .before .look .ensures) (sym (c .before .what .given .1) ∙ c .before .before .before .decide .ensures)
 
 returns-2 : tie.Need-returns-2 Inv-loop μ-loop
-returns-2 c = rw (c .before .before .before .waits-later .ensures) (unit-by _ _ _ _ (c .before .before .before .before .before .look .ensures) (sym (c .enum-told .given .1) ∙ c .before .before .decide .ensures))
+returns-2 c = idles _ _ _ (c .before .before .before .before .before .look .ensures) (sym (c .enum-told .given .1) ∙ c .before .before .decide .ensures) _ (c .before .before .before .waits-later .ensures)
 
 returns-3 : tie.Need-returns-3 Inv-loop μ-loop
 returns-3 c =
