@@ -170,7 +170,7 @@ fn main() -> ExitCode {
         }
     }
     table.steps(16, 4);
-    table.steps(1, 1);
+    table.steps(1, 2);
     if table.within {
         ExitCode::SUCCESS
     } else {

@@ -22,5 +22,6 @@ pub fn refusal_number(why: Refusal) -> u64
         Refusal::IllFormed => 12,
         Refusal::StopsEarly => 13,
         Refusal::Trailing => 14,
+        Refusal::Early => 15,
     }
 }

@@ -1,4 +1,4 @@
--- A message's lines, and that each takes no more bytes than a line has.
+-- A message's lines, and a wait's, and that each takes no more bytes than a line has.
 -- Assumes nothing.
 use Prim.Native.Nat.{ℕ, _+_, _≤_}
 use native.Mathlib.Omega.{arith}
@@ -14,7 +14,7 @@ use Rattle.line.proofs.Puts.{then}
 use Rattle.answer_words.specs.Words.{lineOf}
 use Rattle.answer_words.proofs.Lengths.{two, line-short}
 use Rattle.answer_words.proofs.Ends.{ended}
-use Rattle.console_ask.specs.Questions.{messageText, stagedText}
+use Rattle.console_ask.specs.Questions.{messageText, stagedText, doorText}
 
 -- ---- lengths
 
@@ -45,7 +45,13 @@ staged-short i m =
     line-short (letters "staged" ++ spaced (decimalOf i) ++ spaced (decimalOf (m .stage)))
     (omega (arith, two (letters "staged") i (m .stage)))
 
--- ---- a message's lines
+pub door-short : (i n : ℕ) → length (doorText i n) ≤ lineRoom
+unfolding doorText
+door-short i n =
+    line-short (letters "door" ++ spaced (decimalOf i) ++ spaced (decimalOf n))
+    (omega (arith, two (letters "door") i n))
+
+-- ---- the lines
 
 pub message-is : (b f u v r : Line) (i : ℕ) (m : Message) → b ≡ holding []
     → f ≡ puts b (letters "message" ++ spaced (decimalOf i) ++ spaced (decimalOf (m .stream)))
@@ -62,3 +68,9 @@ pub staged-is : (b f r : Line) (i : ℕ) (m : Message) → b ≡ holding []
 unfolding stagedText
 staged-is b f r i m e p q =
     ended b f r (letters "staged" ++ spaced (decimalOf i) ++ spaced (decimalOf (m .stage))) (omega (arith, two (letters "staged") i (m .stage))) e p q
+
+pub door-is : (b f r : Line) (i n : ℕ) → b ≡ holding []
+    → f ≡ puts b (letters "door" ++ spaced (decimalOf i) ++ spaced (decimalOf n)) → r ≡ putOf f 10 → r ≡ holding (doorText i n)
+unfolding doorText
+door-is b f r i n e p q =
+    ended b f r (letters "door" ++ spaced (decimalOf i) ++ spaced (decimalOf n)) (omega (arith, two (letters "door") i n)) e p q

@@ -1,4 +1,4 @@
--- A state on a page: its clock, its count, its messages and their stages, a line each.
+-- A state on a page: its clock, its count, its messages and their stages, and its waits, a line each.
 -- Assumes nothing.
 use Prim.Native.Nat.{ℕ, _+_, _-_, _*_, _≤_, _<_}
 use native.Mathlib.Omega.{arith}
@@ -19,8 +19,8 @@ use Rattle.answer_words.specs.Words.{lineOf}
 use Rattle.answer_words.proofs.Ends.{ended}
 use Rattle.answer_words.proofs.Lengths.{line-short}
 use Rattle.page.specs.Pages.{roomFor, Onto, appended, endOf}
-use Rattle.console_ask.specs.Questions.{messageText, messageZero, messageLine, stagedText, stagedLine, linesOf, placeLines, stateLines, linesRoom, placesRoom, answerRoom}
-use Rattle.console_ask.proofs.Lines.{numbered, message-short, staged-short}
+use Rattle.console_ask.specs.Questions.{messageText, messageZero, messageLine, stagedText, stagedLine, doorText, doorLine, linesOf, placeLines, restLines, stateLines, linesRoom, placesRoom, doorsRoom, restRoom, answerRoom}
+use Rattle.console_ask.proofs.Lines.{numbered, message-short, staged-short, door-short}
 use Rattle.page.proofs.Pieces.{onto-line, onto-none, onto-room, onto-then, onto-size}
 
 -- ---- a message, and its stage
@@ -38,6 +38,23 @@ stage-short i m =
     by-test (eqb (m .stage) 0)
     (λ e. rw e (omega arith))
     (λ e. rw e (staged-short i m))
+
+pub wait-short : (i n : ℕ) → length (doorLine i n) ≤ lineRoom
+unfolding doorLine
+wait-short i n =
+    by-test (eqb n 0)
+    (λ e. rw e (omega arith))
+    (λ e. rw e (door-short i n))
+
+module _ (i n : ℕ) (out : List ℕ) (at : ℕ) where
+  pub no-wait-onto : eqb n 0 ≡ true → Onto out at (doorLine i n) at out
+  unfolding doorLine
+  no-wait-onto e = rw e (onto-none out at)
+
+  pub wait-onto : (l : Line) (end : ℕ) (page : List ℕ) → eqb n 0 ≡ false → l ≡ holding (doorText i n)
+      → (end ≡ endOf out at l) × (page ≡ appended out at l) → Onto out at (doorLine i n) end page
+  unfolding doorLine
+  wait-onto l end page e f p = rw e (onto-line out (doorText i n) at l end page (door-short i n) f p)
 
 module _ (i : ℕ) (m : Message) (out : List ℕ) (at : ℕ) where
   pub zero-onto : messageZero m ≡ true → Onto out at (messageLine i m) at out
@@ -58,63 +75,63 @@ module _ (i : ℕ) (m : Message) (out : List ℕ) (at : ℕ) where
   unfolding stagedLine
   staged-onto l end page e f p = rw e (onto-line out (stagedText i m) at l end page (staged-short i m) f p)
 
--- ---- the places: the lines of the first i stand on the page, whichever line of a place it is
+-- ---- n places: the lines of the first i stand on the page, whichever line of a place it is
 
-pub record Printing (line : ℕ → Message → List ℕ) (ms : List Message) (out₀ : List ℕ) (at : ℕ) (out : List ℕ) (end i : ℕ) : Type 0 where
+pub record Printing {A : Type 0} (n : ℕ) (line : ℕ → A → List ℕ) (ms : List A) (out₀ : List ℕ) (at : ℕ) (out : List ℕ) (end i : ℕ) : Type 0 where
   pub so-far : List ℕ
   pub text : so-far ++ linesOf line i (drop i ms) ≡ linesOf line 0 ms
   pub low : length so-far ≤ i * lineRoom
-  pub few : i ≤ 64
+  pub few : i ≤ n
   pub onto : Onto out₀ at so-far end out
 
-pub print-start : (line : ℕ → Message → List ℕ) (ms : List Message) (out : List ℕ) (at : ℕ) → Printing line ms out at out at 0
-print-start line ms out at = record { so-far = []; text = refl; low = omega arith; few = omega arith; onto = onto-none out at }
+module _ {A : Type 0} (n : ℕ) (line : ℕ → A → List ℕ) (ms : List A) where
+  pub print-start : (out : List ℕ) (at : ℕ) → Printing n line ms out at out at 0
+  print-start out at = record { so-far = []; text = refl; low = omega arith; few = omega arith; onto = onto-none out at }
 
-module _ (line : ℕ → Message → List ℕ) (ms : List Message) (out₀ : List ℕ) (at : ℕ) (out : List ℕ) (end i : ℕ) (p : Printing line ms out₀ at out end i) where
-  pub print-size : length out ≡ length out₀
-  print-size = onto-size out₀ (p .so-far) at end out (p .onto)
+  module _ (out₀ : List ℕ) (at : ℕ) (out : List ℕ) (end i : ℕ) (p : Printing n line ms out₀ at out end i) where
+    pub print-size : length out ≡ length out₀
+    print-size = onto-size out₀ (p .so-far) at end out (p .onto)
 
-  pub print-turn : (d : Message) (end′ : ℕ) (out′ : List ℕ) → ((k : ℕ) (m : Message) → length (line k m) ≤ lineRoom)
-      → roomFor out₀ at linesRoom ≡ true → length ms ≡ 64 → i < 64 → Onto out end (line i (getD ms i d)) end′ out′
-      → Printing line ms out₀ at out′ end′ (i + 1)
+    pub print-turn : (d : A) (end′ : ℕ) (out′ : List ℕ) → ((k : ℕ) (m : A) → length (line k m) ≤ lineRoom)
+        → roomFor out₀ at (n * lineRoom) ≡ true → length ms ≡ n → i < n → Onto out end (line i (getD ms i d)) end′ out′
+        → Printing n line ms out₀ at out′ end′ (i + 1)
+    unfolding linesOf
+    print-turn d end′ out′ few room all h q =
+        let m : A = getD ms i d in
+        let short : length (line i m) ≤ lineRoom = few i m in
+        let next : drop i ms ≡ m ∷ drop (i + 1) ms = drop-cons ms i d (omega arith) ∙ ap (λ (k : ℕ). m ∷ drop k ms) (sym (add-one i)) in
+        record {
+          so-far = p .so-far ++ line i m;
+          text =
+              append-assoc (p .so-far) (line i m) (linesOf line (i + 1) (drop (i + 1) ms))
+              ∙ sym (ap (λ (l : List A). p .so-far ++ linesOf line i l) next)
+              ∙ p .text;
+          low = omega (arith, length-append (p .so-far) (line i m), p .low);
+          few = omega arith;
+          onto = onto-then out₀ (p .so-far) at (n * lineRoom) end out room (p .onto) (line i m) end′ out′ (omega (arith, p .low)) q;
+        }
+
+    pub print-end : length ms ≡ n → n ≤ i → Onto out₀ at (linesOf line 0 ms) end out
+    unfolding linesOf
+    print-end all h =
+        let none : drop i ms ≡ [] = drop-of-length-le ms (let far : length ms ≤ i = omega arith in far) in
+        let whole : p .so-far ≡ linesOf line 0 ms =
+        sym (append-nil (p .so-far)) ∙ sym (ap (λ (l : List A). p .so-far ++ linesOf line i l) none) ∙ p .text in
+        rw whole at (p .onto)
+
+  -- no more bytes than a line for each place
+  lines-short : ((k : ℕ) (m : A) → length (line k m) ≤ lineRoom) → (i : ℕ) (l : List A) → length (linesOf line i l) ≤ length l * lineRoom
   unfolding linesOf
-  print-turn d end′ out′ few room all h q =
-      let m : Message = getD ms i d in
-      let short : length (line i m) ≤ lineRoom = few i m in
-      let next : drop i ms ≡ m ∷ drop (i + 1) ms = drop-cons ms i d (omega arith) ∙ ap (λ (k : ℕ). m ∷ drop k ms) (sym (add-one i)) in
-      record {
-        so-far = p .so-far ++ line i m;
-        text =
-            append-assoc (p .so-far) (line i m) (linesOf line (i + 1) (drop (i + 1) ms))
-            ∙ sym (ap (λ (l : List Message). p .so-far ++ linesOf line i l) next)
-            ∙ p .text;
-        low = omega (arith, length-append (p .so-far) (line i m), p .low);
-        few = omega arith;
-        onto = onto-then out₀ (p .so-far) at linesRoom end out room (p .onto) (line i m) end′ out′ (omega (arith, p .low)) q;
-      }
-
-  pub print-end : length ms ≡ 64 → 64 ≤ i → Onto out₀ at (linesOf line 0 ms) end out
-  unfolding linesOf
-  print-end all h =
-      let none : drop i ms ≡ [] = drop-of-length-le ms (let far : length ms ≤ i = omega arith in far) in
-      let whole : p .so-far ≡ linesOf line 0 ms =
-      sym (append-nil (p .so-far)) ∙ sym (ap (λ (l : List Message). p .so-far ++ linesOf line i l) none) ∙ p .text in
-      rw whole at (p .onto)
-
--- no more bytes than a line for each place
-lines-short : (line : ℕ → Message → List ℕ) → ((k : ℕ) (m : Message) → length (line k m) ≤ lineRoom) → (i : ℕ) (ms : List Message)
-    → length (linesOf line i ms) ≤ length ms * lineRoom
-unfolding linesOf
-lines-short line few i [] = omega arith
-lines-short line few i (m ∷ ms) =
-    omega (arith, length-append (line i m) (linesOf line (i + 1) ms), few i m, lines-short line few (i + 1) ms)
+  lines-short few i [] = omega arith
+  lines-short few i (m ∷ l) =
+      omega (arith, length-append (line i m) (linesOf line (i + 1) l), few i m, lines-short few (i + 1) l)
 
 module _ (ms : List Message) (all : length ms ≡ 64) where
   messages-few : length (linesOf messageLine 0 ms) ≤ linesRoom
-  messages-few = omega (arith, lines-short messageLine place-short 0 ms)
+  messages-few = omega (arith, lines-short 64 messageLine ms place-short 0 ms)
 
   stages-few : length (linesOf stagedLine 0 ms) ≤ linesRoom
-  stages-few = omega (arith, lines-short stagedLine stage-short 0 ms)
+  stages-few = omega (arith, lines-short 64 stagedLine ms stage-short 0 ms)
 
   places-few : length (placeLines ms) ≤ placesRoom
   places-few = omega (arith, length-append (linesOf messageLine 0 ms) (linesOf stagedLine 0 ms), messages-few, stages-few)
@@ -130,6 +147,24 @@ module _ (ms : List Message) (out : List ℕ) (at : ℕ) (all : length ms ≡ 64
   places-onto end page q =
       onto-then out (linesOf messageLine 0 ms) at placesRoom a o room p (linesOf stagedLine 0 ms) end page
       (omega (arith, messages-few ms all, stages-few ms all)) q
+
+-- ---- the waits, behind all places
+
+module _ (s : State) (all : length (s .messages) ≡ 64) (waits : length (s .waits) ≡ 16) where
+  doors-few : length (linesOf doorLine 0 (s .waits)) ≤ doorsRoom
+  doors-few = omega (arith, lines-short 16 doorLine (s .waits) wait-short 0 (s .waits))
+
+  rest-few : length (restLines s) ≤ restRoom
+  rest-few = omega (arith, length-append (placeLines (s .messages)) (linesOf doorLine 0 (s .waits)), places-few (s .messages) all, doors-few)
+
+  module _ (out : List ℕ) (at : ℕ) (room : roomFor out at restRoom ≡ true) (a : ℕ) (o : List ℕ) (p : Onto out at (placeLines (s .messages)) a o) where
+    pub doors-room : roomFor o a doorsRoom ≡ true
+    doors-room = onto-room out (placeLines (s .messages)) at restRoom a o room p doorsRoom (omega (arith, places-few (s .messages) all))
+
+    pub rest-onto : (end : ℕ) (page : List ℕ) → Onto o a (linesOf doorLine 0 (s .waits)) end page → Onto out at (restLines s) end page
+    rest-onto end page q =
+        onto-then out (placeLines (s .messages)) at restRoom a o room p (linesOf doorLine 0 (s .waits)) end page
+        (omega (arith, places-few (s .messages) all, doors-few)) q
 
 -- ---- the state
 
@@ -159,29 +194,33 @@ module _ (s : State) (out : List ℕ) (at : ℕ) (room : roomFor out at answerRo
     second : Onto o a (countLine s) b p
     second = onto-line o (countLine s) a l b p (count-short s) g h
 
-    pub places-room : roomFor p b placesRoom ≡ true
-    places-room =
-        onto-room o (countLine s) a (lineRoom + placesRoom) b p (onto-room out (clockLine s) at answerRoom a o room first (lineRoom + placesRoom) (omega (arith, clock-short s))) second placesRoom
+    pub behind-room : roomFor p b restRoom ≡ true
+    behind-room =
+        onto-room o (countLine s) a (lineRoom + restRoom) b p (onto-room out (clockLine s) at answerRoom a o room first (lineRoom + restRoom) (omega (arith, clock-short s))) second restRoom
         (omega (arith, count-short s))
 
-    pub state-onto : (end : ℕ) (page : List ℕ) → length (s .messages) ≡ 64 → Onto p b (placeLines (s .messages)) end page
+    pub state-onto : (end : ℕ) (page : List ℕ) → length (s .messages) ≡ 64 → length (s .waits) ≡ 16 → Onto p b (restLines s) end page
         → Onto out at (stateLines s) end page
     unfolding stateLines
-    state-onto end page all q =
-        let left : roomFor o a (lineRoom + placesRoom) ≡ true = onto-room out (clockLine s) at answerRoom a o room first (lineRoom + placesRoom) (omega (arith, clock-short s)) in
-        let short : length (placeLines (s .messages)) ≤ placesRoom = places-few (s .messages) all in
-        onto-then out (clockLine s) at answerRoom a o room first (countLine s ++ placeLines (s .messages)) end page
-        (omega (arith, clock-short s, count-short s, length-append (countLine s) (placeLines (s .messages))))
-        (onto-then o (countLine s) a (lineRoom + placesRoom) b p left second (placeLines (s .messages)) end page (omega (arith, count-short s)) q)
+    state-onto end page all waits q =
+        let left : roomFor o a (lineRoom + restRoom) ≡ true = onto-room out (clockLine s) at answerRoom a o room first (lineRoom + restRoom) (omega (arith, clock-short s)) in
+        let short : length (restLines s) ≤ restRoom = rest-few s all waits in
+        onto-then out (clockLine s) at answerRoom a o room first (countLine s ++ restLines s) end page
+        (omega (arith, clock-short s, count-short s, length-append (countLine s) (restLines s)))
+        (onto-then o (countLine s) a (lineRoom + restRoom) b p left second (restLines s) end page (omega (arith, count-short s)) q)
 
-pub state-short : (s : State) → length (s .messages) ≡ 64 → length (stateLines s) ≤ answerRoom
+-- what the types say: 64 places for messages, and 16 waits
+abbrev pub Sized : State → Type 0
+Sized s = (length (s .messages) ≡ 64) × (length (s .waits) ≡ 16)
+
+pub state-short : (s : State) → length (s .messages) ≡ 64 → length (s .waits) ≡ 16 → length (stateLines s) ≤ answerRoom
 unfolding stateLines
-state-short s all =
+state-short s all waits =
     omega (
       arith,
       clock-short s,
       count-short s,
-      places-few (s .messages) all,
-      length-append (clockLine s) (countLine s ++ placeLines (s .messages)),
-      length-append (countLine s) (placeLines (s .messages)),
+      rest-few s all waits,
+      length-append (clockLine s) (countLine s ++ restLines s),
+      length-append (countLine s) (restLines s),
     )

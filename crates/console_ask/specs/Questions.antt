@@ -45,8 +45,15 @@ stagedText i m = lineOf (letters "staged" ++ nr i ++ nr (m .stage))
 unfoldable pub stagedLine : ℕ → Message → List ℕ
 stagedLine i m = cond (eqb (m .stage) 0) [] (stagedText i m)
 
+-- **CR 6**: "`state` prints `door I N`", and only for what is not zero
+unfoldable pub doorText : ℕ → ℕ → List ℕ
+doorText i n = lineOf (letters "door" ++ nr i ++ nr n)
+
+unfoldable pub doorLine : ℕ → ℕ → List ℕ
+doorLine i n = cond (eqb n 0) [] (doorText i n)
+
 -- ".. in order", from place i on: what `line` gives for each place
-unfoldable pub linesOf : (line : ℕ → Message → List ℕ) → ℕ → List Message → List ℕ
+unfoldable pub linesOf : {A : Type 0} (line : ℕ → A → List ℕ) → ℕ → List A → List ℕ
 linesOf line i [] = []
 linesOf line i (m ∷ ms) = line i m ++ linesOf line (i + 1) ms
 
@@ -54,9 +61,12 @@ linesOf line i (m ∷ ms) = line i m ++ linesOf line (i + 1) ms
 abbrev pub placeLines : List Message → List ℕ
 placeLines ms = linesOf messageLine 0 ms ++ linesOf stagedLine 0 ms
 
+abbrev pub restLines : State → List ℕ
+restLines s = placeLines (s .messages) ++ linesOf doorLine 0 (s .waits)
+
 -- "prints `clock N`, then `pending N`, then .."
 unfoldable pub stateLines : State → List ℕ
-stateLines s = lineOf (letters "clock" ++ nr (s .clock)) ++ (lineOf (letters "pending" ++ nr (s .count)) ++ placeLines (s .messages))
+stateLines s = lineOf (letters "clock" ++ nr (s .clock)) ++ (lineOf (letters "pending" ++ nr (s .count)) ++ restLines s)
 
 -- "Prints `wrote N` with the bytes written, or `refused N`; then a line with the whole buffer in hex"
 unfoldable pub sheetLines : Set → List ℕ → List ℕ
@@ -86,15 +96,21 @@ Prints Choose ns x s w = w ≡ lineOf (says (chooseSays (chooseOf s)))
 Prints Shown ns x s w = w ≡ stateLines s
 Prints Formed ns x s w = w ≡ lineOf (formedWords (wellFormed s))
 
--- No answer has more lines than a state: a line for its clock, one for its count, and two for each of its 64 places.
+-- No answer has more lines than a state: a line for its clock, one for its count, two for each of its 64 places, and one for each of its 16 waits.
 abbrev pub linesRoom : ℕ
 linesRoom = 64 * lineRoom
 
 abbrev pub placesRoom : ℕ
 placesRoom = linesRoom + linesRoom
 
+abbrev pub doorsRoom : ℕ
+doorsRoom = 16 * lineRoom
+
+abbrev pub restRoom : ℕ
+restRoom = placesRoom + doorsRoom
+
 abbrev pub answerRoom : ℕ
-answerRoom = lineRoom + lineRoom + placesRoom
+answerRoom = lineRoom + lineRoom + restRoom
 
 -- The page after a question, and where the answer ends; one that has not that room stays as it is.
 pub record Answered (q : Question) (ns : List ℕ) (x : Set) (s : State) (out : List ℕ) (at end : ℕ) (page : List ℕ) : Type 0 where

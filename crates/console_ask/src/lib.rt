@@ -9,7 +9,7 @@ ghost use Rattle.line.specs.Line.{holding};
 ghost use Rattle.answer_words.specs.Words.{lineOf};
 ghost use Rattle.page.specs.Pages.{roomFor, Onto};
 ghost use Rattle.console_names.specs.Rows.{mostBytes};
-ghost use Rattle.console_ask.specs.Questions.{messageText, messageLine, stagedText, stagedLine, linesOf, placeLines, stateLines, sheetLines, writeLines, linesRoom, placesRoom, answerRoom, Answered, Asks};
+ghost use Rattle.console_ask.specs.Questions.{messageText, messageLine, stagedText, stagedLine, doorText, doorLine, linesOf, placeLines, restLines, stateLines, sheetLines, writeLines, linesRoom, placesRoom, doorsRoom, restRoom, answerRoom, Answered, Asks};
 use console_names::NUMBERS;
 use console_names::Question;
 use line::Line;
@@ -17,8 +17,8 @@ use rules::Message;
 use rules::Set;
 use rules::State;
 
-// Room for any answer: a line for a state's clock, one for its count, and two for each of its places.
-pub const ROOM: usize = (2 + 64 + 64) * line::ROOM;
+// Room for any answer: a line for a state's clock, one for its count, two for each of its places, and one for each wait.
+pub const ROOM: usize = (2 + 64 + 64 + 16) * line::ROOM;
 
 // The longest buffer for a sheet.
 const MOST_BYTES: usize = console_names::MOST_BYTES as usize;
@@ -44,6 +44,12 @@ fn staged_line(i: usize, m: Message) -> Line
     )
 }
 
+fn door_line(i: usize, n: u32) -> Line
+    ensures { λ r. ⌜ r ≡ holding (doorText i n) ⌝ }
+{
+    line::put(line::two(line::blank(), b"door", i as u64, n as u64), b'\n')
+}
+
 // A place that is all zero, but for its stage, is left out.
 fn message_onto(i: usize, m: Message, out: &mut [u8], at: usize) -> usize
     ensures { λ r. ⌜ Onto (now (out .entry)) at (messageLine i m) r (now (out .exit)) ⌝ }
@@ -62,6 +68,16 @@ fn staged_onto(i: usize, m: Message, out: &mut [u8], at: usize) -> usize
         at
     } else {
         page::append(out, at, staged_line(i, m))
+    }
+}
+
+fn door_onto(i: usize, n: u32, out: &mut [u8], at: usize) -> usize
+    ensures { λ r. ⌜ Onto (now (out .entry)) at (doorLine i n) r (now (out .exit)) ⌝ }
+{
+    if n == 0 {
+        at
+    } else {
+        page::append(out, at, door_line(i, n))
     }
 }
 
@@ -102,6 +118,29 @@ fn places_onto(s: State, out: &mut [u8], at: usize) -> usize
     stages_onto(s, out, end)
 }
 
+fn doors_onto(s: State, out: &mut [u8], at: usize) -> usize
+    requires { ⌜ roomFor (now out) at doorsRoom ≡ true ⌝ }
+    ensures { λ r. ⌜ Onto (now (out .entry)) at (linesOf doorLine 0 (s .waits)) r (now (out .exit)) ⌝ }
+{
+    let waits = s.waits;
+    let mut end = at;
+    let mut i = 0;
+    while i < 16 {
+        end = door_onto(i, waits[i], out, end);
+        i += 1;
+    }
+    end
+}
+
+// The waits stand behind all places.
+fn rest_onto(s: State, out: &mut [u8], at: usize) -> usize
+    requires { ⌜ roomFor (now out) at restRoom ≡ true ⌝ }
+    ensures { λ r. ⌜ Onto (now (out .entry)) at (restLines s) r (now (out .exit)) ⌝ }
+{
+    let end = places_onto(s, out, at);
+    doors_onto(s, out, end)
+}
+
 // A word and a number, as a line.
 fn number_line(w: &[u8], n: u64) -> Line
     requires { ⌜ length (now w) ≤ 64 ⌝ }
@@ -118,7 +157,7 @@ fn state_onto(s: State, out: &mut [u8], at: usize) -> usize
     let count = s.count;
     let a = page::append(out, at, number_line(b"clock", clock as u64));
     let b = page::append(out, a, number_line(b"pending", count as u64));
-    places_onto(s, out, b)
+    rest_onto(s, out, b)
 }
 
 // ---- the set's sheet

@@ -9,7 +9,7 @@ use Rattle.laws.specs.Bits.{zeros}
 use Rattle.ascii.specs.Decimal.{letters}
 use Rattle.ascii.specs.Same.{same}
 use Rattle.console_names.specs.declared.SetCommand.the-variants.{Read, Streams, Stream, Once, Every, Version, Stages, Stage}
-use Rattle.console_names.specs.declared.StateCommand.the-variants.{Start, Clock, Pending, Message, Post, Unit, Done, Staged}
+use Rattle.console_names.specs.declared.StateCommand.the-variants.{Start, Clock, Pending, Message, Post, Unit, Done, Staged, Door}
 use Rattle.console_names.specs.declared.Question.the-variants as ask
 use Rattle.console_names.specs.declared.ReplayCommand.the-variants.{Recording, Next, Reader, Where}
 use Rattle.console_names.specs.declared.CableCommand.the-variants.{Cable as NewCable, Feed, Close}
@@ -80,7 +80,7 @@ setRow w =
     ∷ []
     )
 
--- **State**; **CR 4**: "`staged I N`"
+-- **State**; **CR 4**: "`staged I N`"; **CR 6**: "`door I N`: puts the wait of stream place I (0 to 15)"
 unfoldable pub stateRow : List ℕ → Row → Row
 stateRow w =
     among w (
@@ -92,6 +92,7 @@ stateRow w =
     ∷ row "unit" (State Unit) []
     ∷ row "done" (State Done) []
     ∷ row "staged" (State Staged) (63 ∷ top ∷ [])
+    ∷ row "door" (State Door) (15 ∷ top ∷ [])
     ∷ []
     )
 

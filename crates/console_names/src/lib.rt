@@ -25,6 +25,7 @@ pub enum StateCommand {
     Unit,
     Done,
     Staged,
+    Door,
 }
 
 // The commands that ask, and change nothing.
@@ -192,6 +193,8 @@ fn state_row(w: &[u8], other: Row) -> Row
     r = named(w, b"done", done, r);
     let staged = of_state(StateCommand::Staged, 2, [63, TOP, 0, 0, 0]);
     r = named(w, b"staged", staged, r);
+    let door = of_state(StateCommand::Door, 2, [15, TOP, 0, 0, 0]);
+    r = named(w, b"door", door, r);
     r
 }
 

@@ -20,13 +20,14 @@ use Rattle.console_replay.proofs.Records.{record-short}
 use Rattle.console_cable.proofs.Cables.{cable-short}
 use Rattle.console_ask.specs.Questions.{answerRoom}
 use Rattle.console_ask.proofs.Fits.{answer-fits}
+use Rattle.console_ask.proofs.States.{Sized}
 use Rattle.console_parse.specs.Lines.{orderOf}
 use Rattle.console_obey.specs.declared.Desk.{Desk}
 use Rattle.console_obey.specs.declared.Step.{Step}
 use Rattle.console_obey.specs.Obeyed.{Prints, textOf, Obeyed}
 
--- a state of the machine has 64 places for messages
-pub command-fits : (k : Command) (ns text : List ℕ) (d : Desk) (w : List ℕ) → length (d .state .messages) ≡ 64 → Prints k ns text d w
+-- a state of the machine has 64 places for messages, and 16 waits
+pub command-fits : (k : Command) (ns text : List ℕ) (d : Desk) (w : List ℕ) → Sized (d .state) → Prints k ns text d w
     → length w ≤ answerRoom
 command-fits Nothing ns text d w all p = omega (arith, ap length p)
 command-fits Unknown ns text d w all p = omega (arith, ap length p)
@@ -38,7 +39,7 @@ command-fits Record ns text d w all p = omega (arith, ap length p, record-short 
 command-fits (Cable k) ns text d w all p = omega (arith, ap length p, cable-short k (unhexed text) (d .carried))
 
 pub obeyed-whole : (d : Desk) (line out : List ℕ) (at : ℕ) (r : Step) (page : List ℕ) (t : Obeyed d line out at r page)
-    → length (d .state .messages) ≡ 64 → roomFor out at answerRoom ≡ true
+    → Sized (d .state) → roomFor out at answerRoom ≡ true
     → (r .at ≡ at + length (t .bytes)) × (page ≡ paste out at (t .bytes) (length (t .bytes)))
 obeyed-whole d line out at r page t all room =
     let fits : length (t .bytes) ≤ answerRoom = command-fits (orderOf line .command) (orderOf line .numbers) (textOf line) d (t .bytes) all (t .prints) in

@@ -20,9 +20,9 @@ use Rattle.line.specs.Line.{lineRoom, holding}
 use Rattle.answer_words.specs.Words.{says, lineOf, stepLine}
 use Rattle.answer_words.proofs.Lengths.{says-short, line-short, step-short}
 use Rattle.console_names.specs.declared.StateCommand.{StateCommand}
-use Rattle.console_names.specs.declared.StateCommand.the-variants.{Start, Clock, Pending, Message, Post, Unit, Done, Staged}
+use Rattle.console_names.specs.declared.StateCommand.the-variants.{Start, Clock, Pending, Message, Post, Unit, Done, Staged, Door}
 use Rattle.console_state.specs.declared.StateAfter.{StateAfter}
-use Rattle.console_state.specs.StateCommands.{messagePut, stagedPut, stateLine, started, posted, ran}
+use Rattle.console_state.specs.StateCommands.{messagePut, stagedPut, doorPut, stateLine, started, posted, ran}
 
 -- a place that there is not stays out
 pub message-out : (s : State) (i stream deadline used : ℕ) → length (s .messages) ≤ i → s ≡ messagePut s i stream deadline used
@@ -30,6 +30,9 @@ message-out s i stream deadline used h = rw (set-out (s .messages) i _ h)
 
 pub staged-out : (s : State) (i n : ℕ) → length (s .messages) ≤ i → s ≡ stagedPut s i n
 staged-out s i n h = rw (set-out (s .messages) i _ h)
+
+pub door-out : (s : State) (i n : ℕ) → length (s .waits) ≤ i → s ≡ doorPut s i n
+door-out s i n h = rw (set-out (s .waits) i _ h)
 
 -- ---- every command
 
@@ -62,3 +65,4 @@ state-short Post ns x s = step-short (s .clock) (postSays (postOf s (getD ns 0 0
 state-short Unit ns x s = step-short (s .clock) (unitSays (unitOf s false .answer))
 state-short Done ns x s = step-short (s .clock) (unitSays (unitOf s true .answer))
 state-short Staged ns x s = omega arith
+state-short Door ns x s = omega arith

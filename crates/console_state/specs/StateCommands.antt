@@ -6,7 +6,7 @@ use mathlib.Core.List.{List}
 use lib.ListN.{set}
 use Rattle.rules.specs.declared.Set.{Set}
 use Rattle.rules.specs.declared.State.{State}
-use Rattle.rules.specs.States.{withClock, withMessages}
+use Rattle.rules.specs.States.{withClock, withMessages, withWaits}
 use Rattle.rules.specs.Steps.{startOf, postOf, unitOf, messageAt}
 use Rattle.rules.specs.Numbers.{startSays, postSays, unitSays}
 use Rattle.ascii.specs.Decimal.{letters}
@@ -14,7 +14,7 @@ use Rattle.line.specs.Line.{holding}
 use Rattle.answer_words.specs.Words.{says, lineOf, stepLine}
 use Rattle.console_names.specs.Rows.{nth}
 use Rattle.console_names.specs.declared.StateCommand.{StateCommand}
-use Rattle.console_names.specs.declared.StateCommand.the-variants.{Start, Clock, Pending, Message, Post, Unit, Done, Staged}
+use Rattle.console_names.specs.declared.StateCommand.the-variants.{Start, Clock, Pending, Message, Post, Unit, Done, Staged, Door}
 use Rattle.console_state.specs.declared.StateAfter.{StateAfter}
 
 -- "put these numbers into the state's clock, count and message place I"
@@ -35,6 +35,10 @@ stagedPut s i n =
     let m = messageAt s i in
     withMessages s (s .count) (set (s .messages) i (record { stream = m .stream; deadline = m .deadline; used = m .used; stage = n }))
 
+-- "puts the wait of stream place I"
+abbrev pub doorPut : State → ℕ → ℕ → State
+doorPut s i n = withWaits s (set (s .waits) i n)
+
 -- The state after a command with these numbers, where the console holds the set x.
 abbrev pub stateAfter : StateCommand → List ℕ → Set → State → State
 -- "the state becomes the start of the set .. or `refused 7` (and the start of the empty set)"
@@ -49,6 +53,8 @@ stateAfter Unit ns x s = unitOf s false .state
 stateAfter Done ns x s = unitOf s true .state
 -- "`staged I N`"
 stateAfter Staged ns x s = stagedPut s (nth ns 0) (nth ns 1)
+-- "`door I N`"
+stateAfter Door ns x s = doorPut s (nth ns 0) (nth ns 1)
 
 -- What it prints.
 abbrev pub stateLine : StateCommand → List ℕ → Set → State → List ℕ
@@ -63,6 +69,7 @@ stateLine Post ns x s = stepLine (s .clock) (postSays (postOf s (nth ns 0) .answ
 stateLine Unit ns x s = stepLine (s .clock) (unitSays (unitOf s false .answer))
 stateLine Done ns x s = stepLine (s .clock) (unitSays (unitOf s true .answer))
 stateLine Staged ns x s = lineOf (letters "put")
+stateLine Door ns x s = lineOf (letters "put")
 
 -- the steps, by what they look at
 unfoldable pub started : Set → StateAfter

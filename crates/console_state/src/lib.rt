@@ -3,7 +3,7 @@ ghost use mathlib.Core.Path.{_≡_};
 ghost use Rattle.ascii.specs.Decimal.{letters};
 ghost use Rattle.line.specs.Line.{holding};
 ghost use Rattle.answer_words.specs.Words.{lineOf};
-ghost use Rattle.console_state.specs.StateCommands.{clockPut, pendingPut, messagePut, stagedPut, started, posted, ran, stateAfter, stateLine};
+ghost use Rattle.console_state.specs.StateCommands.{clockPut, pendingPut, messagePut, stagedPut, doorPut, started, posted, ran, stateAfter, stateLine};
 use console_names::NUMBERS;
 use console_names::StateCommand;
 use line::Line;
@@ -58,6 +58,16 @@ fn put_staged(s: State, i: usize, n: usize) -> State
         let mut m = next.messages[i];
         m.stage = n;
         next.messages[i] = m;
+    }
+    next
+}
+
+fn put_door(s: State, i: usize, n: u32) -> State
+    ensures { λ r. ⌜ r ≡ doorPut s i n ⌝ }
+{
+    let mut next = s;
+    if i < 16 {
+        next.waits[i] = n;
     }
     next
 }
@@ -126,5 +136,6 @@ pub fn after(x: Set, s: State, k: StateCommand, n: [u32; NUMBERS]) -> StateAfter
         StateCommand::Unit => unit(s, false),
         StateCommand::Done => unit(s, true),
         StateCommand::Staged => put(put_staged(s, i, j)),
+        StateCommand::Door => put(put_door(s, i, n[1])),
     }
 }

@@ -1,28 +1,27 @@
 -- What is promised of a set that is judged and run, and of one that was read from a sheet.
 -- Assumes nothing.
-use Prim.Native.Nat.{ℕ, _≤_}
+use Prim.Native.Nat.{ℕ}
 use mathlib.Core.Bool.{false}
-use mathlib.Core.List.{List, List·Memᴰ}
+use mathlib.Core.List.{List}
 use mathlib.Core.Path.{_≡_}
 use Rattle.rules.specs.declared.Call.{Call}
 use Rattle.rules.specs.declared.Set.{Set}
 use Rattle.rules.specs.declared.Verdict.the-variants.{Accept}
 use Rattle.rules.specs.Load.{VerdictOf}
-use Rattle.rules.specs.Runs.{Accepted, Departure, accepted, departures, runOf, KeepsLimits, dueAt, LeftInTime, missedIn}
+use Rattle.rules.specs.Runs.{accepted, runOf, KeepsOpenLimits, AllLeave, missedIn}
 use Rattle.rules.specs.Sheet.{readOf}
 use Rattle.promise_code.specs.declared.JudgedRun.{JudgedRun}
 
--- "If the check accepts a set, then from a fresh start, under any calls whose accepted posts keep every stream's event limit in every window", no accepted message is
--- pending when the clock is at its deadline, at any moment
+-- "If the check accepts a set, then from a fresh start, under any calls whose accepted posts keep every stream's event limit in every window", which is asked only of
+-- the streams without a door, no accepted message is pending when the clock is at its deadline, at any moment
 pub record Promised (x : Set) (calls : List Call) (r : JudgedRun) : Type 0 where
   pub verdict : VerdictOf x (r .verdict)
   pub state : r .state ≡ runOf x calls .state
   pub missed : r .missed ≡ missedIn x calls
-  pub in-time : r .verdict ≡ Accept → KeepsLimits x (accepted (runOf x calls)) → r .missed ≡ false
+  pub in-time : r .verdict ≡ Accept → KeepsOpenLimits x (accepted (runOf x calls)) → r .missed ≡ false
 
 -- demand 3 of a set that came from a sheet, whatever its bytes: nothing is asked of the set but its verdict
 unfoldable pub Demand3OfSheet : Type 0
 Demand3OfSheet =
-    (sheet : List ℕ) → VerdictOf (readOf sheet .set) Accept → (calls : List Call) → KeepsLimits (readOf sheet .set) (accepted (runOf (readOf sheet .set) calls))
-    → (p : Accepted) → List·Memᴰ p (accepted (runOf (readOf sheet .set) calls)) → dueAt (readOf sheet .set) p ≤ runOf (readOf sheet .set) calls .time
-    → (d : Departure) × List·Memᴰ d (departures (runOf (readOf sheet .set) calls)) × LeftInTime (readOf sheet .set) p d
+    (sheet : List ℕ) → VerdictOf (readOf sheet .set) Accept → (calls : List Call) → KeepsOpenLimits (readOf sheet .set) (accepted (runOf (readOf sheet .set) calls))
+    → AllLeave (readOf sheet .set) (runOf (readOf sheet .set) calls)

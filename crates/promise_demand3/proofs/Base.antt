@@ -18,7 +18,7 @@ use Rattle.rules.specs.Streams.{Placed, noStage, noStream, stagesOf, streamsOf,
 use Rattle.rules.specs.States.{stagesIn, taskOf, costOf, spanOf}
 use Rattle.rules.specs.Load.{stageCost, costIn, due, has, urgent, blocksFor, blocks, blocking, demand}
 use Rattle.rules.proofs.Stages.{stage-in, stage-has, stage-blocks}
-use Rattle.rules.specs.Runs.{Accepted, Departure, KeepsLimits}
+use Rattle.rules.specs.Runs.{Accepted, Departure, KeepsLimit, KeepsLimits}
 use Rattle.promise_deadlines.specs.Model.{Model, Keeps, Fits, inWindow, due as modelDue, demand as modelDemand}
 use Rattle.promise_demand3.specs.Kind.{Named, Fine, costFrom, restOf, holdOf, capOf, Urged, Tells}
 use Rattle.promise_steps.proofs.Valid.{streams-length, stream-is, stream-member, stream-valid, four-stages, stage-fine}
@@ -135,5 +135,5 @@ module _ (S : Set) where
     base-fits fits i = omega (arith, demand-is i, fits i)
 
     pub base-keeps : (ps : List Accepted) → KeepsLimits S ps → Keeps base ps
-    unfolding KeepsLimits inWindow
+    unfolding KeepsLimit KeepsLimits inWindow
     base-keeps ps keeps = keeps

@@ -3,7 +3,6 @@
 -- Assumes nothing.
 use Prim.Native.Nat.{ℕ, zero, suc, _+_, _-_, _/_, _≤_, _<_}
 use mathlib.Core.Bool.{Bool, true, false, cond}
-use mathlib.Core.List.{List·Memᴰ}
 use mathlib.Core.Path.{_≡_, refl, subst}
 use native.Mathlib.Omega.{arith}
 use lib.Dec.{leb, le→leb}
@@ -15,12 +14,12 @@ use Rattle.rules.specs.declared.Verdict.the-variants.{Accept}
 use Rattle.rules.specs.Streams.{Placed, FourPlaces, noStream, streamAt, events, limit}
 use Rattle.rules.specs.Load.{VerdictOf}
 use Rattle.rules.specs.Numbers.{accept}
-use Rattle.rules.specs.Runs.{Accepted, Departure, Run, accepted, departures, acceptedOf, inWindow, KeepsLimits, dueAt, LeftInTime, Demand3}
+use Rattle.rules.specs.Runs.{Run, accepted, acceptedOf, inWindow, KeepsLimit, KeepsLimits, KeepsOpenLimits, AllLeave, Demand3}
 use Rattle.rules.proofs.Yard.{Judges}
 use Rattle.rules.proofs.Staged.{boom, boomCalls, boomRun, boom-run, stagings-true}
 use Rattle.promise_steps.proofs.Runs.{all-same}
-use Rattle.promise_demand3.proofs.Promise.{demand-3}
-use Rattle.promise_demand3.proofs.SetB.{accept-is, places, small}
+use Rattle.promise_demand3.proofs.Promise.{limits-open, demand-3}
+use Rattle.promise_demand3.proofs.SetB.{accept-is, places}
 
 verdict-boom : VerdictOf boom Accept
 verdict-boom =
@@ -31,6 +30,10 @@ placed-boom : Placed boom
 placed-boom = record { sixteen = refl; four = (places refl refl, (places refl refl, all-same FourPlaces noStream (places refl refl) 14)) }
 
 -- each stream has one post, and every limit is at least 1
+small : (b : Bool) → cond b 1 0 ≤ 1
+small true = omega arith
+small false = omega arith
+
 one-post : (k x i : ℕ) → k < 2 → count (inWindow k x i) (accepted boomRun) ≤ 1
 unfolding count sum acceptedOf
 one-post zero x i h = omega (arith, small (within x 1 (x + i)))
@@ -44,12 +47,12 @@ one-allowed (suc zero) i h = omega (arith, cond-yes (leb 0 i) ((i - 0) / 50 + 1)
 one-allowed (suc (suc k)) i h = absurd (omega arith)
 
 keeps-boom : KeepsLimits boom (accepted boomRun)
-unfolding KeepsLimits
+unfolding KeepsLimit KeepsLimits
 keeps-boom k h x i = omega (arith, one-post k x i h, one-allowed k i h)
 
 -- what demand 3 says of it at clock 30, when both deadlines are reached
-pub boom-in-time : (p : Accepted) → List·Memᴰ p (accepted boomRun) → dueAt boom p ≤ 30 → (d : Departure) × List·Memᴰ d (departures boomRun) × LeftInTime boom p d
+pub boom-in-time : AllLeave boom boomRun
 unfolding Demand3
 boom-in-time =
-    subst (λ (r : Run). KeepsLimits boom (accepted r) → (p : Accepted) → List·Memᴰ p (accepted r) → dueAt boom p ≤ r .time → (d : Departure) × List·Memᴰ d (departures r) × LeftInTime boom p d)
-    boom-run (demand-3 boom placed-boom verdict-boom boomCalls) keeps-boom
+    subst (λ (r : Run). KeepsOpenLimits boom (accepted r) → AllLeave boom r)
+    boom-run (demand-3 boom placed-boom verdict-boom boomCalls) (limits-open boom (accepted boomRun) keeps-boom)

@@ -51,7 +51,7 @@ module _ (S : Set) (placed : Placed S) (ok : valid S ≡ true) (r : Run) (k : �
 
   pub post-step : Reachable S placed ok r → (p : PostResult) → Formed (p .state) → PostCase (r .state) k p → Stepped S placed ok r (afterPost r k (p .state) (p .answer))
   post-step run p f (refuses why) = no-post S placed ok r r refl g run
-  post-step run p f (accepts inside room) = record {
+  post-step run p f (accepts inside room free) = record {
     good = record { set-is = g .set-is; formed = f; numbered = omega (arith, length-append (r .names) (length (accepted r) ∷ []), g .numbered); timed = g .timed };
     reachable = rw (accepted-more (r .events) (newPost r k), departures-same (r .events) (newPost r k), goes-last room)
         (post run (newPost r k) (message r k) (new inside));

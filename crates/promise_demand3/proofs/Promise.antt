@@ -1,6 +1,6 @@
 -- Demand 3, and what follows from it. Assumes nothing.
 use Prim.Native.Nat.{ℕ, zero, suc, _+_, _-_, _≤_, _<_}
-use mathlib.Core.Bool.{Bool, true, false, cond}
+use mathlib.Core.Bool.{Bool, true, false, cond, false≢true}
 use mathlib.Core.List.{List, [], _∷_, _++_, List·Memᴰ, List·Memᴰ·head, List·Memᴰ·tail, append-nil, append-assoc}
 use mathlib.Core.Path.{_≡_, refl, sym, ap, subst, _∙_}
 use native.Mathlib.Omega.{arith}
@@ -10,6 +10,7 @@ use lib.Dec.{T, ltb, eqb, le→leb, ltb→lt}
 use lib.IntN.{pos, negsuc}
 use lib.Signed.{_≤ℤ_, leZ-yes}
 use Rattle.laws.specs.Lists.{any, sum, count}
+use Rattle.laws.proofs.Sums.{by-test}
 use Rattle.laws.proofs.Gates.{ifle, ifeq, Each, mem-getD}
 use Rattle.rules.specs.declared.Set.{Set}
 use Rattle.rules.specs.declared.Stream.{Stream}
@@ -17,18 +18,20 @@ use Rattle.rules.specs.declared.Message.{Message}
 use Rattle.rules.specs.declared.State.{State}
 use Rattle.rules.specs.declared.UnitResult.{UnitResult}
 use Rattle.rules.specs.declared.Verdict.the-variants.{Accept}
-use Rattle.rules.specs.Streams.{Placed, streamsOf, valid}
+use Rattle.rules.specs.Streams.{Placed, streamsOf, streamAt, valid}
+use Rattle.rules.specs.Doors.{hasDoor}
 use Rattle.rules.specs.States.{noMessage, pending}
 use Rattle.rules.specs.Steps.{placeOf, laxityOf, unitOf}
 use Rattle.rules.specs.Load.{demand, VerdictIf, VerdictOf}
 use Rattle.rules.specs.declared.Call.{Call}
-use Rattle.rules.specs.Runs.{Departure, Run, accepted, departures, stepOf, begin, runFrom, runOf, KeepsLimits, LeftInTime, Demand3, overdue, missedNow, missedFrom, missedIn}
+use Rattle.rules.specs.Runs.{Accepted, Departure, Run, accepted, departures, stepOf, begin, runFrom, runOf, KeepsLimits, KeepsOpenLimits, EachHasDoor, LeftInTime, AllLeave, Demand3, AcceptIsEnough, DoorKeeps, overdue, missedNow, missedFrom, missedIn}
 use Rattle.promise_deadlines.specs.Model.{Keeps, Fits, Left}
 use Rattle.promise_deadlines.specs.Machine.{Moment, outset, Reached, NoneDue, AllLeft, runs, Following}
 use Rattle.promise_deadlines.proofs.Identity.{once, named, gone}
 use Rattle.promise_deadlines.proofs.Machines.{moment, later, never-due as never-due-at, all-left}
 use Rattle.promise_demand3.specs.Kind.{paired, pendingOf}
-use Rattle.promise_demand3.specs.Statements.{NeverDue, NeverMissed, NotLate, NoLateAnswer, EachOnce, leftAs, waitsAs}
+use Rattle.promise_demand3.specs.Statements.{NeverDue, NeverMissed, NeverMissedBehindDoors, NotLate, NoLateAnswer, EachOnce, leftAs, waitsAs}
+use Rattle.promise_doors.proofs.Doors.{door-keeps}
 use Rattle.promise_steps.proofs.Cases.{Serving, chosenOf, UnitCase, stops, idles, finishes, passes, cuts, runs as stays, unit-case}
 use Rattle.promise_demand3.proofs.Pairing.{name, pair-in, Has}
 use Rattle.promise_demand3.proofs.Base.{base, base-fits, base-keeps}
@@ -110,8 +113,18 @@ module _ (S : Set) (placed : Placed S) (ok : valid S ≡ true) where
 -- ---- DEMAND 3. A late message already started by a task that an urgent one also needs is covered by the blocking that demand counts:
 -- `account-blocked` of promise_deadlines/proofs/Account.antt charges its units to the task.
 
+-- the streams with a door keep their limits by themselves
+all-keep : (S : Set) → Placed S → valid S ≡ true → (calls : List Call) → KeepsOpenLimits S (accepted (runOf S calls)) → KeepsLimits S (accepted (runOf S calls))
+unfolding KeepsOpenLimits KeepsLimits DoorKeeps
+all-keep S placed ok calls keeps k h = by-test (hasDoor (streamAt S k)) (λ d. door-keeps S placed ok calls k h d) (λ d. keeps k h d)
+
+-- a run that keeps every limit keeps those of the streams without a door
+pub limits-open : (S : Set) (ps : List Accepted) → KeepsLimits S ps → KeepsOpenLimits S ps
+unfolding KeepsOpenLimits KeepsLimits
+limits-open S ps keeps k h d = keeps k h
+
 pub demand-3 : Demand3
-unfolding Demand3
+unfolding Demand3 AllLeave
 demand-3 S placed v calls keeps p i reached = (
   out .departure,
   out .departure-in,
@@ -127,13 +140,22 @@ demand-3 S placed v calls keeps p i reached = (
     ok = accepted-valid S v
 
     out : Left (base S placed ok) (departures (runOf S calls)) p
-    out = run-left S placed ok (base-fits S placed ok (accepted-fits S v)) calls (base-keeps S placed ok (accepted (runOf S calls)) keeps) p i reached
+    out = run-left S placed ok (base-fits S placed ok (accepted-fits S v)) calls (base-keeps S placed ok (accepted (runOf S calls)) (all-keep S placed ok calls keeps)) p i reached
+
+-- "the yard's acceptance": where every stream has a door, it speaks of all calls
+no-condition : (S : Set) (ps : List Accepted) → EachHasDoor S → KeepsOpenLimits S ps
+unfolding EachHasDoor KeepsOpenLimits
+no-condition S ps doors k h d = absurd (false≢true (sym d ∙ doors k h))
+
+pub accept-is-enough : AcceptIsEnough
+unfolding AcceptIsEnough Demand3
+accept-is-enough S placed v doors calls = demand-3 S placed v calls (no-condition S (accepted (runOf S calls)) doors)
 
 -- ---- what follows
 
 pub never-due : NeverDue
 unfolding NeverDue
-never-due S placed v before more keeps = not-due S placed ok (base-fits S placed ok (accepted-fits S v)) before more (base-keeps S placed ok (accepted (runOf S (before ++ more))) keeps)
+never-due S placed v before more keeps = not-due S placed ok (base-fits S placed ok (accepted-fits S v)) before more (base-keeps S placed ok (accepted (runOf S (before ++ more))) (all-keep S placed ok (before ++ more) keeps))
   where
     ok : valid S ≡ true
     ok = accepted-valid S v
@@ -149,7 +171,7 @@ unfolding any
 none-overdue clock [] h = refl
 none-overdue clock (m ∷ l) h = rw (lt-ltb clock (m .deadline) (h m (List·Memᴰ·head refl))) (none-overdue clock l (λ x i. h x (List·Memᴰ·tail i)))
 
-not-missed : (S : Set) → Placed S → VerdictOf S Accept → (before more : List Call) → KeepsLimits S (accepted (runOf S (before ++ more))) → missedFrom (runOf S before) more ≡ false
+not-missed : (S : Set) → Placed S → VerdictOf S Accept → (before more : List Call) → KeepsOpenLimits S (accepted (runOf S (before ++ more))) → missedFrom (runOf S before) more ≡ false
 unfolding missedFrom missedNow NeverDue
 not-missed S placed v before [] keeps = none-overdue (runOf S before .state .clock) (pending (runOf S before .state)) (never-due S placed v before [] keeps)
 not-missed S placed v before (c ∷ more) keeps =
@@ -159,6 +181,10 @@ not-missed S placed v before (c ∷ more) keeps =
 pub never-missed : NeverMissed
 unfolding NeverMissed missedIn runOf runFrom
 never-missed S placed v calls keeps = not-missed S placed v [] calls keeps
+
+pub never-missed-behind-doors : NeverMissedBehindDoors
+unfolding NeverMissedBehindDoors NeverMissed
+never-missed-behind-doors S placed v doors calls = never-missed S placed v calls (no-condition S (accepted (runOf S calls)) doors)
 
 -- the laxity is what is left until the deadline, where that is not past
 laxity-left : (deadline clock : ℕ) → clock ≤ deadline → pos 0 ≤ℤ laxityOf deadline clock
@@ -188,7 +214,7 @@ no-late-answer S placed v calls keeps done = not-late (r .state) done early (uni
     r : Run
     r = runOf S calls
 
-    keeps-still : KeepsLimits S (accepted (runOf S (calls ++ [])))
+    keeps-still : KeepsOpenLimits S (accepted (runOf S (calls ++ [])))
     keeps-still = rw append-nil keeps
 
     early : Serving (r .state) → r .state .clock + 1 ≤ chosenOf (r .state) .deadline

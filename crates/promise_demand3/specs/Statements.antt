@@ -1,4 +1,5 @@
--- What follows from demand 3 or stands beside it: no pending message is ever due, no laxity is negative, no message leaves twice.
+-- What follows from demand 3 or stands beside it: no pending message is ever due, no laxity is negative, no message leaves twice. The event-limit condition is that
+-- of demand 3: only the streams without a door have to keep it.
 -- Demand 3 itself is `Demand3` of rules. Assumes nothing.
 use Prim.Native.Nat.{ℕ, _+_, _≤_, _<_}
 use mathlib.Core.Bool.{Bool, true, false, cond}
@@ -19,17 +20,21 @@ use Rattle.rules.specs.Streams.{Placed, valid}
 use Rattle.rules.specs.States.{pending}
 use Rattle.rules.specs.Steps.{unitOf}
 use Rattle.rules.specs.Load.{VerdictOf}
-use Rattle.rules.specs.Runs.{Departure, accepted, departures, runOf, KeepsLimits, missedIn}
+use Rattle.rules.specs.Runs.{Departure, accepted, departures, runOf, KeepsOpenLimits, EachHasDoor, missedIn}
 
 -- no pending message's deadline is at or before the clock, at any moment of the run: after the calls `before`, with the calls `more` still to come
 unfoldable pub NeverDue : Type 0
 NeverDue =
-    (S : Set) → Placed S → VerdictOf S Accept → (before more : List Call) → KeepsLimits S (accepted (runOf S (before ++ more)))
+    (S : Set) → Placed S → VerdictOf S Accept → (before more : List Call) → KeepsOpenLimits S (accepted (runOf S (before ++ more)))
     → (m : Message) → List·Memᴰ m (pending (runOf S before .state)) → runOf S before .state .clock < m .deadline
 
 -- the same by the test of a run's moments
 unfoldable pub NeverMissed : Type 0
-NeverMissed = (S : Set) → Placed S → VerdictOf S Accept → (calls : List Call) → KeepsLimits S (accepted (runOf S calls)) → missedIn S calls ≡ false
+NeverMissed = (S : Set) → Placed S → VerdictOf S Accept → (calls : List Call) → KeepsOpenLimits S (accepted (runOf S calls)) → missedIn S calls ≡ false
+
+-- where every stream has a door, whatever calls are made
+unfoldable pub NeverMissedBehindDoors : Type 0
+NeverMissedBehindDoors = (S : Set) → Placed S → VerdictOf S Accept → EachHasDoor S → (calls : List Call) → missedIn S calls ≡ false
 
 -- the laxity of an answer, where it has one, is at least 0
 abbrev pub NotLate : UnitAnswer → Type 0
@@ -43,7 +48,7 @@ NotLate (Refused why) = Unit {0}
 -- every laxity answered is at least 0
 unfoldable pub NoLateAnswer : Type 0
 NoLateAnswer =
-    (S : Set) → Placed S → VerdictOf S Accept → (calls : List Call) → KeepsLimits S (accepted (runOf S calls))
+    (S : Set) → Placed S → VerdictOf S Accept → (calls : List Call) → KeepsOpenLimits S (accepted (runOf S calls))
     → (done : Bool) → NotLate (unitOf (runOf S calls .state) done .answer)
 
 -- each number that was given is once among the pending messages or the departures, whatever the load: no message is lost, and none leaves twice

@@ -26,7 +26,7 @@ use Rattle.rules.specs.Sheet.{isZero}
 use Rattle.rules.specs.Numbers.{Says, number, callSays, replaySays, ended, refused}
 use Rattle.rules.specs.Recordings.{Place, bitAt, callBits, placeIn, recordable, endMark, postMark, kindMark, markOf, replayBy, replayStep, Stop, ends, refused as stopped, Tape, tapeOf}
 use Rattle.promise_steps.specs.Refusals.{Twelve}
-use Rattle.promise_steps.proofs.Refusals.{call-low, twelve}
+use Rattle.promise_steps.proofs.Refusals.{NotOfRecordings, call-own, twelve}
 use Rattle.promise_replay.specs.Replays.{AllStepsStand, markBy}
 use Rattle.promise_replay.specs.Stops.{Early, no-kind, no-stream, Trails, stepSays, At, StepTwelve, StepThirteen, StepFourteen, Then, StopsAtThirteen, StopsAtFourteen}
 use Rattle.promise_replay.proofs.Tapes.{all-steps-stand, tape-of}
@@ -105,9 +105,9 @@ module _ (s : State) (recording : List ℕ) (p : Place) where
   unfolding replayStep
   ill-says e = rw e
 
-  -- a refusal above 12 is the mark's, and so is 12 in a state that is well formed
-  mark-says : (n : ℕ) → 12 < n → (m : Mark) → replaySays (replayBy s p m .answer) ≡ refused n → mark-no m ≡ n
-  mark-says n h (Makes c) e = absurd (omega (arith, call-low s c n e))
+  -- 13 and 14, which no call gives, are the mark's, and so is 12 in a state that is well formed
+  mark-says : (n : ℕ) → (NotOfRecordings n → ⊥) → (m : Mark) → replaySays (replayBy s p m .answer) ≡ refused n → mark-no m ≡ n
+  mark-says n h (Makes c) e = absurd (h (call-own s c n e))
   mark-says n h Ends e = absurd (let z : _≡_ {A = ℕ} 0 1 = cc in omega arith)
   mark-says n h (Refused why) e = cc
 
@@ -127,10 +127,10 @@ module _ (s : State) (recording : List ℕ) (p : Place) where
       (λ y. y)
 
   -- 13 and 14
-  at-mark : (n : ℕ) → 12 < n → (Such : List ℕ → Type 0) → (mark-no (markOf here) ≡ n → Such here) → stepSays s recording p ≡ refused n → At s recording p Such
-  at-mark n h Such back e = by-test (wellFormed s && placeIn recording p)
+  at-mark : (n : ℕ) → 12 < n → (NotOfRecordings n → ⊥) → (Such : List ℕ → Type 0) → (mark-no (markOf here) ≡ n → Such here) → stepSays s recording p ≡ refused n → At s recording p Such
+  at-mark n h f Such back e = by-test (wellFormed s && placeIn recording p)
       (λ y. let u = and-parts (wellFormed s) (placeIn recording p) y in
-      record { formed = u .0; inside = u .1; such = back (mark-says n h (markOf here) (sym (step-by y) ∙ e)) })
+      record { formed = u .0; inside = u .1; such = back (mark-says n f (markOf here) (sym (step-by y) ∙ e)) })
       (λ y. absurd (let q : refused 12 ≡ refused n = sym (ill-says y) ∙ e in let same : 12 ≡ n = cc in omega arith))
 
   says-mark : (why : Refusal) (Such : List ℕ → Type 0) → (Such here → markOf here ≡ Refused why) → At s recording p Such → stepSays s recording p ≡ refused (number why)
@@ -144,7 +144,7 @@ pub step-thirteen : StepThirteen
 unfolding StepThirteen
 step-thirteen s recording p =
     let bs : List ℕ = here s recording p in (
-      at-mark s recording p 13 (omega arith) Early (is-early bs (markOf bs) (marked bs (here-bits s recording p))),
+      at-mark s recording p 13 (omega arith) (λ q. q .0 refl) Early (is-early bs (markOf bs) (marked bs (here-bits s recording p))),
       says-mark s recording p StopsEarly Early (early-mark bs),
     )
 
@@ -152,7 +152,7 @@ pub step-fourteen : StepFourteen
 unfolding StepFourteen
 step-fourteen s recording p =
     let bs : List ℕ = here s recording p in (
-      at-mark s recording p 14 (omega arith) Trails (is-trailing bs (markOf bs) (marked bs (here-bits s recording p))),
+      at-mark s recording p 14 (omega arith) (λ q. q .1 refl) Trails (is-trailing bs (markOf bs) (marked bs (here-bits s recording p))),
       says-mark s recording p Trailing Trails (trails-mark bs),
     )
 

@@ -3,7 +3,7 @@ use Prim.Native.Nat.{ℕ, suc, _+_, _-_, _≤_, _<_}
 use mathlib.Core.Bool.{Bool, true, false, cond, not}
 use mathlib.Core.List.{List, [], _∷_, _++_}
 use mathlib.Core.Logic.{_≢_}
-use mathlib.Core.Path.{_≡_, sym, ap, _∙_}
+use mathlib.Core.Path.{_≡_, refl, sym, ap, _∙_}
 use native.Mathlib.Numerals.{add-one}
 use native.Mathlib.Omega.{arith}
 use lib.ListN.{length, getD, take, drop, set}
@@ -15,37 +15,41 @@ use Rattle.laws.proofs.Parts.{take-remove}
 use Rattle.rules.specs.declared.Message.{Message}
 use Rattle.rules.specs.declared.State.{State}
 use Rattle.rules.specs.declared.Refusal.{Refusal}
-use Rattle.rules.specs.declared.Refusal.the-variants.{NoStream, Full, LastClock, NothingPending, IllFormed}
+use Rattle.rules.specs.declared.Refusal.the-variants.{NoStream, Full, LastClock, NothingPending, IllFormed, Early}
 use Rattle.rules.specs.declared.PostResult.{PostResult}
 use Rattle.rules.specs.declared.PostAnswer.the-variants.{Posted}
 use Rattle.rules.specs.declared.UnitResult.{UnitResult}
 use Rattle.rules.specs.declared.UnitAnswer.the-variants.{Ran, Passed, Finished, Cut, Idle, Refused as UnitRefused}
 use Rattle.rules.specs.States.{noMessage, pending, stagesIn, taskOf, costOf, lastClock, wellFormed}
-use Rattle.rules.specs.Steps.{newMessage, added, postRefused, postOf, placeOf, messageAt, ticked, gained, stayed, passedOn, departed, laxityOf, answered, servedOf, emptyUnit, unitOf}
+use Rattle.rules.specs.Doors.{shut}
+use Rattle.rules.specs.Steps.{doorAt, waitAt, newMessage, added, postRefused, postOf, placeOf, messageAt, ticked, gained, stayed, passedOn, departed, laxityOf, answered, servedOf, emptyUnit, unitOf}
 
 -- ---- the cases
 
 pub data PostCase (s : State) (k : ℕ) : PostResult → Type 0 where
   refuses : (why : Refusal) → PostCase s k (postRefused s why)
-  accepts : k < s .set .count → s .count < 64 → PostCase s k (record { answer = Posted k (newMessage s k .deadline); state = added s (newMessage s k) })
+  accepts : k < s .set .count → s .count < 64 → shut (doorAt s k) (waitAt s k) ≡ false → PostCase s k (record { answer = Posted k (newMessage s k .deadline); state = added s (newMessage s k) })
 
 pub post-case : (s : State) (k : ℕ) → PostCase s k (postOf s k)
 unfolding postOf
-post-case s k = go (wellFormed s) (ltb k (s .set .count)) (ltb (s .count) 64) (ltb→lt k (s .set .count)) (ltb→lt (s .count) 64)
+post-case s k = go (wellFormed s) (ltb k (s .set .count)) (shut (doorAt s k) (waitAt s k)) (ltb (s .count) 64) (ltb→lt k (s .set .count)) refl (ltb→lt (s .count) 64)
   where
-    go : (a b c : Bool) → (T b → k < s .set .count) → (T c → s .count < 64) → PostCase s k (
+    go : (a b d c : Bool) → (T b → k < s .set .count) → shut (doorAt s k) (waitAt s k) ≡ d → (T c → s .count < 64) → PostCase s k (
         cond a
         (cond b
+        (cond d
+        (postRefused s Early)
         (cond c
         (record { answer = Posted k (newMessage s k .deadline); state = added s (newMessage s k) })
-        (postRefused s Full))
+        (postRefused s Full)))
         (postRefused s NoStream))
         (postRefused s IllFormed)
         )
-    go false b c f g = refuses IllFormed
-    go true false c f g = refuses NoStream
-    go true true false f g = refuses Full
-    go true true true f g = accepts (f tt) (g tt)
+    go false b d c f e g = refuses IllFormed
+    go true false d c f e g = refuses NoStream
+    go true true true c f e g = refuses Early
+    go true true false false f e g = refuses Full
+    go true true false true f e g = accepts (f tt) (g tt) e
 
 -- a unit that serves a message
 pub record Serving (s : State) : Type 0 where

@@ -1,7 +1,7 @@
 -- Start gives a well formed state, post and unit keep one, so every state that calls from a start can leave is well formed; and 12 is given exactly for one that is not.
 -- Assumes nothing.
 use Prim.Native.Nat.{ℕ, suc, _+_, _-_, _≤_, _<_}
-use mathlib.Core.Bool.{Bool, true}
+use mathlib.Core.Bool.{Bool, true, false}
 use mathlib.Core.List.{List, [], _∷_, _++_}
 use mathlib.Core.Logic.{_≢_, ⊎-elim}
 use mathlib.Core.Path.{_≡_, refl, sym, ap, subst, _∙_}
@@ -9,7 +9,7 @@ use native.Mathlib.Numerals.{add-one}
 use native.Mathlib.Omega.{arith}
 use lib.ListN.{length, take, drop, set, length-set}
 use lib.Seq.{split-at, drop-set-lt}
-use Rattle.laws.specs.Lists.{all, remove}
+use Rattle.laws.specs.Lists.{below, all, remove}
 use Rattle.laws.proofs.Parts.{length-remove}
 use Rattle.laws.proofs.Gates.{eq-or-ne, Each, Placed-at, mem-at, all-drop, all-last, drop-remove}
 use Rattle.rules.specs.declared.Message.{Message}
@@ -17,8 +17,11 @@ use Rattle.rules.specs.declared.State.{State}
 use Rattle.rules.specs.declared.PostResult.{PostResult}
 use Rattle.rules.specs.declared.UnitResult.{UnitResult}
 use Rattle.rules.specs.Streams.{Placed}
-use Rattle.rules.specs.States.{noMessage, pending, stagesIn, taskOf, costOf, messageUnused, lastClock, Housed}
-use Rattle.rules.specs.Steps.{newMessage, added, postOf, placeOf, messageAt, turnOf, ticked, gained, passedOn, stayed, departed, unitOf}
+use Rattle.rules.specs.States.{noMessage, pending, stagesIn, taskOf, costOf, messageUnused, waitOk, lastClock, Housed}
+use Rattle.rules.specs.Doors.{shut, waitsLater}
+use Rattle.rules.specs.Steps.{doorAt, waitAt, newMessage, added, postOf, placeOf, messageAt, turnOf, ticked, gained, passedOn, stayed, departed, unitOf}
+use Rattle.rules.proofs.Valid.{valid-set}
+use Rattle.rules.proofs.Waits.{later-length}
 use Rattle.state_formed.proofs.Standing.{Standing}
 use Rattle.state_formed.proofs.WellFormed.{WellFormed, well-formed, well-formed-back}
 use Rattle.state_choosing.specs.Words.{at, Served}
@@ -27,14 +30,22 @@ use Rattle.promise_steps.specs.Formed.{Formed, PostKeeps, UnitKeeps}
 use Rattle.promise_steps.proofs.Valid.{stream-valid, stage-cost}
 use Rattle.promise_steps.proofs.Cases.{PostCase, refuses, accepts, post-case, Serving, chosenOf, UnitCase, stops, idles, finishes, passes, cuts, runs, unit-case, pending-added, message-is, pending-stayed, pending-departed}
 use Rattle.promise_steps.proofs.Rows.{Rows, rows, rows-ok, rows-last, rows-later, Instead, rows-put, rows-leave, row-at}
+use Rattle.promise_steps.proofs.Waits.{waits, waits-ok, waits-after, waits-later}
 use Rattle.promise_steps.proofs.Started.{Once, once, once-ok, once-last, once-unstarted, once-gain, once-leave}
 
 module _ (s : State) (f : Formed s) where
   w : WellFormed s
   w = well-formed s (f .formed)
 
-  housed-as : (n : State) → n .set ≡ s .set → length (n .messages) ≡ 64 → Housed n
-  housed-as n e h = record { set = subst Placed (sym e) (f .housed .set); places = h }
+  housed-as : (n : State) → n .set ≡ s .set → length (n .messages) ≡ 64 → length (n .waits) ≡ 16 → Housed n
+  housed-as n e h g = record { set = subst Placed (sym e) (f .housed .set); places = h; waits = g }
+
+  -- a unit leaves as many waits, which keep their rules
+  still-sixteen : length (waitsLater (s .set .streams) (s .waits)) ≡ 16
+  still-sixteen = later-length (s .set .streams) (s .waits) ∙ f .housed .waits
+
+  still-waits : all (waitOk (s .set) (waitsLater (s .set .streams) (s .waits))) (below 16) ≡ true
+  still-waits = waits-ok (s .set) _ (waits-later (s .set) (s .waits) (waits (s .set) (s .waits) (w .waits)))
 
   -- ---- a post
 
@@ -48,8 +59,8 @@ module _ (s : State) (f : Formed s) where
     order = omega arith;
   }
 
-  post-formed : (k : ℕ) → k < s .set .count → s .count < 64 → Formed (added s (newMessage s k))
-  post-formed k h room = record {
+  post-formed : (k : ℕ) → k < s .set .count → s .count < 64 → shut (doorAt s k) (waitAt s k) ≡ false → Formed (added s (newMessage s k))
+  post-formed k h room free = record {
     formed = well-formed-back (added s (newMessage s k)) (record {
       set = w .set;
       few = omega arith;
@@ -59,8 +70,9 @@ module _ (s : State) (f : Formed s) where
       once = rw (pending-added s (f .housed .places) (newMessage s k) room) (once-ok (s .set) (pending s ++ (newMessage s k ∷ []))
           (once-last (s .set) (pending s) (newMessage s k) refl (once (s .set) (pending s) (w .once))));
       unused = rw (add-one, drop-set-lt (suc (s .count)) (s .messages) (s .count) (newMessage s k) (omega arith)) (all-drop messageUnused (s .count) (s .messages) (w .unused));
+      waits = waits-ok (s .set) _ (waits-after (s .set) (s .waits) k (f .housed .waits) (omega (arith, valid-set (s .set) (w .set) .count)) free (waits (s .set) (s .waits) (w .waits)));
     });
-    housed = housed-as (added s (newMessage s k)) refl (length-set (s .messages) (s .count) (newMessage s k) ∙ f .housed .places);
+    housed = housed-as (added s (newMessage s k)) refl (length-set (s .messages) (s .count) (newMessage s k) ∙ f .housed .places) (length-set (s .waits) k _ ∙ f .housed .waits);
   }
 
   -- ---- an idle unit
@@ -74,8 +86,9 @@ module _ (s : State) (f : Formed s) where
       each = rows-ok (s .set) (s .clock + 1) (pending s) (rows-later (s .set) (s .clock) 0 (pending s) (rows (s .set) (s .clock) (pending s) (w .each)));
       once = w .once;
       unused = w .unused;
+      waits = still-waits;
     });
-    housed = housed-as (ticked s) refl (f .housed .places);
+    housed = housed-as (ticked s) refl (f .housed .places) still-sixteen;
   }
 
   -- ---- a unit that serves the chosen message
@@ -139,8 +152,9 @@ module _ (s : State) (f : Formed s) where
             (rows-put (s .set) (s .clock + 1) 0 front x n rear h rows-now));
         once = rw (pending-stayed s (f .housed .places) (placeOf s) n (w .few) low) (once-ok (s .set) (front ++ (n ∷ rear)) o);
         unused = rw (drop-set-lt (s .count) (s .messages) (placeOf s) n low) (w .unused);
+        waits = still-waits;
       });
-      housed = housed-as (stayed s (placeOf s) n) refl (length-set (s .messages) (placeOf s) n ∙ f .housed .places);
+      housed = housed-as (stayed s (placeOf s) n) refl (length-set (s .messages) (placeOf s) n ∙ f .housed .places) still-sixteen;
     }
 
     -- with a unit more, and less than its cost used
@@ -182,15 +196,16 @@ module _ (s : State) (f : Formed s) where
         each = rw (pending-departed s (f .housed .places) (placeOf s) (w .few) low) (rows-ok (s .set) (s .clock + 1) (front ++ rear) (rows-leave (s .set) (s .clock + 1) 0 front x rear rows-now));
         once = rw (pending-departed s (f .housed .places) (placeOf s) (w .few) low) (once-ok (s .set) (front ++ rear) (once-leave (s .set) front x rear once-now));
         unused = unused-left;
+        waits = still-waits;
       });
-      housed = housed-as (departed s (placeOf s)) refl (length-remove noMessage (placeOf s) (s .messages) ∙ f .housed .places);
+      housed = housed-as (departed s (placeOf s)) refl (length-remove noMessage (placeOf s) (s .messages) ∙ f .housed .places) still-sixteen;
     }
 
 -- ---- the steps
 
 post-by : (s : State) (k : ℕ) → Formed s → (p : PostResult) → PostCase s k p → Formed (p .state)
 post-by s k f p (refuses why) = f
-post-by s k f p (accepts h room) = post-formed s f k h room
+post-by s k f p (accepts h room free) = post-formed s f k h room free
 
 pub post-keeps : PostKeeps
 unfolding PostKeeps

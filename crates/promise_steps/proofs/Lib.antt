@@ -2,6 +2,7 @@ pub mod Valid
 pub mod Cases
 pub mod Rows
 pub mod Started
+pub mod Waits
 pub mod Kept
 pub mod Runs
 pub mod Refusals

@@ -12,9 +12,10 @@ use Rattle.rules.specs.declared.Call.{Call}
 use Rattle.rules.specs.declared.Call.the-variants.{Posts, Units}
 use Rattle.rules.specs.declared.PostAnswer.the-variants.{Posted}
 use Rattle.rules.specs.States.{wellFormed, stagesIn, taskOf, costOf, mostPending, lastClock}
-use Rattle.rules.specs.Steps.{newMessage, added, postOf, messageAt, placeOf, chooseOf, laxityOf, servedOf, emptyUnit, unitOf, callOf}
+use Rattle.rules.specs.Doors.{shut}
+use Rattle.rules.specs.Steps.{doorAt, waitAt, newMessage, added, postOf, messageAt, placeOf, chooseOf, laxityOf, servedOf, emptyUnit, unitOf, callOf}
 use Rattle.rules.specs.Numbers.{Says, refused, refused-with-0, started, posted, none, runs, ran, passed, done as finishes, cut, idle, gives, tuples, accept, late, overload, read, fed, wrote, ended, recorded, opened, tested, tested-accept, tested-late, postSays, chooseSays, unitSays, callSays}
-use Rattle.promise_steps.specs.Refusals.{saysToPost, saysToUnit, Twelve, One, NotInSet, Two, AllPlacesTaken, Three, AtLastClock, Four, DoneWithNothing, RefusedSame}
+use Rattle.promise_steps.specs.Refusals.{saysToPost, saysToUnit, Twelve, One, NotInSet, Fifteen, DoorShut, Two, AllPlacesTaken, Three, AtLastClock, Four, DoneWithNothing, RefusedSame}
 
 -- the number of a refusal, 0 of any other answer: two that say the same have the same
 no-of : Says → ℕ
@@ -44,7 +45,7 @@ no-of (tested k i) = 0
 no-of (tested-accept k) = 0
 no-of (tested-late k i w) = 0
 
--- ---- post: "Order: post 12, 1, 2."
+-- ---- post: "Order: post 12, 1, 2.", with 15 after 1
 
 module _ (s : State) (k : ℕ) where
   post-ill : wellFormed s ≡ false → saysToPost s k ≡ refused 12
@@ -55,49 +56,61 @@ module _ (s : State) (k : ℕ) where
   unfolding postOf
   post-no-stream e h = rw (e, le-ltb k (s .set .count) h)
 
-  post-full : wellFormed s ≡ true → k < s .set .count → mostPending ≤ s .count → saysToPost s k ≡ refused 2
+  post-early : wellFormed s ≡ true → k < s .set .count → shut (doorAt s k) (waitAt s k) ≡ true → saysToPost s k ≡ refused 15
   unfolding postOf
-  post-full e h g = rw (e, lt-ltb k (s .set .count) h, le-ltb (s .count) mostPending g)
+  post-early e h d = rw (e, lt-ltb k (s .set .count) h, d)
+
+  post-full : wellFormed s ≡ true → k < s .set .count → shut (doorAt s k) (waitAt s k) ≡ false → mostPending ≤ s .count → saysToPost s k ≡ refused 2
+  unfolding postOf
+  post-full e h d g = rw (e, lt-ltb k (s .set .count) h, d, le-ltb (s .count) mostPending g)
 
   -- any other is accepted, at the last clock too
-  pub post-accepted : wellFormed s ≡ true → k < s .set .count → s .count < mostPending → postOf s k ≡ record { answer = Posted k (newMessage s k .deadline); state = added s (newMessage s k) }
+  pub post-accepted : wellFormed s ≡ true → k < s .set .count → shut (doorAt s k) (waitAt s k) ≡ false → s .count < mostPending → postOf s k ≡ record { answer = Posted k (newMessage s k .deadline); state = added s (newMessage s k) }
   unfolding postOf
-  post-accepted e h g = rw (e, lt-ltb k (s .set .count) h, lt-ltb (s .count) mostPending g)
+  post-accepted e h d g = rw (e, lt-ltb k (s .set .count) h, d, lt-ltb (s .count) mostPending g)
 
-  -- the four cases, told by what is said
+  -- the five cases, told by what is said
   module _ {A : Type 0} (n : ℕ) (e : no-of (saysToPost s k) ≡ n) where
-    by-post : (wellFormed s ≡ false → 12 ≡ n → A) → (NotInSet s k → 1 ≡ n → A) → (AllPlacesTaken s k → 2 ≡ n → A) → (0 ≡ n → A) → A
+    by-post : (wellFormed s ≡ false → 12 ≡ n → A) → (NotInSet s k → 1 ≡ n → A) → (DoorShut s k → 15 ≡ n → A) → (AllPlacesTaken s k → 2 ≡ n → A) → (0 ≡ n → A) → A
     unfolding no-of
-    by-post f g h a =
+    by-post f g b h a =
         by-test (wellFormed s)
         (λ w. by-test (ltb k (s .set .count))
-        (λ x. by-test (ltb (s .count) mostPending)
-        (λ y. a (sym (ap (λ r. no-of (postSays (r .answer))) (post-accepted w (ltb-true k (s .set .count) x) (ltb-true (s .count) mostPending y))) ∙ e))
-        (λ y. let q : AllPlacesTaken s k = record { formed = w; in-set = ltb-true k (s .set .count) x; full = ltb-false (s .count) mostPending y } in
-        h q (sym (ap no-of (post-full w (q .in-set) (q .full))) ∙ e)))
+        (λ x. by-test (shut (doorAt s k) (waitAt s k))
+        (λ d. b (record { formed = w; in-set = ltb-true k (s .set .count) x; is-shut = d }) (sym (ap no-of (post-early w (ltb-true k (s .set .count) x) d)) ∙ e))
+        (λ d. by-test (ltb (s .count) mostPending)
+        (λ y. a (sym (ap (λ r. no-of (postSays (r .answer))) (post-accepted w (ltb-true k (s .set .count) x) d (ltb-true (s .count) mostPending y))) ∙ e))
+        (λ y. let q : AllPlacesTaken s k = record { formed = w; in-set = ltb-true k (s .set .count) x; is-open = d; full = ltb-false (s .count) mostPending y } in
+        h q (sym (ap no-of (post-full w (q .in-set) (q .is-open) (q .full))) ∙ e))))
         (λ x. let q : NotInSet s k = record { formed = w; beyond = ltb-false k (s .set .count) x } in g q (sym (ap no-of (post-no-stream w (q .beyond))) ∙ e)))
         (λ w. f w (sym (ap no-of (post-ill w)) ∙ e))
 
   post-12 : saysToPost s k ≡ refused 12 → wellFormed s ≡ false
   unfolding no-of
-  post-12 e = by-post 12 (ap no-of e) (λ w q. w) (λ w q. absurd (omega arith)) (λ w q. absurd (omega arith)) (λ q. absurd (omega arith))
+  post-12 e = by-post 12 (ap no-of e) (λ w q. w) (λ w q. absurd (omega arith)) (λ w q. absurd (omega arith)) (λ w q. absurd (omega arith)) (λ q. absurd (omega arith))
 
   post-1 : saysToPost s k ≡ refused 1 → NotInSet s k
   unfolding no-of
-  post-1 e = by-post 1 (ap no-of e) (λ w q. absurd (omega arith)) (λ w q. w) (λ w q. absurd (omega arith)) (λ q. absurd (omega arith))
+  post-1 e = by-post 1 (ap no-of e) (λ w q. absurd (omega arith)) (λ w q. w) (λ w q. absurd (omega arith)) (λ w q. absurd (omega arith)) (λ q. absurd (omega arith))
+
+  post-15 : saysToPost s k ≡ refused 15 → DoorShut s k
+  unfolding no-of
+  post-15 e = by-post 15 (ap no-of e) (λ w q. absurd (omega arith)) (λ w q. absurd (omega arith)) (λ w q. w) (λ w q. absurd (omega arith)) (λ q. absurd (omega arith))
 
   post-2 : saysToPost s k ≡ refused 2 → AllPlacesTaken s k
   unfolding no-of
-  post-2 e = by-post 2 (ap no-of e) (λ w q. absurd (omega arith)) (λ w q. absurd (omega arith)) (λ w q. w) (λ q. absurd (omega arith))
+  post-2 e = by-post 2 (ap no-of e) (λ w q. absurd (omega arith)) (λ w q. absurd (omega arith)) (λ w q. absurd (omega arith)) (λ w q. w) (λ q. absurd (omega arith))
 
   post-same : (number : ℕ) → saysToPost s k ≡ refused number → postOf s k .state ≡ s
   unfolding postOf
   post-same number e =
       by-test (wellFormed s)
       (λ w. by-test (ltb k (s .set .count))
-      (λ h. by-test (ltb (s .count) mostPending)
-      (λ g. let q : posted k (newMessage s k .deadline) ≡ refused number = rw (w, h, g) at e in absurd (let z : _≡_ {A = ℕ} 0 1 = cc in omega arith))
-      (λ g. rw (w, h, g)))
+      (λ h. by-test (shut (doorAt s k) (waitAt s k))
+      (λ d. rw (w, h, d))
+      (λ d. by-test (ltb (s .count) mostPending)
+      (λ g. let q : posted k (newMessage s k .deadline) ≡ refused number = rw (w, h, d, g) at e in absurd (let z : _≡_ {A = ℕ} 0 1 = cc in omega arith))
+      (λ g. rw (w, h, d, g))))
       (λ h. rw (w, h)))
       (λ w. rw w)
 
@@ -105,9 +118,13 @@ pub one : One
 unfolding One
 one s k = (post-1 s k, λ q. post-no-stream s k (q .formed) (q .beyond))
 
+pub fifteen : Fifteen
+unfolding Fifteen
+fifteen s k = (post-15 s k, λ q. post-early s k (q .formed) (q .in-set) (q .is-shut))
+
 pub two : Two
 unfolding Two
-two s k = (post-2 s k, λ q. post-full s k (q .formed) (q .in-set) (q .full))
+two s k = (post-2 s k, λ q. post-full s k (q .formed) (q .in-set) (q .is-open) (q .full))
 
 -- ---- choose
 
@@ -239,16 +256,19 @@ unfolding RefusedSame callOf
 refused-same s (Posts k) number e = post-same s k number e
 refused-same s (Units done) number e = unit-same s done number e
 
--- ---- a call's refusals are those of document 01's table
+-- ---- a call's refusals are those of document 01's table, and 15: none is a recording's, 13 or 14
 
-post-low : (s : State) (k : ℕ) → no-of (postSays (postOf s k .answer)) ≤ 12
-unfolding postOf no-of
-post-low s k =
-    by-test (wellFormed s)
-    (λ w. by-test (ltb k (s .set .count))
-    (λ i. by-test (ltb (s .count) mostPending) (λ f. rw (w, i, f) (omega arith)) (λ f. rw (w, i, f) (omega arith)))
-    (λ i. rw (w, i) (omega arith)))
-    (λ w. rw w (omega arith))
+abbrev pub NotOfRecordings : ℕ → Type 0
+NotOfRecordings n = (n ≡ 13 → ⊥) × (n ≡ 14 → ⊥)
+
+post-own : (s : State) (k : ℕ) → NotOfRecordings (no-of (saysToPost s k))
+post-own s k =
+    by-post s k (no-of (saysToPost s k)) refl
+    (λ w q. (λ z. omega arith, λ z. omega arith))
+    (λ w q. (λ z. omega arith, λ z. omega arith))
+    (λ w q. (λ z. omega arith, λ z. omega arith))
+    (λ w q. (λ z. omega arith, λ z. omega arith))
+    (λ q. (λ z. omega arith, λ z. omega arith))
 
 empty-low : (s : State) (done : Bool) → no-of (unitSays (emptyUnit s done .answer)) ≤ 12
 unfolding emptyUnit no-of
@@ -264,7 +284,9 @@ unit-low s done =
     (λ i. rw (w, i) (omega arith)))
     (λ w. rw w (omega arith))
 
-pub call-low : (s : State) (c : Call) (number : ℕ) → callSays (callOf s c .answer) ≡ refused number → number ≤ 12
+pub call-own : (s : State) (c : Call) (number : ℕ) → callSays (callOf s c .answer) ≡ refused number → NotOfRecordings number
 unfolding callOf no-of
-call-low s (Posts k) number e = omega (arith, post-low s k, ap no-of e)
-call-low s (Units done) number e = omega (arith, unit-low s done, ap no-of e)
+call-own s (Posts k) number e = rw (ap no-of e) at (post-own s k)
+call-own s (Units done) number e =
+    let n : number ≤ 12 = omega (arith, unit-low s done, ap no-of e) in
+    (λ z. omega arith, λ z. omega arith)

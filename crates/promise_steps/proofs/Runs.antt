@@ -21,6 +21,7 @@ use Rattle.rules.proofs.Events.{step-state}
 use Rattle.state_formed.proofs.WellFormed.{well-formed-back}
 use Rattle.promise_steps.specs.Formed.{Formed, StartGives, PostKeeps, UnitKeeps, RunKeeps, TimeIsClock}
 use Rattle.promise_steps.proofs.Cases.{PostCase, refuses, accepts, post-case, UnitCase, stops, idles, finishes, passes, cuts, runs, unit-case}
+use Rattle.promise_steps.proofs.Waits.{waits-ok, waits-none}
 use Rattle.promise_steps.proofs.Kept.{post-keeps, unit-keeps}
 
 -- ---- the start
@@ -28,8 +29,8 @@ use Rattle.promise_steps.proofs.Kept.{post-keeps, unit-keeps}
 fresh-formed : (S : Set) → Placed S → valid S ≡ true → Formed (fresh S)
 unfolding messagesOk scan startedOnce messageUnused all count sum
 fresh-formed S placed ok = record {
-  formed = well-formed-back (fresh S) (record { set = ok; few = omega arith; clock = omega arith; each = refl; once = refl; unused = refl });
-  housed = record { set = placed; places = refl };
+  formed = well-formed-back (fresh S) (record { set = ok; few = omega arith; clock = omega arith; each = refl; once = refl; unused = refl; waits = waits-ok S (replicate 16 0) (waits-none S) });
+  housed = record { set = placed; places = refl; waits = refl };
 }
 
 pub all-same : {A : Type 0} (P : A → Type 0) (a : A) → P a → (n : ℕ) → All P (replicate n a)
@@ -69,7 +70,7 @@ run-keeps S placed calls = from-keeps (begin S) calls (start-gives S placed)
 
 post-time : (r : Run) (k : ℕ) → r .time ≡ r .state .clock → (q : PostResult) → PostCase (r .state) k q → afterPost r k (q .state) (q .answer) .time ≡ afterPost r k (q .state) (q .answer) .state .clock
 post-time r k e q (refuses why) = e
-post-time r k e q (accepts h room) = e
+post-time r k e q (accepts h room free) = e
 
 unit-time : (r : Run) (done : Bool) → r .time ≡ r .state .clock → (u : UnitResult) → UnitCase (r .state) done u → afterUnit r (u .state) (u .answer) .time ≡ afterUnit r (u .state) (u .answer) .state .clock
 unit-time r done e u (stops why) = e

@@ -16,7 +16,8 @@ use Rattle.laws.proofs.Parts.{count-two}
 use Rattle.rules.specs.declared.State.{State}
 use Rattle.rules.specs.declared.PostAnswer.the-variants.{Posted}
 use Rattle.rules.specs.States.{noMessage, pending, taskOf, startedOf, wellFormed}
-use Rattle.rules.specs.Steps.{newMessage, added, postOf, messageAt, placeOf, departed, laxityOf, unitOf}
+use Rattle.rules.specs.Doors.{shut}
+use Rattle.rules.specs.Steps.{doorAt, waitAt, newMessage, added, postOf, messageAt, placeOf, departed, laxityOf, unitOf}
 use Rattle.state_formed.proofs.WellFormed.{well-formed, in-range, task-in}
 use Rattle.state_choosing.specs.Words.{at, Served}
 use Rattle.state_choosing.proofs.Choice.{choice, place-in, all-pending, pending-at}
@@ -67,13 +68,13 @@ module _ (s : State) (h : Formed s) (some : s .count ≡ 0 → ⊥) (j : ℕ) (q
       (λ f. absurd (apart j (placeOf s) (ltb-true j (placeOf s) f) k-in (passes j q refl begun) (passes (placeOf s) k-in (sym same) k-begun)))
       (λ f. omega (arith, ltb-false (placeOf s) j e, ltb-false j (placeOf s) f)))
 
--- "A place freed by a leaving message takes the next post."
-pub freed-place : (s : State) (done : Bool) (i k : ℕ) → Formed s → unitOf s done .state ≡ departed s i → 0 < s .count → k < s .set .count
+-- "A place freed by a leaving message takes the next post", one that does not come early
+pub freed-place : (s : State) (done : Bool) (i k : ℕ) → Formed s → unitOf s done .state ≡ departed s i → 0 < s .count → k < s .set .count → shut (doorAt (departed s i) k) (waitAt (departed s i) k) ≡ false
     → postOf (unitOf s done .state) k ≡ record { answer = Posted k (newMessage (departed s i) k .deadline); state = added (departed s i) (newMessage (departed s i) k) }
 unfolding UnitKeeps
-freed-place s done i k h e c q =
+freed-place s done i k h e c q d =
     let p : Formed (unitOf s done .state) = unit-keeps s done h in
-    rw e (post-accepted (departed s i) k (rw e at (p .formed)) q (omega (arith, well-formed s (h .formed) .few)))
+    rw e (post-accepted (departed s i) k (rw e at (p .formed)) q d (omega (arith, well-formed s (h .formed) .few)))
 
 -- the laxity, exact above, at and below zero
 

@@ -1,5 +1,5 @@
--- Document 01, "Numbers the cab prints", of the steps: each number is given exactly when its row says, in the order "post 12, 1, 2. Unit 12, 3, 4.", and leaves the
--- "state unchanged".
+-- Document 01, "Numbers the cab prints", of the steps: each number is given exactly when its row says, in the order "post 12, 1, 2. Unit 12, 3, 4.", with
+-- request 6's 15 "after 1 and before 2", and leaves the "state unchanged".
 -- Assumes nothing.
 use Prim.Native.Nat.{ℕ, _≤_, _<_}
 use mathlib.Core.Bool.{Bool, true, false}
@@ -8,7 +8,8 @@ use mathlib.Core.Path.{_≡_}
 use Rattle.rules.specs.declared.State.{State}
 use Rattle.rules.specs.declared.Call.{Call}
 use Rattle.rules.specs.States.{mostPending, lastClock, wellFormed}
-use Rattle.rules.specs.Steps.{postOf, chooseOf, unitOf, callOf}
+use Rattle.rules.specs.Doors.{shut}
+use Rattle.rules.specs.Steps.{doorAt, waitAt, postOf, chooseOf, unitOf, callOf}
 use Rattle.rules.specs.Numbers.{Says, refused, postSays, chooseSays, unitSays, callSays}
 
 abbrev pub saysToPost : State → ℕ → Says
@@ -34,10 +35,20 @@ pub record NotInSet (s : State) (k : ℕ) : Type 0 where
 unfoldable pub One : Type 0
 One = (s : State) (k : ℕ) → (saysToPost s k ≡ refused 1) ↔ NotInSet s k
 
+-- request 6: 15 at a shut door. That it is shut exactly when the post would break the stream's limit is `DoorExact` of rules, for what calls from a start leave
+pub record DoorShut (s : State) (k : ℕ) : Type 0 where
+  pub formed : wellFormed s ≡ true
+  pub in-set : k < s .set .count
+  pub is-shut : shut (doorAt s k) (waitAt s k) ≡ true
+
+unfoldable pub Fifteen : Type 0
+Fifteen = (s : State) (k : ℕ) → (saysToPost s k ≡ refused 15) ↔ DoorShut s k
+
 -- "2: post with 64 pending"
 pub record AllPlacesTaken (s : State) (k : ℕ) : Type 0 where
   pub formed : wellFormed s ≡ true
   pub in-set : k < s .set .count
+  pub is-open : shut (doorAt s k) (waitAt s k) ≡ false
   pub full : mostPending ≤ s .count
 
 unfoldable pub Two : Type 0

@@ -9,6 +9,8 @@ pub mod Judge
 pub mod Verdicts
 pub mod Yard
 pub mod Staged
+pub mod Doors
+pub mod Waits
 pub mod Events
 pub mod Runs
 pub mod Refusals

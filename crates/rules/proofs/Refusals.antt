@@ -19,11 +19,11 @@ use Rattle.rules.proofs.Examples.{setB, stream, computed}
 
 -- set B at the last clock; one unit after it, which is no state that calls leave
 abbrev at : ℕ → State
-at clock = record { set = setB; clock = clock; count = 0; messages = replicate 64 noMessage }
+at clock = record { set = setB; clock = clock; count = 0; messages = replicate 64 noMessage; waits = replicate 16 0 }
 
--- 64 messages of stream 0, posted at 0
+-- 64 messages of stream 0, posted at 0, and nobody waits
 abbrev full : State
-full = record { set = setB; clock = 0; count = 64; messages = replicate 64 (newMessage (fresh setB) 0) }
+full = record { set = setB; clock = 0; count = 64; messages = replicate 64 (newMessage (fresh setB) 0); waits = replicate 16 0 }
 
 -- a cost of 0
 abbrev badSet : Set

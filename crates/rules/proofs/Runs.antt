@@ -1,7 +1,7 @@
 -- Document 01's trace of set B, computed from the definitions: each of its eleven answers with the clock before it, the state, who was accepted and who left; and the
 -- same twelve idle units later, at clock 20, when the last of the three deadlines is reached.
 -- Assumes nothing.
-use Prim.Native.Nat.{ℕ}
+use Prim.Native.Nat.{ℕ, _-_}
 use mathlib.Core.Bool.{Bool, true, false}
 use mathlib.Core.List.{List, [], _∷_, _++_}
 use mathlib.Core.Path.{_≡_, refl}
@@ -10,7 +10,7 @@ use lib.ListN.{replicate}
 use Rattle.rules.specs.declared.Call.{Call}
 use Rattle.rules.specs.declared.Call.the-variants.{Posts, Units}
 use Rattle.rules.specs.Steps.{fresh}
-use Rattle.rules.specs.States.{withClock}
+use Rattle.rules.specs.States.{withClock, withWaits}
 use Rattle.rules.specs.Runs.{Event, accepts, leaves, Run, runOf, Step, stepsOf, finished, missedIn}
 use Rattle.rules.specs.Numbers.{Says, posted, ran, done}
 use Rattle.rules.proofs.Examples.{setB, computed}
@@ -40,9 +40,12 @@ eventsB =
     ∷ leaves (record { number = 1; stream = 2; how = finished; used = 2; laxity = pos 1; at = 8; stage = 0 })
     ∷ []
 
--- the run of set B at a time, all three messages gone
+-- the run of set B at a time, all three messages gone, with what is left to wait: 20 less what has passed since each stream's post
+abbrev waitsB : ℕ → List ℕ
+waitsB time = (21 - time) ∷ (20 - time) ∷ (21 - time) ∷ replicate 13 0
+
 abbrev pub runB : ℕ → Run
-runB time = record { state = withClock (fresh setB) time; time = time; names = []; events = eventsB }
+runB time = record { state = withWaits (withClock (fresh setB) time) (waitsB time); time = time; names = []; events = eventsB }
 
 -- the trace, and twelve idle units behind it
 abbrev pub longB : List Call

@@ -16,10 +16,10 @@ use Rattle.rules.specs.declared.Message.{Message}
 use Rattle.rules.specs.declared.Call.{Call}
 use Rattle.rules.specs.declared.Call.the-variants.{Posts, Units}
 use Rattle.rules.specs.Streams.{noStreams, valid}
-use Rattle.rules.specs.States.{pending, withClock}
+use Rattle.rules.specs.States.{pending, withClock, withWaits}
 use Rattle.rules.specs.Steps.{fresh}
 use Rattle.rules.specs.Load.{greatestDeadline, streamOffset, greatestOffset, lastLength}
-use Rattle.rules.specs.Sheet.{setOf}
+use Rattle.rules.specs.Sheet.{streamOf, setOf}
 use Rattle.rules.specs.Runs.{Accepted, Departure, accepts, leaves, Run, finished, cut as left-cut, departures, runOf, LeftInTime, answersOf}
 use Rattle.rules.specs.Numbers.{Says, accept, late, overload, posted, ran, passed, done, cut}
 use Rattle.rules.proofs.Examples.{stage, staged, stream, each, computed}
@@ -125,12 +125,16 @@ pub in-order :
 unfolding computed
 in-order = refl
 
+-- the first stream of it with three posts at once, so that none comes early
+abbrev thrice : Set
+thrice = setOf 2 (streamOf (stage 1 2 ∷ stage 4 3 ∷ []) 12 (replicate 3 (record { tuple = Once 0 })) ∷ [])
+
 -- "Finished means the last"; "A cut at any stage leaves at once": a departure tells its stage
-abbrev pub ends : List Call
+abbrev ends : List Call
 ends = Posts 0 ∷ Units true ∷ Units false ∷ Units true ∷ Posts 0 ∷ Units false ∷ Units false ∷ Posts 0 ∷ Units true ∷ Units false ∷ Units false ∷ Units false ∷ []
 
 pub ended :
-    answersOf boom ends
+    answersOf thrice ends
     ≡ (posted 0 12 ∷ passed 1 0 ∷ ran 4 0 ∷ done 4 0 (pos 9) ∷ posted 0 15 ∷ ran 1 0 ∷ cut 1 0 (pos 10) ∷ posted 0 17 ∷ passed 1 0 ∷ ran 4 0 ∷ ran 4 0 ∷ cut 4 0 (pos 8) ∷ [])
 unfolding computed
 ended = refl
@@ -144,7 +148,7 @@ cutFirst = record { number = 1; stream = 0; how = left-cut; used = 2; laxity = p
 abbrev cutSecond : Departure
 cutSecond = record { number = 2; stream = 0; how = left-cut; used = 3; laxity = pos 8; at = 9; stage = 1 }
 
-pub departed : departures (runOf boom ends) ≡ (whole ∷ cutFirst ∷ cutSecond ∷ [])
+pub departed : departures (runOf thrice ends) ≡ (whole ∷ cutFirst ∷ cutSecond ∷ [])
 unfolding computed
 departed = refl
 
@@ -152,10 +156,10 @@ departed = refl
 abbrev post : ℕ → ℕ → Accepted
 post number at = record { number = number; stream = 0; at = at }
 
-pub whole-in-time : LeftInTime boom (post 0 0) whole
+pub whole-in-time : LeftInTime thrice (post 0 0) whole
 whole-in-time = record { same = refl; stream = refl; cost = refl; time = omega arith }
 
-pub cut-in-time : LeftInTime boom (post 1 3) cutFirst × LeftInTime boom (post 2 5) cutSecond
+pub cut-in-time : LeftInTime thrice (post 1 3) cutFirst × LeftInTime thrice (post 2 5) cutSecond
 cut-in-time = (record { same = refl; stream = refl; cost = refl; time = omega arith }, record { same = refl; stream = refl; cost = refl; time = omega arith })
 
 -- ---- a run whose posts keep the limits, up to the last deadline
@@ -166,7 +170,7 @@ boomCalls = passing ++ (Units false ∷ Units false ∷ Units false ∷ Units tr
 
 abbrev pub boomRun : Run
 boomRun = record {
-  state = withClock (fresh boom) 30;
+  state = withWaits (withClock (fresh boom) 30) (21 ∷ 20 ∷ replicate 14 0);
   time = 30;
   names = [];
   events =

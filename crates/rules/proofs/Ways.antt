@@ -9,14 +9,15 @@ use mathlib.Core.Path.{_≡_, refl}
 use lib.IntN.{pos, negsuc}
 use Rattle.laws.specs.Lists.{count}
 use Rattle.rules.specs.declared.Tuple.the-variants.{Once}
+use Rattle.rules.specs.declared.TuplePlace.{TuplePlace}
 use Rattle.rules.specs.declared.Set.{Set}
 use Rattle.rules.specs.Streams.{streamAt, streamsOf, limit}
 use Rattle.rules.specs.Load.{demand}
-use Rattle.rules.specs.Sheet.{setOf}
+use Rattle.rules.specs.Sheet.{streamOf, setOf}
 use Rattle.rules.specs.declared.Call.the-variants.{Posts, Units}
 use Rattle.rules.specs.Runs.{Accepted, Departure, cut as left-cut, departures, runOf, LeftInTime, inWindow, answersOf, missedIn}
 use Rattle.rules.specs.Numbers.{Says, posted, ran, done, cut, idle, refused}
-use Rattle.rules.proofs.Examples.{setB, stream, each, computed}
+use Rattle.rules.proofs.Examples.{setB, stage, stream, each, computed}
 
 -- "Messages of a task served in order of arrival: the March fault." "Taking a message before its first unit."
 -- The urgent message comes last, and is served first.
@@ -40,9 +41,12 @@ pub tied : answersOf ties (Posts 0 ∷ Posts 2 ∷ Posts 1 ∷ Units true ∷ Un
 unfolding computed
 tied = refl
 
--- c 2, d 2: cut at its cost; done on the unit that reaches c is finished; a late one has a negative laxity
+-- c 2, d 2, twice at once: cut at its cost; done on the unit that reaches c is finished; a late one has a negative laxity
+abbrev atOnce : TuplePlace
+atOnce = record { tuple = Once 0 }
+
 abbrev short : Set
-short = setOf 1 (stream 0 2 2 (each 2) ∷ [])
+short = setOf 1 (streamOf (stage 0 2 ∷ []) 2 (atOnce ∷ atOnce ∷ []) ∷ [])
 
 pub cut-at-cost : answersOf short (Posts 0 ∷ Posts 0 ∷ Units false ∷ Units false ∷ Units false ∷ Units true ∷ Units false ∷ Units true ∷ [])
     ≡ (posted 0 2 ∷ posted 0 2 ∷ ran 0 0 ∷ cut 0 0 (pos 0) ∷ ran 0 0 ∷ done 0 0 (negsuc 1) ∷ idle ∷ refused 4 ∷ [])

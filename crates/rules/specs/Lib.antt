@@ -1,5 +1,6 @@
 pub mod Streams
 pub mod Valid
+pub mod Doors
 pub mod States
 pub mod Steps
 pub mod Load

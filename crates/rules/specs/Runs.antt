@@ -1,8 +1,9 @@
 -- Runs of calls from a fresh start: what is answered, what happened, who was accepted and who left; and demand 3 stated of them.
 -- Assumes nothing.
 use Prim.Native.Nat.{ℕ, suc, _+_, _≤_, _<_}
-use mathlib.Core.Bool.{Bool, false, cond, not, _&&_, _||_}
+use mathlib.Core.Bool.{Bool, true, false, cond, not, _&&_, _||_}
 use mathlib.Core.List.{List, [], _∷_, _++_, map, List·Memᴰ}
+use mathlib.Core.Logic.{_↔_}
 use mathlib.Core.Path.{_≡_}
 use lib.ListN.{length, getD, take, drop}
 use lib.Dec.{eqb}
@@ -18,11 +19,12 @@ use Rattle.rules.specs.declared.PostAnswer.the-variants.{Posted, Refused
 use Rattle.rules.specs.declared.UnitAnswer.{UnitAnswer}
 use Rattle.rules.specs.declared.UnitAnswer.the-variants.{Ran, Passed, Finished, Cut, Idle, Refused as UnitRefused}
 use Rattle.rules.specs.declared.Verdict.the-variants.{Accept}
-use Rattle.rules.specs.Streams.{Placed, streamAt, stageAt, limit}
+use Rattle.rules.specs.Streams.{Placed, streamAt, stageAt, limit, valid}
+use Rattle.rules.specs.Doors.{hasDoor}
 use Rattle.rules.specs.States.{pending}
 use Rattle.rules.specs.Steps.{sooner, startOf, postOf, placeOf, messageAt, unitOf, callOf}
 use Rattle.rules.specs.Load.{VerdictOf}
-use Rattle.rules.specs.Numbers.{Says, callSays}
+use Rattle.rules.specs.Numbers.{Says, refused, postSays, callSays}
 
 -- ---- what happens
 
@@ -178,8 +180,46 @@ answersOf x calls = map saidAt (stepsOf x calls)
 abbrev pub inWindow : ℕ → ℕ → ℕ → Accepted → Bool
 inWindow k x i p = eqb (p .stream) k && within x (p .at) (x + i)
 
+-- of one stream, and of every stream of the set
+unfoldable pub KeepsLimit : Set → ℕ → List Accepted → Type 0
+KeepsLimit S k ps = (x i : ℕ) → count (inWindow k x i) ps ≤ limit (streamAt S k) i
+
 unfoldable pub KeepsLimits : Set → List Accepted → Type 0
-KeepsLimits S ps = (k : ℕ) → k < S .count → (x i : ℕ) → count (inWindow k x i) ps ≤ limit (streamAt S k) i
+KeepsLimits S ps = (k : ℕ) → k < S .count → KeepsLimit S k ps
+
+-- ---- the door
+
+-- a window in which the posts of a stream are above its limit
+pub record Breaks (S : Set) (k : ℕ) (ps : List Accepted) : Type 0 where
+  pub from : ℕ
+  pub span : ℕ
+  pub over : limit (streamAt S k) span < count (inWindow k from span) ps
+
+-- "for a stream with one tuple or with once at 0 followed by one cycle, .. accepting would break that stream's limit given its accepted posts so far"
+pub record ComesEarly (S : Set) (k : ℕ) (r : Run) : Type 0 where
+  pub in-set : k < S .count
+  pub door : hasDoor (streamAt S k) ≡ true
+  pub breaks : Breaks S k (accepted r ++ (newPost r k ∷ []))
+
+-- "Post is to refuse .. exactly when .. For other streams nothing changes": in every run, whatever was posted before
+unfoldable pub DoorExact : Type 0
+DoorExact =
+    (S : Set) → Placed S → valid S ≡ true → (calls : List Call) (k : ℕ)
+    → (postSays (postOf (runOf S calls .state) k .answer) ≡ refused 15) ↔ ComesEarly S k (runOf S calls)
+
+-- the accepted posts of a stream with a door keep its limit in every run
+unfoldable pub DoorKeeps : Type 0
+DoorKeeps =
+    (S : Set) → Placed S → valid S ≡ true → (calls : List Call) (k : ℕ) → k < S .count → hasDoor (streamAt S k) ≡ true
+    → KeepsLimit S k (accepted (runOf S calls))
+
+-- the event-limit condition that is left: of the streams without a door
+unfoldable pub KeepsOpenLimits : Set → List Accepted → Type 0
+KeepsOpenLimits S ps = (k : ℕ) → k < S .count → hasDoor (streamAt S k) ≡ false → KeepsLimit S k ps
+
+-- every stream of the set has a door: there is no such condition
+unfoldable pub EachHasDoor : Set → Type 0
+EachHasDoor S = (k : ℕ) → k < S .count → hasDoor (streamAt S k) ≡ true
 
 -- ---- demand 3
 
@@ -200,13 +240,21 @@ pub record LeftInTime (S : Set) (p : Accepted) (d : Departure) : Type 0 where
   pub cost : AtCost S d (d .how)
   pub time : d .at ≤ dueAt S p
 
+-- each accepted message of a run has left when the clock reaches its deadline
+unfoldable pub AllLeave : Set → Run → Type 0
+AllLeave S r =
+    (p : Accepted) → List·Memᴰ p (accepted r) → dueAt S p ≤ r .time → (d : Departure) × List·Memᴰ d (departures r) × LeftInTime S p d
+
 -- "If the check accepts a set, then from a fresh start, under any calls whose accepted posts keep every stream's event limit in every window,
--- each accepted message has left, finished or cut at its cost, when the clock reaches its deadline."
+-- each accepted message has left, finished or cut at its cost, when the clock reaches its deadline."; request 6: "demand 3 keeps its event-limit condition
+-- only for those", the streams without a door
 unfoldable pub Demand3 : Type 0
 Demand3 =
-    (S : Set) → Placed S → VerdictOf S Accept → (calls : List Call) → KeepsLimits S (accepted (runOf S calls))
-    → (p : Accepted) → List·Memᴰ p (accepted (runOf S calls)) → dueAt S p ≤ runOf S calls .time
-    → (d : Departure) × List·Memᴰ d (departures (runOf S calls)) × LeftInTime S p d
+    (S : Set) → Placed S → VerdictOf S Accept → (calls : List Call) → KeepsOpenLimits S (accepted (runOf S calls)) → AllLeave S (runOf S calls)
+
+-- where every stream has a door, accept alone is enough: whatever calls are made
+unfoldable pub AcceptIsEnough : Type 0
+AcceptIsEnough = (S : Set) → Placed S → VerdictOf S Accept → EachHasDoor S → (calls : List Call) → AllLeave S (runOf S calls)
 
 -- ---- is a message ever pending at its deadline?
 

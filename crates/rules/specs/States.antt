@@ -1,4 +1,4 @@
--- Document 01, "State and steps": the state, and when it is well formed; document 02, request 4: the stage of a message.
+-- Document 01, "State and steps": the state, and when it is well formed; document 02, request 4: the stage of a message; request 6: the waits at the doors.
 -- Assumes nothing.
 use Prim.Native.Nat.{ℕ, _+_, _-_, _≤_}
 use mathlib.Core.Bool.{Bool, true, false, cond, _&&_}
@@ -12,6 +12,7 @@ use Rattle.rules.specs.declared.Set.{Set}
 use Rattle.rules.specs.declared.Message.{Message}
 use Rattle.rules.specs.declared.State.{State}
 use Rattle.rules.specs.Streams.{Placed, streamAt, stageAt, valid}
+use Rattle.rules.specs.Doors.{doorOf, mostWait}
 
 abbrev pub noMessage : Message
 noMessage = record { stream = 0; deadline = 0; used = 0; stage = 0 }
@@ -20,12 +21,15 @@ noMessage = record { stream = 0; deadline = 0; used = 0; stage = 0 }
 abbrev pub pending : State → List Message
 pending s = take (s .count) (s .messages)
 
--- the state with another clock, and with n pending messages at the front of ms: what else it holds stays
+-- the state with another clock, with n pending messages at the front of ms, and with other waits: what else it holds stays
 abbrev pub withClock : State → ℕ → State
-withClock s clock = record { set = s .set; clock = clock; count = s .count; messages = s .messages }
+withClock s clock = record { set = s .set; clock = clock; count = s .count; messages = s .messages; waits = s .waits }
 
 abbrev pub withMessages : State → ℕ → List Message → State
-withMessages s n ms = record { set = s .set; clock = s .clock; count = n; messages = ms }
+withMessages s n ms = record { set = s .set; clock = s .clock; count = n; messages = ms; waits = s .waits }
+
+abbrev pub withWaits : State → List ℕ → State
+withWaits s ws = record { set = s .set; clock = s .clock; count = s .count; messages = s .messages; waits = ws }
 
 -- the message with other used units
 abbrev pub withUsed : Message → ℕ → Message
@@ -80,6 +84,10 @@ startedOnce x l t = leb (count (startedOf x t) l) 1
 unfoldable pub messageUnused : Message → Bool
 messageUnused m = every (eqb (m .stream) 0 ∷ eqb (m .deadline) 0 ∷ eqb (m .used) 0 ∷ eqb (m .stage) 0 ∷ [])
 
+-- the wait of a stream is at most what its door allows: 0 without one, and for a place that is not in use
+unfoldable pub waitOk : Set → List ℕ → ℕ → Bool
+waitOk x ws k = leb (getD ws k 0) (mostWait (doorOf (streamAt x k)))
+
 -- "up to 64 pending messages"
 abbrev pub mostPending : ℕ
 mostPending = 64
@@ -89,7 +97,7 @@ abbrev pub lastClock : ℕ
 lastClock = 4000000000
 
 -- "It is well formed if the set is valid; there are at most 64 messages; the clock is at most 4,000,000,000; each message ..;
--- each task has at most one message with a used unit; unused places are zero."
+-- each task has at most one message with a used unit; unused places are zero." Request 6: each stream's wait keeps its rule.
 abbrev pub stateTests : State → List Bool
 stateTests s =
     valid (s .set)
@@ -98,12 +106,14 @@ stateTests s =
     ∷ messagesOk (s .set) (s .clock) (pending s)
     ∷ all (startedOnce (s .set) (pending s)) (below 16)
     ∷ all messageUnused (drop (s .count) (s .messages))
+    ∷ all (waitOk (s .set) (s .waits)) (below 16)
     ∷ []
 
 unfoldable pub wellFormed : State → Bool
 wellFormed s = every (stateTests s)
 
--- What the types say of the arrays of a state: those of its set, and 64 places for messages. Every state that a program holds is so.
+-- What the types say of the arrays of a state: those of its set, 64 places for messages, and 16 waits. Every state that a program holds is so.
 pub record Housed (s : State) : Type 0 where
   pub set : Placed (s .set)
   pub places : length (s .messages) ≡ mostPending
+  pub waits : length (s .waits) ≡ 16

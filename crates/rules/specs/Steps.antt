@@ -1,4 +1,4 @@
--- Document 01, "State and steps": start, post, choose and unit; document 02, request 4: passing on.
+-- Document 01, "State and steps": start, post, choose and unit; document 02, request 4: passing on; request 6: the door.
 -- Assumes nothing.
 use Prim.Native.Nat.{ℕ, zero, suc, _+_, _-_}
 use mathlib.Core.Bool.{Bool, true, false, cond, not, _&&_, _||_}
@@ -10,8 +10,9 @@ use Rattle.laws.specs.Lists.{find, remove, firstBy}
 use Rattle.rules.specs.declared.Set.{Set}
 use Rattle.rules.specs.declared.Message.{Message}
 use Rattle.rules.specs.declared.State.{State}
+use Rattle.rules.specs.declared.Door.{Door}
 use Rattle.rules.specs.declared.Refusal.{Refusal}
-use Rattle.rules.specs.declared.Refusal.the-variants.{NoStream, Full, LastClock, NothingPending, OutOfRule, IllFormed}
+use Rattle.rules.specs.declared.Refusal.the-variants.{NoStream, Full, LastClock, NothingPending, OutOfRule, IllFormed, Early}
 use Rattle.rules.specs.declared.StartResult.{StartResult}
 use Rattle.rules.specs.declared.StartAnswer.the-variants.{Started, Refused as StartRefused}
 use Rattle.rules.specs.declared.PostResult.{PostResult}
@@ -26,13 +27,14 @@ use Rattle.rules.specs.declared.Call.the-variants.{Posts, Units}
 use Rattle.rules.specs.declared.CallAnswer.the-variants.{ToPost, ToUnit}
 use Rattle.rules.specs.declared.CallResult.{CallResult}
 use Rattle.rules.specs.Streams.{emptySet, streamAt, valid}
-use Rattle.rules.specs.States.{noMessage, pending, withClock, withMessages, withUsed, stagesIn, taskOf, costOf, startedOf, mostPending, lastClock, wellFormed}
+use Rattle.rules.specs.Doors.{doorOf, shut, waitAfter, waitsLater}
+use Rattle.rules.specs.States.{noMessage, pending, withClock, withMessages, withWaits, withUsed, stagesIn, taskOf, costOf, startedOf, mostPending, lastClock, wellFormed}
 
 -- ---- Start
 
--- "the clock at 0 and no message"
+-- "the clock at 0 and no message"; nobody has to wait
 abbrev pub fresh : Set → State
-fresh x = record { set = x; clock = 0; count = 0; messages = replicate mostPending noMessage }
+fresh x = record { set = x; clock = 0; count = 0; messages = replicate mostPending noMessage; waits = replicate 16 0 }
 
 -- "A valid set gives the clock at 0 and no message. An invalid one gives 7 and the start of the empty set."
 unfoldable pub startOf : Set → StartResult
@@ -47,22 +49,35 @@ startOf x =
 abbrev pub newMessage : State → ℕ → Message
 newMessage s k = record { stream = k; deadline = s .clock + streamAt (s .set) k .deadline; used = 0; stage = 0 }
 
+-- the door of a stream in a state, and its wait
+abbrev pub doorAt : State → ℕ → Door
+doorAt s k = doorOf (streamAt (s .set) k)
+
+abbrev pub waitAt : State → ℕ → ℕ
+waitAt s k = getD (s .waits) k 0
+
+-- an accepted post to the stream k counts at its door
+abbrev pub countedAt : State → ℕ → List ℕ
+countedAt s k = set (s .waits) k (waitAfter (doorAt s k) (waitAt s k))
+
 -- ".. goes last"
 abbrev pub added : State → Message → State
-added s m = withMessages s (s .count + 1) (set (s .messages) (s .count) m)
+added s m = withWaits (withMessages s (s .count + 1) (set (s .messages) (s .count) m)) (countedAt s (m .stream))
 
 -- "state unchanged"
 abbrev pub postRefused : State → Refusal → PostResult
 postRefused s why = record { answer = PostRefused why; state = s }
 
--- "Order: post 12, 1, 2."
+-- "Order: post 12, 1, 2."; request 6: "15, after 1 and before 2; state unchanged"
 unfoldable pub postOf : State → ℕ → PostResult
 postOf s k =
     cond (wellFormed s)
     (cond (ltb k (s .set .count))
+    (cond (shut (doorAt s k) (waitAt s k))
+    (postRefused s Early)
     (cond (ltb (s .count) mostPending)
     (record { answer = Posted k (newMessage s k .deadline); state = added s (newMessage s k) })
-    (postRefused s Full))
+    (postRefused s Full)))
     (postRefused s NoStream))
     (postRefused s IllFormed)
 
@@ -128,9 +143,9 @@ chooseOf s =
 
 -- ---- Unit(done)
 
--- "only the clock moves"
+-- "only the clock moves", and with it what is left to wait at the doors
 abbrev pub ticked : State → State
-ticked s = withClock s (s .clock + 1)
+ticked s = withWaits (withClock s (s .clock + 1)) (waitsLater (s .set .streams) (s .waits))
 
 -- "The chosen message gains one used unit and the clock one."
 abbrev pub gained : Message → Message

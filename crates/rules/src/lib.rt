@@ -44,12 +44,21 @@ pub struct Message {
     pub stage: usize,
 }
 
-// The state: a set, the clock, how many messages are pending, and 64 places for them in posting order.
+// The state: a set, the clock, how many messages are pending, and 64 places for them in posting order; what each stream has left to wait at its door.
 pub struct State {
     pub set: Set,
     pub clock: u32,
     pub count: usize,
     pub messages: [Message; 64],
+    pub waits: [u32; 16],
+}
+
+// The door of a stream: none, one post for ever, or posts that are spaced by a cycle and an offset.
+pub enum Door {
+    Unguarded,
+    Single,
+    // cycle, offset
+    Spaced(u32, u32),
 }
 
 // "the clock is at most 4,000,000,000"
@@ -74,6 +83,7 @@ pub enum Refusal {
     IllFormed,
     StopsEarly,
     Trailing,
+    Early,
 }
 
 pub enum StartAnswer {

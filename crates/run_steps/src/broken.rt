@@ -85,6 +85,14 @@ fn stages() {
     twelve(yard::in_stage(passed(), 2, 1));
 }
 
+// The waits at the doors: set B's are at most 20.
+fn waits() {
+    crate::say::words(b"a wait too long, without a door, in an unused place\n");
+    twelve(yard::with_wait(sound(), 0, 21));
+    twelve(yard::with_wait(passed(), 0, 1));
+    twelve(yard::with_wait(sound(), 3, 1));
+}
+
 pub fn each() {
     crate::say::words(b"well formed\n");
     crate::say::choose(scheduler::choose(sound()));
@@ -93,4 +101,5 @@ pub fn each() {
     messages();
     together();
     stages();
+    waits();
 }

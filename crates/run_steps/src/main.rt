@@ -1,5 +1,6 @@
-// Runs the steps at their edges and prints what they answer: the places, states that are not well formed, ways a cab has gone wrong, and stages.
+// Runs the steps at their edges and prints what they answer: the places, states that are not well formed, ways a cab has gone wrong, stages, and doors.
 mod broken;
+mod doors;
 mod places;
 mod say;
 mod stages;
@@ -13,4 +14,5 @@ fn main() {
     broken::each();
     wrongs::each();
     stages::each();
+    doors::each();
 }

@@ -2,7 +2,7 @@
 use crate::yard;
 use rules::State;
 
-fn fill(s: State, n: usize) -> State {
+pub fn fill(s: State, n: usize) -> State {
     let mut now = s;
     let mut k: usize = 0;
     while k < n {
@@ -16,7 +16,10 @@ fn fill(s: State, n: usize) -> State {
 // The 64th and the 65th post, and a freed place takes the next post.
 pub fn full() {
     crate::say::words(b"64th, 65th, freed\n");
-    let s = fill(yard::begin(yard::one(yard::stream(0, 2, 5))), 63);
+    let s = fill(
+        yard::begin(yard::one(yard::open(yard::stream(0, 2, 5)))),
+        63,
+    );
     let s = yard::post(s, 0);
     let s = yard::post(s, 0);
     let s = yard::unit(s, true);
@@ -26,7 +29,7 @@ pub fn full() {
 // Done on the unit that reaches c, and not done on it.
 pub fn at_cost() {
     crate::say::words(b"at cost\n");
-    let s = yard::begin(yard::one(yard::stream(0, 2, 5)));
+    let s = yard::begin(yard::one(yard::open(yard::stream(0, 2, 5))));
     let s = yard::post(s, 0);
     let s = yard::unit(s, false);
     let s = yard::unit(s, true);

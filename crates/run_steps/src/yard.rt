@@ -27,6 +27,15 @@ pub fn then(s: Stream, task: usize, cost: u32) -> Stream {
     next
 }
 
+// The stream with a second cycle: it has no door, and may be posted as one likes.
+pub fn open(s: Stream) -> Stream {
+    let mut next = s;
+    let t = Tuple::Every(20, 0);
+    next.tuples[1] = TuplePlace { tuple: t };
+    next.count = 2;
+    next
+}
+
 pub fn one(a: Stream) -> Set {
     let mut x = stream_valid::empty_set();
     x.streams[0] = a;
@@ -47,7 +56,7 @@ pub fn set_b() -> Set {
 // Version 2: a stream on task 1 and then on task 0, and one on task 0.
 pub fn set_of_stages() -> Set {
     let mut x = stream_valid::empty_set();
-    x.streams[0] = then(stream(1, 2, 9), 0, 3);
+    x.streams[0] = open(then(stream(1, 2, 9), 0, 3));
     x.streams[1] = stream(0, 4, 20);
     x.count = 2;
     x.version = 2;
@@ -84,6 +93,14 @@ pub fn with_message(s: State, at: usize, stream: usize, deadline: u32, used: u32
             used: used,
             stage: 0,
         };
+    }
+    next
+}
+
+pub fn with_wait(s: State, k: usize, n: u32) -> State {
+    let mut next = s;
+    if k < 16 {
+        next.waits[k] = n;
     }
     next
 }

@@ -2,6 +2,7 @@
 -- Assumes nothing.
 use Prim.Native.Nat.{ℕ, _+_, _-_, _≤_, _<_}
 use mathlib.Core.Bool.{Bool, true, false, cond, false≢true}
+use mathlib.Core.List.{List}
 use mathlib.Core.Path.{_≡_, refl, sym, _∙_}
 use native.Mathlib.Omega.{arith}
 use borrow.Author.Tests.{ltb-true}
@@ -17,7 +18,8 @@ use Rattle.rules.specs.declared.Refusal.the-variants.{LastClock, IllFormed}
 use Rattle.rules.specs.declared.UnitResult.{UnitResult}
 use Rattle.rules.specs.declared.UnitAnswer.{UnitAnswer}
 use Rattle.rules.specs.declared.UnitAnswer.the-variants.{Ran, Passed, Finished, Cut, Idle, Refused as UnitRefused}
-use Rattle.rules.specs.States.{noMessage, taskOf, costOf, lastClock, wellFormed}
+use Rattle.rules.specs.Doors.{waitsLater}
+use Rattle.rules.specs.States.{noMessage, withWaits, taskOf, costOf, lastClock, wellFormed}
 use Rattle.rules.specs.Steps.{messageAt, placeOf, ticked, stayed, departed, laxityOf, answered, atLast, servedOf, emptyUnit, unitOf}
 use Rattle.state_formed.proofs.WellFormed.{well-formed, in-range, unused-zero, stands, stage-place, message-stage}
 use Rattle.state_choosing.specs.declared.ToServe.{ToServe}
@@ -53,6 +55,7 @@ module _ (task : ℕ) (m : Message) (now : ℕ) (done spent last : Bool) where
 pub record Moving (from : State) (i : ℕ) (next : State) (k : ℕ) : Type 0 where
   pub set : next .set ≡ from .set
   pub clock : next .clock ≡ from .clock
+  pub waits : next .waits ≡ from .waits
   pub few : from .count ≤ 64
   pub here : k < from .count
   pub long : length (next .messages) ≡ 64
@@ -60,10 +63,11 @@ pub record Moving (from : State) (i : ℕ) (next : State) (k : ℕ) : Type 0 whe
   pub rest : (j : ℕ) → from .count ≤ j → messageAt next j ≡ noMessage
 
 pub moving-go : (from : State) (i : ℕ) (next : State) (k : ℕ) → Moving from i next k → k < from .count - 1
-    → Moving from i (record { set = next .set; clock = next .clock; count = next .count; messages = set (next .messages) k (messageAt next (k + 1)) }) (k + 1)
+    → Moving from i (record { set = next .set; clock = next .clock; count = next .count; messages = set (next .messages) k (messageAt next (k + 1)); waits = next .waits }) (k + 1)
 moving-go from i next k h q = record {
   set = h .set;
   clock = h .clock;
+  waits = h .waits;
   few = h .few;
   here = omega arith;
   long = simp length-set (h .long);
@@ -73,16 +77,16 @@ moving-go from i next k h q = record {
 
 -- only zeros stand behind the last one
 pub moved-up : (from : State) (i : ℕ) (next : State) (k : ℕ) (a : UnitAnswer) → Moving from i next k → from .count - 1 ≤ k
-    → _≡_ {A = UnitResult} (record { answer = a; state = record { set = next .set; clock = next .clock; count = from .count - 1; messages = set (next .messages) (from .count - 1) noMessage } })
-    (record { answer = a; state = record { set = from .set; clock = from .clock; count = from .count - 1; messages = remove noMessage i (from .messages) } })
+    → _≡_ {A = UnitResult} (record { answer = a; state = record { set = next .set; clock = next .clock; count = from .count - 1; messages = set (next .messages) (from .count - 1) noMessage; waits = next .waits } })
+    (record { answer = a; state = record { set = from .set; clock = from .clock; count = from .count - 1; messages = remove noMessage i (from .messages); waits = from .waits } })
 moved-up from i next k a h q =
     let e : k ≡ from .count - 1 = omega (arith, h .here) in
     let m : set (next .messages) (from .count - 1) noMessage ≡ remove noMessage i (from .messages) =
     rw (← e) (sym (remove-rest noMessage k (next .messages) (λ j g. h .rest j (omega arith))) ∙ h .moved) in
-    rw (h .set, h .clock, m)
+    rw (h .set, h .clock, h .waits, m)
 
 module _ (s : State) (i task cost : ℕ) (done last : Bool) (e : task ≡ taskOf (s .set) (messageAt s i)) (e′ : cost ≡ costOf (s .set) (messageAt s i)) (e″ : last ≡ atLast (s .set) (messageAt s i))
-    (a : UnitAnswer) (q : a ≡ servedAnswer task (messageAt s i) (s .clock + 1) done (eqb (messageAt s i .used + 1) cost) last) where
+    (a : UnitAnswer) (q : a ≡ servedAnswer task (messageAt s i) (s .clock + 1) done (eqb (messageAt s i .used + 1) cost) last) (ws : List ℕ) (later : ws ≡ waitsLater (s .set .streams) (s .waits)) where
   leaves-if : (d z l : Bool) → done ≡ d → eqb (messageAt s i .used + 1) (costOf (s .set) (messageAt s i)) ≡ z → atLast (s .set) (messageAt s i) ≡ l → departs d z l ≡ true
       → answered (departed s i) a ≡ servedOf s i done
   unfolding servedOf servedAnswer
@@ -99,11 +103,11 @@ module _ (s : State) (i task cost : ℕ) (done last : Bool) (e : task ≡ taskOf
   stays-if false true l f g k h = absurd (false≢true (sym h))
   stays-if false false l f g k h = rw (q, e, e′, f, g)
 
-  pub leaves : departs done (eqb (messageAt s i .used + 1) cost) last ≡ true → answered (departed s i) a ≡ servedOf s i done
-  leaves h = leaves-if done _ _ refl refl refl (rw (e′, e″) at h)
+  pub leaves : departs done (eqb (messageAt s i .used + 1) cost) last ≡ true → answered (withWaits (departed s i) ws) a ≡ servedOf s i done
+  leaves h = rw later (leaves-if done _ _ refl refl refl (rw (e′, e″) at h))
 
-  pub stays : departs done (eqb (messageAt s i .used + 1) cost) last ≡ false → answered (stayed s i (steppedOn (messageAt s i) done)) a ≡ servedOf s i done
-  stays h = stays-if done _ _ refl refl refl (rw (e′, e″) at h)
+  pub stays : departs done (eqb (messageAt s i .used + 1) cost) last ≡ false → answered (withWaits (stayed s i (steppedOn (messageAt s i) done)) ws) a ≡ servedOf s i done
+  stays h = rw later (stays-if done _ _ refl refl refl (rw (e′, e″) at h))
 
 -- ---- what a unit is to do
 
@@ -128,6 +132,11 @@ module _ (s : State) (done : Bool) (f : ToServe) (w : Work) (e : f ≡ serveOf s
   pub unit-by : unitBy w s done ≡ unitOf s done
   unfolding serveOf unitOf
   unit-by = rw (q, e) (unit-if s (placeOf s) _ _ _ (wellFormed s) (eqb (s .count) 0) _ done refl)
+
+-- an idle unit, with what is left to wait
+pub idles : (s : State) (done : Bool) (f : ToServe) → f ≡ serveOf s → Rest ≡ workOf f (s .clock) done → (ws : List ℕ) → ws ≡ waitsLater (s .set .streams) (s .waits)
+    → answered (withWaits (ticked s) ws) Idle ≡ unitOf s done
+idles s done f e q ws later = rw later (unit-by s done f Rest e q)
 
 -- what follows of what was found and of the clock
 abbrev Told : Work → ToServe → ℕ → Type 0

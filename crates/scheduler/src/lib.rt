@@ -30,6 +30,7 @@ fn fresh_state(x: Set) -> State
         clock: 0,
         count: 0,
         messages: ms,
+        waits: [0; 16],
     }
 }
 
@@ -55,7 +56,7 @@ pub fn start(x: Set) -> StartResult
 
 // ---- post
 
-// A message of the stream k, or 12, 1 or 2.
+// A message of the stream k, which counts at its door, or 12, 1, 15 or 2.
 pub fn post(s: State, k: usize) -> PostResult
     ensures { λ r. ⌜ r ≡ postOf s k ⌝ }
 {
@@ -65,11 +66,14 @@ pub fn post(s: State, k: usize) -> PostResult
     if sound {
         a = PostAnswer::Refused(Refusal::NoStream);
         if k < next.set.count {
-            a = PostAnswer::Refused(Refusal::Full);
+            let set = next.set;
+            let x = set.streams[k];
+            let door = stream_doors::door_of(x);
+            let wait = next.waits[k];
             let at = next.count;
-            if at < 64 {
-                let set = next.set;
-                let x = set.streams[k];
+            if stream_doors::is_shut(door, wait) {
+                a = PostAnswer::Refused(Refusal::Early);
+            } else if at < 64 {
                 let d = next.clock + x.deadline;
                 next.messages[at] = Message {
                     stream: k,
@@ -78,7 +82,10 @@ pub fn post(s: State, k: usize) -> PostResult
                     stage: 0,
                 };
                 next.count = at + 1;
+                next.waits[k] = stream_doors::wait_after(door, wait) as u32;
                 a = PostAnswer::Posted(k, d);
+            } else {
+                a = PostAnswer::Refused(Refusal::Full);
             }
         }
     }
@@ -171,11 +178,13 @@ fn stepped(m: Message, done: bool) -> Message
     on
 }
 
-// A unit of running. Where the message leaves, those behind it move up, in their order, and the place of the last is zero.
+// A unit of running. Where it moves the clock, less is left to wait at the doors. Where the message leaves, those behind it move up, in their order, and the place of the last is zero.
 pub fn unit(s: State, done: bool) -> UnitResult
     ensures { λ r. ⌜ r ≡ unitOf s done ⌝ }
 {
     let found = state_choosing::look(s);
+    let waits = s.waits;
+    let later = stream_doors::waits_later(s.set, waits);
     let mut next = s;
     let mut a = UnitAnswer::Idle;
     let what = decide(found, next.clock, done);
@@ -185,11 +194,13 @@ pub fn unit(s: State, done: bool) -> UnitResult
         }
         Work::Idle => {
             next.clock = next.clock + 1;
+            next.waits = later;
         }
         Work::Serve(i, task, cost, last) => {
             let m = next.messages[i];
             let spent = m.used + 1 == cost;
             next.clock = next.clock + 1;
+            next.waits = later;
             a = served(task, m, next.clock, done, spent, last);
             if (done & last) | (!done & spent) {
                 let end = next.count - 1;

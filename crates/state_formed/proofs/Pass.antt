@@ -17,7 +17,7 @@ use Rattle.rules.specs.declared.Stage.{Stage}
 use Rattle.rules.specs.declared.Stream.{Stream}
 use Rattle.rules.specs.declared.State.{State}
 use Rattle.rules.specs.Streams.{FourPlaces, Placed, noStream, streamAt, stageAt}
-use Rattle.rules.specs.States.{noMessage, pending, taskOf, postedAt, messageOk, messagesOk, startedOnce, messageUnused}
+use Rattle.rules.specs.States.{noMessage, pending, taskOf, postedAt, messageOk, messagesOk, startedOnce, messageUnused, waitOk}
 use Rattle.state_formed.specs.InRange.{restFormed}
 use Rattle.state_formed.proofs.Standing.{message-out, message-beyond, message-past, message-by}
 use Rattle.state_formed.proofs.Counted.{Counted, counted-start, counted-past, counted-go, counted-no, counted-end}
@@ -139,7 +139,7 @@ module _ (s : State) (k before : ℕ) (counts : List ℕ) (inv : Pass s k before
           pub pass-go : getD counts (at-stage .task) 0 ≤ 0 → Pass s (k + 1) at (set counts (at-stage .task) 1)
           pass-go f = next (set counts (at-stage .task) 1) (counted-go (s .set) (s .messages) (s .count) k counts m (at-stage .task) (inv .counted) refl task h inside begun pass-task f)
 
--- all messages have passed: only the places behind them are left
+-- all messages have passed: only the places behind them are left, and the waits
 pub record Passed (s : State) : Type 0 where
   pub opened : Opened s
   pub each : messagesOk (s .set) (s .clock) (pending s) ≡ true
@@ -152,7 +152,8 @@ pass-end s k before counts inv h = record {
   once = sym (counted-end (s .set) (s .messages) (s .count) k counts (inv .counted) h);
 }
 
-pub last-test : (s : State) (r : Bool) → Passed s → r ≡ all messageUnused (drop (s .count) (s .messages)) → r ≡ restFormed s
+pub last-tests : (s : State) (r q : Bool) → Passed s → r ≡ all messageUnused (drop (s .count) (s .messages)) → q ≡ all (waitOk (s .set) (s .waits)) (below 16)
+    → (r && q) ≡ restFormed s
 unfolding restFormed
-last-test s r p u =
-    rw (le-leb (s .count) 64 (p .opened .few), le-leb (s .clock) 4000000000 (p .opened .clock), p .each, p .once) u
+last-tests s r q p u v =
+    rw (le-leb (s .count) 64 (p .opened .few), le-leb (s .clock) 4000000000 (p .opened .clock), p .each, p .once, ← u, ← v)

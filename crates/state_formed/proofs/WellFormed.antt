@@ -17,7 +17,7 @@ use Rattle.rules.specs.declared.Stream.{Stream}
 use Rattle.rules.specs.declared.Message.{Message}
 use Rattle.rules.specs.declared.State.{State}
 use Rattle.rules.specs.Streams.{noStage, noStream, streamAt, stageAt, valid}
-use Rattle.rules.specs.States.{noMessage, pending, stagesIn, stageOf, taskOf, postedAt, messageOk, messagesOk, startedOnce, messageUnused, lastClock, stateTests, wellFormed}
+use Rattle.rules.specs.States.{noMessage, pending, stagesIn, stageOf, taskOf, postedAt, messageOk, messagesOk, startedOnce, messageUnused, waitOk, lastClock, stateTests, wellFormed}
 use Rattle.rules.specs.Steps.{messageAt}
 use Rattle.rules.specs.Valid.{ValidStage, ValidStream, ValidSet}
 use Rattle.rules.proofs.Valid.{valid-set}
@@ -35,16 +35,17 @@ pub record WellFormed (s : State) : Type 0 where
   pub each : messagesOk (s .set) (s .clock) (pending s) ≡ true
   pub once : all (startedOnce (s .set) (pending s)) (below 16) ≡ true
   pub unused : all messageUnused (drop (s .count) (s .messages)) ≡ true
+  pub waits : all (waitOk (s .set) (s .waits)) (below 16) ≡ true
 
 pub well-formed : (s : State) → wellFormed s ≡ true → WellFormed s
 unfolding wellFormed
 well-formed s e =
     let t = every-at (stateTests s) in
-    record { set = t 0 e; few = leb-true _ _ (t 1 e); clock = leb-true _ _ (t 2 e); each = t 3 e; once = t 4 e; unused = t 5 e }
+    record { set = t 0 e; few = leb-true _ _ (t 1 e); clock = leb-true _ _ (t 2 e); each = t 3 e; once = t 4 e; unused = t 5 e; waits = t 6 e }
 
 pub well-formed-back : (s : State) → WellFormed s → wellFormed s ≡ true
 unfolding wellFormed
-well-formed-back s h = rw (h .set, le-leb (s .count) 64 (h .few), le-leb (s .clock) 4000000000 (h .clock), h .each, h .once, h .unused)
+well-formed-back s h = rw (h .set, le-leb (s .count) 64 (h .few), le-leb (s .clock) 4000000000 (h .clock), h .each, h .once, h .unused, h .waits)
 
 pub in-range : (s : State) → wellFormed s ≡ true → InRange s
 in-range s e = let h = well-formed s e in record { set = h .set; few = h .few; each = h .each }

@@ -24,7 +24,8 @@ fn message_unused(m: Message) -> bool
 
 // The tests of a state but for the first, that its set is valid. A first pass over the pending messages: each names a stream of the set and one of its
 // stages, has used less than that stage's c, was posted by now and not before the one in front of it, and is that stage's task's only started one. A second
-// over the places behind: they are zero. Both passes stand here, since what is handed to another function is copied.
+// over the places behind: they are zero. A third over the waits: each is at most what its stream's door allows. All passes stand here, since what is handed
+// to another function is copied.
 pub fn formed(s: State) -> bool
     ensures { λ r. ⌜ r ≡ restFormed s ⌝ }
 {
@@ -74,7 +75,17 @@ pub fn formed(s: State) -> bool
         unused = unused & zero;
         k = k + 1;
     }
-    unused
+    let waits = s.waits;
+    let mut kept = true;
+    k = 0;
+    while k < 16 {
+        let x = set.streams[k];
+        let d = stream_doors::door_of(x);
+        let ok = stream_doors::may_wait(d, waits[k]);
+        kept = kept & ok;
+        k = k + 1;
+    }
+    unused & kept
 }
 
 // Is the state well formed? A parameter that is not read by an index here is handed on without a copy.

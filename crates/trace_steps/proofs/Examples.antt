@@ -51,6 +51,11 @@ pub blanks-printed : prints12 "p0 u\nud\n" "accept\n0 posted 0 5\n0 ran 3 0\n1 c
 unfolding shown
 blanks-printed = record { verdict = Accept; is-verdict = judge-right set12; whole = refl }
 
+-- request 6: a post that comes early is refused with 15, and leaves everything as it was
+pub early-printed : prints12 "p0p0d" "accept\n0 posted 0 5\n0 refused 15\n0 done 3 0 4\n"
+unfolding shown
+early-printed = record { verdict = Accept; is-verdict = judge-right set12; whole = refl }
+
 -- "Any other byte .. prints the line `refused 9`, with no clock, and stops": no step behind it
 pub bad-byte-printed : prints12 "p0xu" "accept\n0 posted 0 5\nrefused 9\n"
 unfolding shown

@@ -28,6 +28,39 @@ pub struct Set {
     pub version: u32,
 }
 
+/// The door of a stream: none, one post for ever, or posts spaced by a cycle and an offset.
+pub enum Door {
+    None,
+    Single,
+    Spaced(u32, u32),
+}
+
+impl Door {
+    pub fn shut(&self, wait: u32) -> bool {
+        match *self {
+            Door::None => false,
+            Door::Single => wait > 0,
+            Door::Spaced(z, a) => wait > z.saturating_sub(a),
+        }
+    }
+
+    pub fn after(&self, wait: u32) -> u32 {
+        match *self {
+            Door::None => wait,
+            Door::Single => 1,
+            Door::Spaced(z, a) => wait + a.max(z),
+        }
+    }
+
+    pub fn most(&self) -> u32 {
+        match *self {
+            Door::None => 0,
+            Door::Single => 1,
+            Door::Spaced(z, a) => z.saturating_sub(a) + a.max(z),
+        }
+    }
+}
+
 impl Tuple {
     pub fn offset(self) -> u32 {
         match self {
@@ -53,6 +86,15 @@ impl Stage {
 }
 
 impl Stream {
+    pub fn door(&self) -> Door {
+        match (self.count, self.tuples[0], self.tuples[1]) {
+            (1, Tuple::Once(_), _) => Door::Single,
+            (1, Tuple::Every(z, _), _) => Door::Spaced(z, z),
+            (2, Tuple::Once(_), Tuple::Every(z, a)) => Door::Spaced(z, a),
+            _ => Door::None,
+        }
+    }
+
     pub const UNUSED: Stream = Stream {
         stage_count: 0,
         stages: [Stage::UNUSED; 4],

@@ -3,7 +3,7 @@
 //! The methods change a state in place. `post` and `unit` do the same by value, as document 01 has it: a state goes in, and
 //! the answer comes back with the state after the call.
 
-use super::set::{Set, Stage, Stream};
+use super::set::{Door, Set, Stage, Stream};
 
 #[derive(Clone, Copy)]
 pub struct Message {
@@ -19,6 +19,7 @@ pub struct State {
     pub clock: u32,
     pub count: usize,
     messages: [Message; 64],
+    waits: [u32; 16],
 }
 
 #[allow(dead_code)] // what a caller would read
@@ -55,6 +56,7 @@ impl State {
             clock: 0,
             count: 0,
             messages: [Message::UNUSED; 64],
+            waits: [0; 16],
         }
     }
 
@@ -102,6 +104,16 @@ impl State {
             }
         }
         self.messages[self.count..].iter().all(Message::unused)
+            && (0..16).all(|k| self.waits[k] <= self.set.streams[k].door().most())
+    }
+
+    /// Less is left to wait at each door.
+    fn wait_less(&mut self) {
+        for k in 0..16 {
+            if let Door::Spaced(..) = self.set.streams[k].door() {
+                self.waits[k] = self.waits[k].saturating_sub(1);
+            }
+        }
     }
 
     pub fn post(&mut self, stream: usize) -> Answer {
@@ -111,9 +123,14 @@ impl State {
         if stream >= self.set.count {
             return Answer::Refused(1);
         }
+        let door = self.set.streams[stream].door();
+        if door.shut(self.waits[stream]) {
+            return Answer::Refused(15);
+        }
         if self.count == 64 {
             return Answer::Refused(2);
         }
+        self.waits[stream] = door.after(self.waits[stream]);
         let deadline = self.clock + self.set.streams[stream].deadline;
         self.messages[self.count] = Message {
             stream,
@@ -162,6 +179,7 @@ impl State {
                 return Answer::Refused(4);
             }
             self.clock += 1;
+            self.wait_less();
             return Answer::Idle;
         }
         let place = self.place();
@@ -173,6 +191,7 @@ impl State {
         } = self.messages[place];
         let Stage { task, cost } = self.set.streams[stream].stages[stage];
         self.clock += 1;
+        self.wait_less();
         let laxity = i64::from(deadline) - i64::from(self.clock);
         if done && stage + 1 < self.set.streams[stream].stage_count {
             self.messages[place].stage += 1;

@@ -11,13 +11,13 @@ use Rattle.console_ask.proofs.messages_onto.Statement.{statement}
 use Rattle.console_ask.proofs.messages_onto.Tie as tie
 
 abbrev Inv-loop : tie.InvT-loop
-Inv-loop out₀ at messages end₀ i₀ out end i = (length messages ≡ 64) × Printing messageLine messages out₀ at out end i
+Inv-loop out₀ at messages end₀ i₀ out end i = (length messages ≡ 64) × Printing 64 messageLine messages out₀ at out end i
 
 abbrev μ-loop : tie.MeasureT-loop
 μ-loop out₀ at messages end₀ i₀ out end i = 64 - i
 
 loop-holds : tie.Need-loop-holds Inv-loop μ-loop
-loop-holds c = (search (needs, sized), print-start _ _ _ _)
+loop-holds c = (search (needs, sized), print-start _ _ _ _ _)
 
 mul-message-onto : tie.Need-mul-message-onto Inv-loop μ-loop
 mul-message-onto c = search needs
@@ -41,19 +41,19 @@ loop-again c =
     let s = t .before .before .before .before in
     let a = s .args in (
       l .inv .0,
-      print-turn messageLine (a .s .messages) (a .out .now) (a .at) (l .out) (l .end) (l .i) (l .inv .1) _ _ _ place-short (s .pre) (l .inv .0) (t .loop-test .taken)
+      print-turn 64 messageLine (a .s .messages) (a .out .now) (a .at) (l .out) (l .end) (l .i) (l .inv .1) _ _ _ place-short (s .pre) (l .inv .0) (t .loop-test .taken)
           (c .before .before .message-onto .ensures),
     )
 
 same-length : tie.Need-same-length Inv-loop μ-loop
 same-length c =
     let l = c .before .loop in
-    print-size _ _ _ _ _ _ _ (l .inv .1)
+    print-size _ _ _ _ _ _ _ _ (l .inv .1)
 
 returns : tie.Need-returns Inv-loop μ-loop
 returns c =
     let l = c .before .loop in
-    print-end _ _ _ _ _ _ _ (l .inv .1) (l .inv .0) (c .loop-test .left)
+    print-end _ _ _ _ _ _ _ _ (l .inv .1) (l .inv .0) (c .loop-test .left)
 
 pub messages-onto-spec : {M : Type 1} → statement M
 messages-onto-spec =

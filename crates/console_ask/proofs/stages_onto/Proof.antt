@@ -11,13 +11,13 @@ use Rattle.console_ask.proofs.stages_onto.Statement.{statement}
 use Rattle.console_ask.proofs.stages_onto.Tie as tie
 
 abbrev Inv-loop : tie.InvT-loop
-Inv-loop out₀ at messages end₀ i₀ out end i = (length messages ≡ 64) × Printing stagedLine messages out₀ at out end i
+Inv-loop out₀ at messages end₀ i₀ out end i = (length messages ≡ 64) × Printing 64 stagedLine messages out₀ at out end i
 
 abbrev μ-loop : tie.MeasureT-loop
 μ-loop out₀ at messages end₀ i₀ out end i = 64 - i
 
 loop-holds : tie.Need-loop-holds Inv-loop μ-loop
-loop-holds c = (search (needs, sized), print-start _ _ _ _)
+loop-holds c = (search (needs, sized), print-start _ _ _ _ _)
 
 mul-staged-onto : tie.Need-mul-staged-onto Inv-loop μ-loop
 mul-staged-onto c = search needs
@@ -41,19 +41,19 @@ loop-again c =
     let s = t .before .before .before .before in
     let a = s .args in (
       l .inv .0,
-      print-turn stagedLine (a .s .messages) (a .out .now) (a .at) (l .out) (l .end) (l .i) (l .inv .1) _ _ _ stage-short (s .pre) (l .inv .0) (t .loop-test .taken)
+      print-turn 64 stagedLine (a .s .messages) (a .out .now) (a .at) (l .out) (l .end) (l .i) (l .inv .1) _ _ _ stage-short (s .pre) (l .inv .0) (t .loop-test .taken)
           (c .before .before .staged-onto .ensures),
     )
 
 same-length : tie.Need-same-length Inv-loop μ-loop
 same-length c =
     let l = c .before .loop in
-    print-size _ _ _ _ _ _ _ (l .inv .1)
+    print-size _ _ _ _ _ _ _ _ (l .inv .1)
 
 returns : tie.Need-returns Inv-loop μ-loop
 returns c =
     let l = c .before .loop in
-    print-end _ _ _ _ _ _ _ (l .inv .1) (l .inv .0) (c .loop-test .left)
+    print-end _ _ _ _ _ _ _ _ (l .inv .1) (l .inv .0) (c .loop-test .left)
 
 pub stages-onto-spec : {M : Type 1} → statement M
 stages-onto-spec =

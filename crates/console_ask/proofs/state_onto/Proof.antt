@@ -3,7 +3,7 @@
 use mathlib.Core.Path.{_≡_}
 use lib.ListN.{length}
 use Rattle.laws.proofs.Parts.{sized}
-use Rattle.console_ask.proofs.States.{places-room, state-onto}
+use Rattle.console_ask.proofs.States.{behind-room, state-onto}
 use borrow.Author.Needs.{needs}
 use Rattle.console_ask.proofs.state_onto.Statement.{statement}
 use Rattle.console_ask.proofs.state_onto.Tie as tie
@@ -29,13 +29,13 @@ number-line-requires-2 c κs = search needs
 append-requires-2 : tie.Need-append-requires-2
 append-requires-2 c κs = search needs
 
-places-onto-requires : tie.Need-places-onto-requires
-places-onto-requires c κs =
+rest-onto-requires : tie.Need-rest-onto-requires
+rest-onto-requires c κs =
     let k = c .before .before .before in
     let l = k .before .before .before .before .before .before in
     let s = l .before .before .before .before .before in
     let a = s .args in
-    places-room (a .s) (a .out .now) (a .at) (s .pre) _ _ _ _ _ _ (l .before .number-line .ensures) (l .append .ensures)
+    behind-room (a .s) (a .out .now) (a .at) (s .pre) _ _ _ _ _ _ (l .before .number-line .ensures) (l .append .ensures)
     (k .before .number-line2 .ensures) (k .append2 .ensures)
 
 same-length : tie.Need-same-length
@@ -45,12 +45,13 @@ returns : tie.Need-returns
 returns c =
     let s = c .before .before .before .before .before .before .before .before .before .before .before .before .before .before .before .before .before in
     let all : length (s .args .s .messages) ≡ 64 = search (needs, sized) in
+    let waits : length (s .args .s .waits) ≡ 16 = search (needs, sized) in
     let m = c .before .before in
     let k = m .before .before .before .before in
     let l = k .before .before .before .before .before .before in
     let a = s .args in
     state-onto (a .s) (a .out .now) (a .at) (s .pre) _ _ _ _ _ _ (l .before .number-line .ensures) (l .append .ensures)
-    (k .before .number-line2 .ensures) (k .append2 .ensures) _ _ all (m .places-onto .ensures)
+    (k .before .number-line2 .ensures) (k .append2 .ensures) _ _ all waits (m .rest-onto .ensures)
 
 pub state-onto-spec : {M : Type 1} → statement M
 state-onto-spec =
@@ -63,6 +64,6 @@ state-onto-spec =
     slice-aggregate-number-line-2
     number-line-requires-2
     append-requires-2
-    places-onto-requires
+    rest-onto-requires
     same-length
     returns)

@@ -79,24 +79,35 @@ slice-aggregate-named-8 c = search needs
 named-requires-8 : tie.Need-named-requires-8
 named-requires-8 c κs = search needs
 
+of-state-requires-9 : tie.Need-of-state-requires-9
+of-state-requires-9 c κs = search needs
+
+slice-aggregate-named-9 : tie.Need-slice-aggregate-named-9
+slice-aggregate-named-9 c = search needs
+
+named-requires-9 : tie.Need-named-requires-9
+named-requires-9 c κs = search needs
+
 returns : tie.Need-returns
 unfolding stateRow
 returns c =
-    let c7 = c .before .before .before in
+    let c8 = c .before .before .before in
+    let c7 = c8 .before .before .before in
     let c6 = c7 .before .before .before in
     let c5 = c6 .before .before .before in
     let c4 = c5 .before .before .before in
     let c3 = c4 .before .before .before in
     let c2 = c3 .before .before .before in
     let c1 = c2 .before .before .before in
-    or _ _ _ _ _ _ _ (c .named8 .ensures) (c .before .before .of-state8 .ensures)
+    or _ _ _ _ _ _ _ (c .named9 .ensures) (c .before .before .of-state9 .ensures)
+    (or _ _ _ _ _ _ _ (c8 .named8 .ensures) (c8 .before .before .of-state8 .ensures)
     (or _ _ _ _ _ _ _ (c7 .named7 .ensures) (c7 .before .before .of-state7 .ensures)
     (or _ _ _ _ _ _ _ (c6 .named6 .ensures) (c6 .before .before .of-state6 .ensures)
     (or _ _ _ _ _ _ _ (c5 .named5 .ensures) (c5 .before .before .of-state5 .ensures)
     (or _ _ _ _ _ _ _ (c4 .named4 .ensures) (c4 .before .before .of-state4 .ensures)
     (or _ _ _ _ _ _ _ (c3 .named3 .ensures) (c3 .before .before .of-state3 .ensures)
     (or _ _ _ _ _ _ _ (c2 .named2 .ensures) (c2 .before .before .of-state2 .ensures)
-    (or _ _ _ _ _ _ _ (c1 .named .ensures) (c1 .before .before .of-state .ensures) refl)))))))
+    (or _ _ _ _ _ _ _ (c1 .named .ensures) (c1 .before .before .of-state .ensures) refl))))))))
 
 pub state-row-spec : {M : Type 1} → statement M
 state-row-spec =
@@ -126,4 +137,7 @@ state-row-spec =
     of-state-requires-8
     slice-aggregate-named-8
     named-requires-8
+    of-state-requires-9
+    slice-aggregate-named-9
+    named-requires-9
     returns)

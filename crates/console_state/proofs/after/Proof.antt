@@ -90,6 +90,18 @@ put-staged-requires c κs = search needs
 put-requires-4 : tie.Need-put-requires-4
 put-requires-4 c κs = search needs
 
+enum-told-9 : tie.Need-enum-told-9
+enum-told-9 c = search needs
+
+array-read-put-door : tie.Need-array-read-put-door
+array-read-put-door c = search needs
+
+put-door-requires : tie.Need-put-door-requires
+put-door-requires c κs = search needs
+
+put-requires-5 : tie.Need-put-requires-5
+put-requires-5 c κs = search needs
+
 returns : tie.Need-returns
 unfolding started
 returns c = rw (c .before .enum-told .given .1) (c .start .ensures)
@@ -117,6 +129,9 @@ returns-7 c = rw (c .before .enum-told7 .given .1) (c .unit2 .ensures)
 
 returns-8 : tie.Need-returns-8
 returns-8 c = rw (c .before .before .enum-told8 .given .1) (put-is _ _ _ (c .put4 .ensures) (c .before .put-staged .ensures))
+
+returns-9 : tie.Need-returns-9
+returns-9 c = rw (c .before .before .enum-told9 .given .1) (put-is _ _ _ (c .put5 .ensures) (c .before .put-door .ensures))
 
 pub after-spec : {M : Type 1} → statement M
 after-spec =
@@ -150,6 +165,10 @@ after-spec =
     enum-told-8
     put-staged-requires
     put-requires-4
+    enum-told-9
+    array-read-put-door
+    put-door-requires
+    put-requires-5
     returns
     returns-2
     returns-3
@@ -157,4 +176,5 @@ after-spec =
     returns-5
     returns-6
     returns-7
-    returns-8)
+    returns-8
+    returns-9)

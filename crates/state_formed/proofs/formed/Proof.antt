@@ -7,14 +7,15 @@ use mathlib.Core.Logic.{⊎-elim}
 use mathlib.Core.Path.{_≡_, refl, sym, ap, _∙_}
 use Prim.Native.Nat.{ℕ, _-_, _≤_}
 use lib.ListN.{length, getD, drop}
-use Rattle.laws.specs.Lists.{all}
+use Rattle.laws.specs.Lists.{below, all}
 use Rattle.laws.proofs.Parts.{sized}
 use Rattle.laws.proofs.Fits.{and-go, and-end}
-use Rattle.rules.specs.States.{noMessage, messageUnused}
+use Rattle.rules.specs.States.{noMessage, messageUnused, waitOk}
 use Rattle.rules.specs.Streams.{FourPlaces}
 use Rattle.state_formed.proofs.Places.{each-all}
 use Rattle.state_formed.proofs.WellFormed.{no-test}
-use Rattle.state_formed.proofs.Pass.{Opened, Pass, pass-start, pass-out, pass-stream, pass-stage, pass-no, pass-past, pass-task, pass-twice, pass-go, Passed, pass-end, last-test}
+use Rattle.state_formed.proofs.Pass.{Opened, Pass, pass-start, pass-out, pass-stream, pass-stage, pass-no, pass-past, pass-task, pass-twice, pass-go, Passed, pass-end, last-tests}
+use Rattle.state_formed.proofs.Waiting.{none-tested, ok-go, all-tested}
 use Rattle.state_formed.proofs.formed.Statement.{statement}
 use Rattle.state_formed.proofs.formed.Tie as tie
 
@@ -25,19 +26,26 @@ abbrev μ-loop : tie.MeasureT-loop
 μ-loop s set messages counts₀ before₀ k₀ counts before k = s .count - k
 
 abbrev Inv-loop2 : tie.InvT-loop2
-Inv-loop2 messages before k₀ unused₀ k unused =
+Inv-loop2 s set messages before k₀ unused₀ k unused =
     (length messages ≡ 64) × ((unused && all messageUnused (drop k messages)) ≡ all messageUnused (drop k₀ messages))
 
 abbrev μ-loop2 : tie.MeasureT-loop2
-μ-loop2 messages before k₀ unused₀ k unused = 64 - k
+μ-loop2 s set messages before k₀ unused₀ k unused = 64 - k
 
-returns : tie.Need-returns Inv-loop μ-loop Inv-loop2 μ-loop2
+abbrev Inv-loop3 : tie.InvT-loop3
+Inv-loop3 set before k₀ unused waits kept₀ k kept =
+    (length (set .streams) ≡ 16) × ((length waits ≡ 16) × ((k ≤ 16) × (kept ≡ all (waitOk set waits) (below k))))
+
+abbrev μ-loop3 : tie.MeasureT-loop3
+μ-loop3 set before k₀ unused waits kept₀ k kept = 16 - k
+
+returns : tie.Need-returns Inv-loop μ-loop Inv-loop2 μ-loop2 Inv-loop3 μ-loop3
 returns c = no-test _ 0 (lt-leb _ 64 (c .if1 .taken))
 
-returns-2 : tie.Need-returns-2 Inv-loop μ-loop Inv-loop2 μ-loop2
+returns-2 : tie.Need-returns-2 Inv-loop μ-loop Inv-loop2 μ-loop2 Inv-loop3 μ-loop3
 returns-2 c = no-test _ 1 (lt-leb _ 4000000000 (c .if2 .taken))
 
-loop-holds : tie.Need-loop-holds Inv-loop μ-loop Inv-loop2 μ-loop2
+loop-holds : tie.Need-loop-holds Inv-loop μ-loop Inv-loop2 μ-loop2 Inv-loop3 μ-loop3
 loop-holds c =
     let start = c .before .before .before .before .before .before in
     pass-start (start .args .s) (record {
@@ -50,83 +58,83 @@ loop-holds c =
       };
     })
 
-mul-m : tie.Need-mul-m Inv-loop μ-loop Inv-loop2 μ-loop2
+mul-m : tie.Need-mul-m Inv-loop μ-loop Inv-loop2 μ-loop2 Inv-loop3 μ-loop3
 mul-m c = omega (arith, c .if3 .taken, c .before .before .loop .inv .opened .few)
 
-array-copy-out-m : tie.Need-array-copy-out-m Inv-loop μ-loop Inv-loop2 μ-loop2
+array-copy-out-m : tie.Need-array-copy-out-m Inv-loop μ-loop Inv-loop2 μ-loop2 Inv-loop3 μ-loop3
 array-copy-out-m c = omega (arith, c .if3 .taken, c .before .before .loop .inv .opened .few)
 
-returns-3 : tie.Need-returns-3 Inv-loop μ-loop Inv-loop2 μ-loop2
+returns-3 : tie.Need-returns-3 Inv-loop μ-loop Inv-loop2 μ-loop2 Inv-loop3 μ-loop3
 returns-3 c =
     let loop = c .before .before .before .before .loop in
     pass-out _ (loop .k) _ _ (loop .inv) (c .before .before .if3 .taken) (not-true _ (c .if4 .taken))
 
-mul-x : tie.Need-mul-x Inv-loop μ-loop Inv-loop2 μ-loop2
+mul-x : tie.Need-mul-x Inv-loop μ-loop Inv-loop2 μ-loop2 Inv-loop3 μ-loop3
 mul-x c =
     let loop = c .before .before .before .before .loop in
     omega (arith, pass-stream _ (loop .k) _ _ (loop .inv) (c .before .before .if3 .taken) (not-false _ (c .if4 .left)))
 
-element-copy-out-x : tie.Need-element-copy-out-x Inv-loop μ-loop Inv-loop2 μ-loop2
+element-copy-out-x : tie.Need-element-copy-out-x Inv-loop μ-loop Inv-loop2 μ-loop2 Inv-loop3 μ-loop3
 element-copy-out-x c =
     let loop = c .before .before .before .before .loop in
     pass-stream _ (loop .k) _ _ (loop .inv) (c .before .before .if3 .taken) (not-false _ (c .if4 .left))
 
-mul-g : tie.Need-mul-g Inv-loop μ-loop Inv-loop2 μ-loop2
+mul-g : tie.Need-mul-g Inv-loop μ-loop Inv-loop2 μ-loop2 Inv-loop3 μ-loop3
 mul-g c =
     let loop = c .before .before .before .before .before .before .loop in
     omega (arith, pass-stage _ (loop .k) _ _ (loop .inv) (c .before .before .before .before .if3 .taken) (not-false _ (c .before .before .if4 .left)))
 
-array-copy-out-g : tie.Need-array-copy-out-g Inv-loop μ-loop Inv-loop2 μ-loop2
+array-copy-out-g : tie.Need-array-copy-out-g Inv-loop μ-loop Inv-loop2 μ-loop2 Inv-loop3 μ-loop3
 array-copy-out-g c =
     let loop = c .before .before .before .before .before .before .loop in
     omega (arith, pass-stage _ (loop .k) _ _ (loop .inv) (c .before .before .before .before .if3 .taken) (not-false _ (c .before .before .if4 .left)))
 
-less-requires : tie.Need-less-requires Inv-loop μ-loop Inv-loop2 μ-loop2
+less-requires : tie.Need-less-requires Inv-loop μ-loop Inv-loop2 μ-loop2 Inv-loop3 μ-loop3
 less-requires c κs = search needs
 
-returns-4 : tie.Need-returns-4 Inv-loop μ-loop Inv-loop2 μ-loop2
+returns-4 : tie.Need-returns-4 Inv-loop μ-loop Inv-loop2 μ-loop2 Inv-loop3 μ-loop3
 returns-4 c =
     let loop = c .before .before .before .before .before .before .before .before .before .before .before .before .before .before .before .loop in
     let less = c .before .before .before .before .before .before .before .less in
     pass-no _ (loop .k) _ _ (loop .inv) (c .before .before .before .before .before .before .before .before .before .before .before .before .before .if3 .taken) (not-false _ (c .before .before .before .before .before .before .before .before .before .before .before .if4 .left)) (less .result) (less .ensures) (not-true _ (c .if5 .taken))
 
-mul-if7 : tie.Need-mul-if7 Inv-loop μ-loop Inv-loop2 μ-loop2
+mul-if7 : tie.Need-mul-if7 Inv-loop μ-loop Inv-loop2 μ-loop2 Inv-loop3 μ-loop3
 mul-if7 c =
     let loop = c .before .before .before .before .before .before .before .before .before .before .before .before .before .before .before .before .before .loop in
     let less = c .before .before .before .before .before .before .before .before .before .less in
     omega (arith, pass-task _ (loop .k) _ _ (loop .inv) (c .before .before .before .before .before .before .before .before .before .before .before .before .before .before .before .if3 .taken) (not-false _ (c .before .before .before .before .before .before .before .before .before .before .before .before .before .if4 .left)) (less .result) (less .ensures) (not-false _ (c .before .before .if5 .left)) (c .if6 .taken))
 
-array-read-if7 : tie.Need-array-read-if7 Inv-loop μ-loop Inv-loop2 μ-loop2
+array-read-if7 : tie.Need-array-read-if7 Inv-loop μ-loop Inv-loop2 μ-loop2 Inv-loop3 μ-loop3
 array-read-if7 c =
     let loop = c .before .before .before .before .before .before .before .before .before .before .before .before .before .before .before .before .before .loop in
     let less = c .before .before .before .before .before .before .before .before .before .less in
     pass-task _ (loop .k) _ _ (loop .inv) (c .before .before .before .before .before .before .before .before .before .before .before .before .before .before .before .if3 .taken) (not-false _ (c .before .before .before .before .before .before .before .before .before .before .before .before .before .if4 .left)) (less .result) (less .ensures) (not-false _ (c .before .before .if5 .left)) (c .if6 .taken)
 
-returns-5 : tie.Need-returns-5 Inv-loop μ-loop Inv-loop2 μ-loop2
+returns-5 : tie.Need-returns-5 Inv-loop μ-loop Inv-loop2 μ-loop2 Inv-loop3 μ-loop3
 returns-5 c =
     let loop = c .before .before .before .before .before .before .before .before .before .before .before .before .before .before .before .before .before .before .loop in
     let less = c .before .before .before .before .before .before .before .before .before .before .less in
     pass-twice _ (loop .k) _ _ (loop .inv) (c .before .before .before .before .before .before .before .before .before .before .before .before .before .before .before .before .if3 .taken) (not-false _ (c .before .before .before .before .before .before .before .before .before .before .before .before .before .before .if4 .left)) (less .result) (less .ensures) (not-false _ (c .before .before .before .if5 .left)) (c .before .if6 .taken) (c .if7 .taken)
 
-mul-counts : tie.Need-mul-counts Inv-loop μ-loop Inv-loop2 μ-loop2
+mul-counts : tie.Need-mul-counts Inv-loop μ-loop Inv-loop2 μ-loop2 Inv-loop3 μ-loop3
 mul-counts c =
     let loop = c .before .before .before .before .before .before .before .before .before .before .before .before .before .before .before .before .before .before .loop in
     let less = c .before .before .before .before .before .before .before .before .before .before .less in
     omega (arith, pass-task _ (loop .k) _ _ (loop .inv) (c .before .before .before .before .before .before .before .before .before .before .before .before .before .before .before .before .if3 .taken) (not-false _ (c .before .before .before .before .before .before .before .before .before .before .before .before .before .before .if4 .left)) (less .result) (less .ensures) (not-false _ (c .before .before .before .if5 .left)) (c .before .if6 .taken))
 
-array-write-counts : tie.Need-array-write-counts Inv-loop μ-loop Inv-loop2 μ-loop2
+array-write-counts : tie.Need-array-write-counts Inv-loop μ-loop Inv-loop2 μ-loop2 Inv-loop3 μ-loop3
 array-write-counts c =
     let loop = c .before .before .before .before .before .before .before .before .before .before .before .before .before .before .before .before .before .before .loop in
     let less = c .before .before .before .before .before .before .before .before .before .before .less in
     pass-task _ (loop .k) _ _ (loop .inv) (c .before .before .before .before .before .before .before .before .before .before .before .before .before .before .before .before .if3 .taken) (not-false _ (c .before .before .before .before .before .before .before .before .before .before .before .before .before .before .if4 .left)) (less .result) (less .ensures) (not-false _ (c .before .before .before .if5 .left)) (c .before .if6 .taken)
 
-add-k : tie.Need-add-k Inv-loop μ-loop Inv-loop2 μ-loop2
+add-k : tie.Need-add-k Inv-loop μ-loop Inv-loop2 μ-loop2 Inv-loop3 μ-loop3
 add-k c = search needs
 
-loop-less : tie.Need-loop-less Inv-loop μ-loop Inv-loop2 μ-loop2
+loop-less : tie.Need-loop-less Inv-loop μ-loop Inv-loop2 μ-loop2 Inv-loop3 μ-loop3
 loop-less c = search needs
 
-loop-again : tie.Need-loop-again Inv-loop μ-loop Inv-loop2 μ-loop2
+loop-again : tie.Need-loop-again Inv-loop μ-loop Inv-loop2 μ-loop2 Inv-loop3 μ-loop3
 loop-again c =
     let loop = c .before .before .before .before .before .before .before .before .before .before .before .before .before .before .before .before .before .loop in
     let less = c .before .before .before .before .before .before .before .before .before .less in
@@ -139,36 +147,72 @@ loop-again c =
     (pass-past _ (loop .k) _ _ (loop .inv) (c .before .before .before .before .before .before .before .before .before .before .before .before .before .before .before .if3 .taken) (not-false _ (c .before .before .before .before .before .before .before .before .before .before .before .before .before .if4 .left)) (less .result) (less .ensures) (not-false _ (c .before .before .if5 .left)) (w .0 .left)))
     (c .if6 .came)
 
-loop2-holds : tie.Need-loop2-holds Inv-loop μ-loop Inv-loop2 μ-loop2
+loop2-holds : tie.Need-loop2-holds Inv-loop μ-loop Inv-loop2 μ-loop2 Inv-loop3 μ-loop3
 loop2-holds c = (c .before .before .loop .inv .opened .places, refl)
 
-mul-m-2 : tie.Need-mul-m-2 Inv-loop μ-loop Inv-loop2 μ-loop2
+mul-m-2 : tie.Need-mul-m-2 Inv-loop μ-loop Inv-loop2 μ-loop2 Inv-loop3 μ-loop3
 mul-m-2 c = search needs
 
-array-copy-out-m-2 : tie.Need-array-copy-out-m-2 Inv-loop μ-loop Inv-loop2 μ-loop2
+array-copy-out-m-2 : tie.Need-array-copy-out-m-2 Inv-loop μ-loop Inv-loop2 μ-loop2 Inv-loop3 μ-loop3
 array-copy-out-m-2 c = search needs
 
-message-unused-requires : tie.Need-message-unused-requires Inv-loop μ-loop Inv-loop2 μ-loop2
+message-unused-requires : tie.Need-message-unused-requires Inv-loop μ-loop Inv-loop2 μ-loop2 Inv-loop3 μ-loop3
 message-unused-requires c κs = search needs
 
-add-k-2 : tie.Need-add-k-2 Inv-loop μ-loop Inv-loop2 μ-loop2
+add-k-2 : tie.Need-add-k-2 Inv-loop μ-loop Inv-loop2 μ-loop2 Inv-loop3 μ-loop3
 add-k-2 c = search needs
 
-loop2-less : tie.Need-loop2-less Inv-loop μ-loop Inv-loop2 μ-loop2
+loop2-less : tie.Need-loop2-less Inv-loop μ-loop Inv-loop2 μ-loop2 Inv-loop3 μ-loop3
 loop2-less c = search needs
 
-loop2-again : tie.Need-loop2-again Inv-loop μ-loop Inv-loop2 μ-loop2
+loop2-again : tie.Need-loop2-again Inv-loop μ-loop Inv-loop2 μ-loop2 Inv-loop3 μ-loop3
 loop2-again c =
     let loop = c .before .before .before .loop2 in
     (loop .inv .0, and-go messageUnused (c .before .before .before .before .before .before .before .before .before .before .before .before .before .args .s .messages) (loop .k) (loop .unused) _ _ noMessage _ (loop .inv .1) refl (c .message-unused .ensures) (omega (arith, c .before .before .loop2-test .taken, loop .inv .0)))
 
-returns-6 : tie.Need-returns-6 Inv-loop μ-loop Inv-loop2 μ-loop2
+loop3-holds : tie.Need-loop3-holds Inv-loop μ-loop Inv-loop2 μ-loop2 Inv-loop3 μ-loop3
+loop3-holds c =
+    let start = c .before .before .before .before .before .before .before .before .before .before .before .before in
+    (c .before .before .before .before .before .loop .inv .opened .set .sixteen, (sized _ (start .args .s .waits) 16 (start .good .0 .1 .1 .1 .1 .1 .1 .0 .1 .0 .1), (omega arith, none-tested _ _)))
+
+mul-x-2 : tie.Need-mul-x-2 Inv-loop μ-loop Inv-loop2 μ-loop2 Inv-loop3 μ-loop3
+mul-x-2 c = search needs
+
+element-copy-out-x-2 : tie.Need-element-copy-out-x-2 Inv-loop μ-loop Inv-loop2 μ-loop2 Inv-loop3 μ-loop3
+element-copy-out-x-2 c = search needs
+
+door-of-requires : tie.Need-door-of-requires Inv-loop μ-loop Inv-loop2 μ-loop2 Inv-loop3 μ-loop3
+door-of-requires c κs = search needs
+
+mul-may-wait : tie.Need-mul-may-wait Inv-loop μ-loop Inv-loop2 μ-loop2 Inv-loop3 μ-loop3
+mul-may-wait c = search needs
+
+array-read-may-wait : tie.Need-array-read-may-wait Inv-loop μ-loop Inv-loop2 μ-loop2 Inv-loop3 μ-loop3
+array-read-may-wait c = search needs
+
+may-wait-requires : tie.Need-may-wait-requires Inv-loop μ-loop Inv-loop2 μ-loop2 Inv-loop3 μ-loop3
+may-wait-requires c κs = search needs
+
+add-k-3 : tie.Need-add-k-3 Inv-loop μ-loop Inv-loop2 μ-loop2 Inv-loop3 μ-loop3
+add-k-3 c = search needs
+
+loop3-less : tie.Need-loop3-less Inv-loop μ-loop Inv-loop2 μ-loop2 Inv-loop3 μ-loop3
+loop3-less c = search needs
+
+loop3-again : tie.Need-loop3-again Inv-loop μ-loop Inv-loop2 μ-loop2 Inv-loop3 μ-loop3
+loop3-again c =
+    let loop = c .before .before .before .before .loop3 in
+    (loop .inv .0, (loop .inv .1 .0, (omega arith, ok-go _ _ (loop .k) _ _ _ (loop .inv .0) (c .before .before .before .loop3-test .taken) (loop .inv .1 .1 .1) (c .before .door-of .ensures) (c .may-wait .ensures))))
+
+returns-6 : tie.Need-returns-6 Inv-loop μ-loop Inv-loop2 μ-loop2 Inv-loop3 μ-loop3
 returns-6 c =
-    let s = c .before .before .before .before .before .before .before .before .before .before .before .args .s in
-    let loop = c .before .loop2 in
-    let end : c .before .before .before .before .loop .k ≡ s .count = omega (arith, c .before .before .before .before .loop .inv .here, c .before .before .if3 .left) in
-    last-test _ _ (pass-end _ _ _ _ (c .before .before .before .before .loop .inv) (c .before .before .if3 .left))
-    (and-end messageUnused (s .messages) (loop .k) _ _ (loop .inv .1) (omega (arith, c .loop2-test .left, loop .inv .0)) ∙ ap (λ (k : ℕ). all messageUnused (drop k (s .messages))) end)
+    let s = c .before .before .before .before .before .before .before .before .before .before .before .before .before .before .args .s in
+    let loop = c .before .before .before .before .loop2 in
+    let last = c .before .loop3 in
+    let end : c .before .before .before .before .before .before .before .loop .k ≡ s .count = omega (arith, c .before .before .before .before .before .before .before .loop .inv .here, c .before .before .before .before .before .if3 .left) in
+    last-tests s (loop .unused) (last .kept) (pass-end _ _ _ _ (c .before .before .before .before .before .before .before .loop .inv) (c .before .before .before .before .before .if3 .left))
+    (and-end messageUnused (s .messages) (loop .k) _ _ (loop .inv .1) (omega (arith, c .before .before .before .loop2-test .left, loop .inv .0)) ∙ ap (λ (k : ℕ). all messageUnused (drop k (s .messages))) end)
+    (all-tested _ _ (last .k) _ (last .inv .1 .1 .0) (c .loop3-test .left) (last .inv .1 .1 .1))
 
 pub formed-spec : {M : Type 1} → statement M
 formed-spec =
@@ -178,6 +222,8 @@ formed-spec =
     μ-loop
     Inv-loop2
     μ-loop2
+    Inv-loop3
+    μ-loop3
     returns
     returns-2
     loop-holds
@@ -205,4 +251,14 @@ formed-spec =
     add-k-2
     loop2-less
     loop2-again
+    loop3-holds
+    mul-x-2
+    element-copy-out-x-2
+    door-of-requires
+    mul-may-wait
+    array-read-may-wait
+    may-wait-requires
+    add-k-3
+    loop3-less
+    loop3-again
     returns-6)
