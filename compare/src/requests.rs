@@ -6,7 +6,7 @@ use std::io;
 
 /// The requests of document 02 that are in force: all up to this number. A request's landing
 /// raises it.
-pub const IN_FORCE: u32 = 6;
+pub const IN_FORCE: u32 = 7;
 
 /// The last request that is rendered here. Those above [`IN_FORCE`] wait for their landing.
 pub const RENDERED: u32 = RESUMABLE;

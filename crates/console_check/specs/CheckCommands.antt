@@ -31,12 +31,12 @@ abbrev pub openKeeps : OpenAnswer → Position → Position → Position
 openKeeps Opened q p = q
 openKeeps (Stops v) q p = p
 
--- "`open`: prints `refused N`, `overload`, or `open`"
-pub record Opens (x : Set) (p : Position) (r : CheckAfter) : Type 0 where
+-- It leaves the position q, and prints the bytes w. "`open`: prints `refused N`, `overload`, or `open`"
+pub record Opens (x : Set) (p q : Position) (w : List ℕ) : Type 0 where
   pub given : OpenResult
   pub is-opening : OpenOf x given
-  pub position : r .position ≡ openKeeps (given .answer) (given .position) p
-  pub line : r .line ≡ holding (lineOf (says (openSays (given .answer))))
+  pub position : q ≡ openKeeps (given .answer) (given .position) p
+  pub line : w ≡ lineOf (says (openSays (given .answer)))
 
 -- "With a next length the position moves there; else it stays where it was."
 abbrev pub goKeeps : GoAnswer → Position → Position → Position
@@ -45,18 +45,24 @@ goKeeps (Falls k v) q p = p
 goKeeps (Refused why) q p = p
 
 -- "`go N`: prints `tested COUNT next L`, `tested COUNT accept`, `tested COUNT late I W`, or `refused 12`"
-pub record Goes (p : Position) (n : ℕ) (r : CheckAfter) : Type 0 where
+pub record Goes (p : Position) (n : ℕ) (q : Position) (w : List ℕ) : Type 0 where
   pub given : GoResult
   pub is-call : GoOf p n given
-  pub position : r .position ≡ goKeeps (given .answer) (given .position) p
-  pub line : r .line ≡ holding (lineOf (says (goSays given)))
+  pub position : q ≡ goKeeps (given .answer) (given .position) p
+  pub line : w ≡ lineOf (says (goSays given))
 
 -- "`resume L`: the position is the console's set and the length L. Prints `put`."
-abbrev pub resumed : Set → ℕ → CheckAfter
-resumed x i = record { position = at x i; line = holding (lineOf (letters "put")) }
+abbrev pub Puts : Set → ℕ → Position → List ℕ → Type 0
+Puts x i q w = (q ≡ at x i) × (w ≡ lineOf (letters "put"))
 
 -- a command with its numbers, where the console holds the set x and the position p
-abbrev pub Checked : CheckCommand → List ℕ → Set → Position → CheckAfter → Type 0
-Checked Open ns x p r = Opens x p r
-Checked Go ns x p r = Goes p (nth ns 0) r
-Checked Resume ns x p r = r ≡ resumed x (nth ns 0)
+abbrev pub Checked : CheckCommand → List ℕ → Set → Position → Position → List ℕ → Type 0
+Checked Open ns x p = Opens x p
+Checked Go ns x p = Goes p (nth ns 0)
+Checked Resume ns x p = Puts x (nth ns 0)
+
+-- a position and bytes that are so, the bytes on a line
+pub record OnLine (So : Position → List ℕ → Type 0) (r : CheckAfter) : Type 0 where
+  pub bytes : List ℕ
+  pub so : So (r .position) bytes
+  pub line : r .line ≡ holding bytes

@@ -1,6 +1,6 @@
 // The console's check in calls: what each command leaves of the position that the console holds, and what it prints.
 ghost use mathlib.Core.Path.{_≡_};
-ghost use Rattle.console_check.specs.CheckCommands.{firstPosition, Opens, Goes, resumed, Checked};
+ghost use Rattle.console_check.specs.CheckCommands.{firstPosition, Opens, Goes, Puts, Checked, OnLine};
 use console_names::CheckCommand;
 use console_names::NUMBERS;
 use line::Line;
@@ -25,7 +25,7 @@ pub fn first() -> Position
 
 // With a verdict the position stays.
 fn opened(x: Set, p: Position) -> CheckAfter
-    ensures { λ r. ⌜ Opens x p r ⌝ }
+    ensures { λ r. ⌜ OnLine (Opens x p) r ⌝ }
 {
     let begun = load_resume::open(x);
     let a = begun.answer;
@@ -42,7 +42,7 @@ fn opened(x: Set, p: Position) -> CheckAfter
 
 // Only a next length moves the position.
 fn gone(p: Position, n: u32) -> CheckAfter
-    ensures { λ r. ⌜ Goes p n r ⌝ }
+    ensures { λ r. ⌜ OnLine (Goes p n) r ⌝ }
 {
     let tested = load_resume::go(p, n);
     let a = tested.answer;
@@ -60,7 +60,7 @@ fn gone(p: Position, n: u32) -> CheckAfter
 
 // The console's set, at any length.
 fn put(x: Set, i: u32) -> CheckAfter
-    ensures { λ r. ⌜ r ≡ resumed x i ⌝ }
+    ensures { λ r. ⌜ OnLine (Puts x i) r ⌝ }
 {
     let position = Position { set: x, next: i };
     CheckAfter {
@@ -71,7 +71,7 @@ fn put(x: Set, i: u32) -> CheckAfter
 
 // What a command leaves of the position, where the console holds the set x, and the line that it prints.
 pub fn after(x: Set, p: Position, k: CheckCommand, n: [u32; NUMBERS]) -> CheckAfter
-    ensures { λ r. ⌜ Checked k n x p r ⌝ }
+    ensures { λ r. ⌜ OnLine (Checked k n x p) r ⌝ }
 {
     match k {
         CheckCommand::Open => opened(x, p),

@@ -13,8 +13,9 @@ use Rattle.console_names.specs.declared.StateCommand.the-variants.{Start
 use Rattle.console_names.specs.declared.Question.the-variants as ask
 use Rattle.console_names.specs.declared.ReplayCommand.the-variants.{Recording, Next, Reader, Where}
 use Rattle.console_names.specs.declared.CableCommand.the-variants.{Cable as NewCable, Feed, Close}
+use Rattle.console_names.specs.declared.CheckCommand.the-variants.{Open, Go, Resume}
 use Rattle.console_names.specs.declared.Command.{Command}
-use Rattle.console_names.specs.declared.Command.the-variants.{Unknown, Set, State, Ask, Replay, Record, Cable}
+use Rattle.console_names.specs.declared.Command.the-variants.{Unknown, Set, State, Ask, Replay, Record, Cable, Check}
 use Rattle.console_names.specs.declared.Text.{Text}
 use Rattle.console_names.specs.declared.Text.the-variants.{Nothing, Hex, Steps}
 use Rattle.console_names.specs.declared.Row.{Row}
@@ -128,6 +129,10 @@ replayRow w =
 unfoldable pub cableRow : List ℕ → Row → Row
 cableRow w = among w (row "cable" (Cable NewCable) [] ∷ hexRow "feed" (Cable Feed) ∷ row "close" (Cable Close) [] ∷ [])
 
+-- **CR 7**
+unfoldable pub checkRow : List ℕ → Row → Row
+checkRow w = among w (row "open" (Check Open) [] ∷ row "go" (Check Go) (top ∷ []) ∷ row "resume" (Check Resume) (top ∷ []) ∷ [])
+
 -- "A line that is not one of those below .. prints `?`"
 unfoldable pub rowOf : List ℕ → Row
-rowOf w = cableRow w (replayRow w (questionRow w (stateRow w (setRow w (asks Unknown [])))))
+rowOf w = checkRow w (cableRow w (replayRow w (questionRow w (stateRow w (setRow w (asks Unknown []))))))

@@ -1,7 +1,7 @@
 // The console's commands by name, in groups, and what each asks for.
 ghost use mathlib.Core.Path.{_≡_};
 ghost use mathlib.Core.List.{_∷_, []};
-ghost use Rattle.console_names.specs.Rows.{mostBytes, ifNamed, setRow, stateRow, questionRow, replayRow, cableRow, rowOf};
+ghost use Rattle.console_names.specs.Rows.{mostBytes, ifNamed, setRow, stateRow, questionRow, replayRow, cableRow, checkRow, rowOf};
 
 // The commands that change the set.
 pub enum SetCommand {
@@ -76,6 +76,7 @@ pub enum Command {
     // The recording of a trace.
     Record,
     Cable(CableCommand),
+    Check(CheckCommand),
 }
 
 // What stands behind a command's numbers.
@@ -276,13 +277,35 @@ fn cable_row(w: &[u8], other: Row) -> Row
     r
 }
 
+fn of_check(k: CheckCommand, count: usize, most: [u32; NUMBERS]) -> Row
+    ensures { λ r. ⌜ r ≡ record { command = Command.Check k; count = count; most = most; text = Text.Nothing } ⌝ }
+{
+    asks(Command::Check(k), count, most)
+}
+
+fn check_row(w: &[u8], other: Row) -> Row
+    ensures { λ r. ⌜ r ≡ checkRow (now (w .entry)) other ⌝ }
+{
+    let mut r = other;
+    let open = of_check(CheckCommand::Open, 0, [0; NUMBERS]);
+    r = named(w, b"open", open, r);
+    let go = of_check(CheckCommand::Go, 1, [TOP, 0, 0, 0, 0]);
+    r = named(w, b"go", go, r);
+    let resume = of_check(CheckCommand::Resume, 1, [TOP, 0, 0, 0, 0]);
+    r = named(w, b"resume", resume, r);
+    r
+}
+
 // The row of the command that has this name.
 pub fn row_of(w: &[u8]) -> Row
     ensures { λ r. ⌜ r ≡ rowOf (now (w .entry)) ⌝ }
 {
     let none = asks(Command::Unknown, 0, [0; NUMBERS]);
-    cable_row(
+    check_row(
         w,
-        replay_row(w, question_row(w, state_row(w, set_row(w, none)))),
+        cable_row(
+            w,
+            replay_row(w, question_row(w, state_row(w, set_row(w, none)))),
+        ),
     )
 }

@@ -15,23 +15,27 @@ use Rattle.console_set.specs.SetCommands.{setLine}
 use Rattle.console_cable.specs.CableCommands.{firstCarried, closedLine, setBehind, carriedBehind, fedPieces, ClosesAs, ClosesJoined}
 use Rattle.console_cable.proofs.Joined.{closes-joined}
 use Rattle.console_obey.specs.declared.Desk.{Desk}
-use Rattle.console_obey.specs.Obeyed.{leaves, Prints}
+use Rattle.console_obey.specs.Obeyed.{Does}
 
--- these pieces were fed since the carried state was new; `hex` stands behind `read`, and is the joined bytes
-module _ (ps : List (List ℕ)) (are : All Piece ps) (d : Desk) (fed : d .carried ≡ fedPieces ps firstCarried) (ns text hex : List ℕ) (same : unhexed hex ≡ joined ps) where
+-- these pieces were fed since the carried state was new; `hex` stands behind `read`, and is the joined bytes; `close` leaves e and prints v
+module _ (ps : List (List ℕ)) (are : All Piece ps) (d : Desk) (fed : d .carried ≡ fedPieces ps firstCarried) (ns text hex : List ℕ) (same : unhexed hex ≡ joined ps) (e : Desk) (v : List ℕ) (closed : Does (Cable Close) ns text d e v) where
   joins : ClosesAs (joined ps) (fedPieces ps firstCarried)
   unfolding ClosesJoined
   joins = closes-joined ps are
 
   -- "does what it does with the set"
-  pub close-is-read : leaves (Cable Close) ns text d .set ≡ leaves (Set Read) ns hex d .set
-  close-is-read =
-      ap (λ (c : Carried). setBehind c (d .set)) fed ∙ joins .set (d .set) ∙ ap (λ (s : List ℕ). readOf s .set) (sym same)
+  pub close-is-read : (f : Desk) (w : List ℕ) → Does (Set Read) ns hex d f w → e .set ≡ f .set
+  close-is-read f w read =
+      ap (λ (g : Desk). g .set) (closed .0)
+      ∙ ap (λ (c : Carried). setBehind c (d .set)) fed
+      ∙ joins .set (d .set)
+      ∙ ap (λ (s : List ℕ). readOf s .set) (sym same)
+      ∙ sym (ap (λ (g : Desk). g .set) (read .0))
 
   -- "prints what `read` prints for the joined bytes"
-  pub close-prints-read : (w : List ℕ) → Prints (Cable Close) ns text d w → Prints (Set Read) ns hex d w
-  close-prints-read w p = p ∙ ap closedLine fed ∙ joins .line ∙ ap (setLine Read) (sym same)
+  pub close-prints-read : (f : Desk) (w : List ℕ) → Does (Set Read) ns hex d f w → v ≡ w
+  close-prints-read f w read = closed .1 ∙ ap closedLine fed ∙ joins .line ∙ ap (setLine Read) (sym same) ∙ sym (read .1)
 
   -- "the carried state is new again"
-  pub close-is-new : leaves (Cable Close) ns text d .carried ≡ firstCarried
-  close-is-new = ap carriedBehind fed ∙ joins .carried
+  pub close-is-new : e .carried ≡ firstCarried
+  close-is-new = ap (λ (g : Desk). g .carried) (closed .0) ∙ ap carriedBehind fed ∙ joins .carried

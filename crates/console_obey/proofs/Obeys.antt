@@ -8,6 +8,7 @@ use mathlib.Core.List.{List, []}
 use lib.ListN.{length, take, drop, length-drop}
 use lib.Seq.{take-all}
 use Rattle.rules.specs.declared.Set.{Set as Streams}
+use Rattle.rules.specs.declared.Position.{Position}
 use Rattle.rules.specs.declared.StartResult.{StartResult}
 use Rattle.rules.specs.Streams.{emptySet}
 use Rattle.rules.specs.Steps.{startOf}
@@ -20,12 +21,13 @@ use Rattle.page.specs.Pages.{roomFor, appended, endOf}
 use Rattle.page.proofs.Prints.{room-less}
 use Rattle.page.proofs.Pieces.{onto-line, onto-none, onto-once}
 use Rattle.console_names.specs.declared.Command.{Command}
-use Rattle.console_names.specs.declared.Command.the-variants.{Nothing, Unknown, Set, State, Ask, Replay, Record, Cable}
+use Rattle.console_names.specs.declared.Command.the-variants.{Nothing, Unknown, Set, State, Ask, Replay, Record, Cable, Check}
 use Rattle.console_names.specs.declared.SetCommand.{SetCommand}
 use Rattle.console_names.specs.declared.StateCommand.{StateCommand}
 use Rattle.console_names.specs.declared.Question.{Question}
 use Rattle.console_names.specs.declared.ReplayCommand.{ReplayCommand}
 use Rattle.console_names.specs.declared.CableCommand.{CableCommand}
+use Rattle.console_names.specs.declared.CheckCommand.{CheckCommand}
 use Rattle.console_names.specs.Rows.{nth}
 use Rattle.console_parse.specs.declared.Order.{Order}
 use Rattle.console_parse.specs.Lines.{orderOf}
@@ -45,55 +47,55 @@ use Rattle.sheet_carried.specs.declared.Carried.{Carried}
 use Rattle.console_cable.specs.declared.CableAfter.{CableAfter}
 use Rattle.console_cable.specs.CableCommands.{firstCarried, cableAfter, cableSetAfter, cableLine}
 use Rattle.console_cable.proofs.Cables.{cable-short}
+use Rattle.console_check.specs.declared.CheckAfter.{CheckAfter}
+use Rattle.console_check.specs.CheckCommands.{firstPosition, Checked, OnLine}
+use Rattle.console_check.proofs.Once.{checked-once, checked-short}
 use Rattle.console_ask.specs.Questions.{Asks, Answered, answerRoom}
 use Rattle.console_ask.proofs.Once.{prints-once}
 use Rattle.console_obey.specs.declared.Desk.{Desk}
 use Rattle.console_obey.specs.declared.Step.{Step}
-use Rattle.console_obey.specs.Obeyed.{firstDesk, Prints, Stepped, textOf, Obeyed, ObeysIf, Obeys}
+use Rattle.console_obey.specs.Obeyed.{firstDesk, withSet, withState, withReplay, withCarried, withPosition, Does, Stepped, textOf, Obeyed, ObeysIf, Obeys}
 
-pub begun : (x : Streams) (s : StartResult) (t : Replayed) (k : Carried) → x ≡ emptySet → s ≡ startOf x → t ≡ firstReplay → k ≡ firstCarried
-    → _≡_ {A = Desk} (record { set = x; state = s .state; replay = t; carried = k }) firstDesk
-begun x s t k e f g h = rw (f, e, g, h)
+pub begun : (x : Streams) (s : StartResult) (t : Replayed) (k : Carried) (p : Position) → x ≡ emptySet → s ≡ startOf x → t ≡ firstReplay → k ≡ firstCarried
+    → p ≡ firstPosition → _≡_ {A = Desk} (record { set = x; state = s .state; replay = t; carried = k; position = p }) firstDesk
+begun x s t k p e f g h i = rw (f, e, g, h, i)
 
 -- ---- a command of each group
 
 module _ (d : Desk) (ns text out : List ℕ) (at : ℕ) where
   pub nothing-step : (k : Command) → k ≡ Nothing → Stepped d k ns text out at (record { desk = d; at = at }) out
-  nothing-step k e = rw e (record { left = refl; bytes = []; prints = refl; onto = onto-none out at })
+  nothing-step k e = rw e (record { bytes = []; does = (refl, refl); onto = onto-none out at })
 
   module _ (end : ℕ) (page : List ℕ) where
     pub unknown-step : (l : Line) → l ≡ holding (lineOf (letters "?")) → (end ≡ endOf out at l) × (page ≡ appended out at l)
         → Stepped d Unknown ns text out at (record { desk = d; at = end }) page
     unknown-step l e p =
         record {
-          left = refl;
           bytes = lineOf (letters "?");
-          prints = refl;
+          does = (refl, refl);
           onto = onto-line out (lineOf (letters "?")) at l end page (let short : length (lineOf (letters "?")) ≤ lineRoom = omega arith in short) e p;
         }
 
     pub set-step : (k : SetCommand) (bytes : List ℕ) (a : SetAfter) → bytes ≡ unhexed text
         → a ≡ record { set = setAfter k ns bytes (d .set); line = holding (setLine k bytes) }
         → (end ≡ endOf out at (a .line)) × (page ≡ appended out at (a .line))
-        → Stepped d (Set k) ns text out at (record { desk = record { set = a .set; state = d .state; replay = d .replay; carried = d .carried }; at = end }) page
+        → Stepped d (Set k) ns text out at (record { desk = withSet (a .set) d; at = end }) page
     set-step k bytes a f e p =
         let g : a ≡ record { set = setAfter k ns (unhexed text) (d .set); line = holding (setLine k (unhexed text)) } = rw f at e in
         record {
-          left = ap (λ (b : SetAfter). record { set = b .set; state = d .state; replay = d .replay; carried = d .carried }) g;
           bytes = setLine k (unhexed text);
-          prints = refl;
+          does = (ap (λ (b : SetAfter). withSet (b .set) d) g, refl);
           onto = onto-line out (setLine k (unhexed text)) at (a .line) end page (set-short k (unhexed text)) (ap (λ (b : SetAfter). b .line) g) p;
         }
 
     pub state-step : (k : StateCommand) (a : StateAfter)
         → a ≡ record { state = stateAfter k ns (d .set) (d .state); line = holding (stateLine k ns (d .set) (d .state)) }
         → (end ≡ endOf out at (a .line)) × (page ≡ appended out at (a .line))
-        → Stepped d (State k) ns text out at (record { desk = record { set = d .set; state = a .state; replay = d .replay; carried = d .carried }; at = end }) page
+        → Stepped d (State k) ns text out at (record { desk = withState (a .state) d; at = end }) page
     state-step k a e p =
         record {
-          left = ap (λ (b : StateAfter). record { set = d .set; state = b .state; replay = d .replay; carried = d .carried }) e;
           bytes = stateLine k ns (d .set) (d .state);
-          prints = refl;
+          does = (ap (λ (b : StateAfter). withState (b .state) d) e, refl);
           onto =
               onto-line out (stateLine k ns (d .set) (d .state)) at (a .line) end page (state-short k ns (d .set) (d .state))
               (ap (λ (b : StateAfter). b .line) e) p;
@@ -107,7 +109,7 @@ module _ (d : Desk) (ns text out : List ℕ) (at : ℕ) where
           line = holding (replayLineOf k bytes (d .state) (d .replay));
         }
         → (end ≡ endOf out at (a .line)) × (page ≡ appended out at (a .line))
-        → Stepped d (Replay k) ns text out at (record { desk = record { set = d .set; state = a .state; replay = a .replay; carried = d .carried }; at = end }) page
+        → Stepped d (Replay k) ns text out at (record { desk = withReplay (a .replay) (withState (a .state) d); at = end }) page
     replayed-step k bytes a f e p =
         let line : List ℕ = replayLineOf k (unhexed text) (d .state) (d .replay) in
         let g : a
@@ -117,9 +119,8 @@ module _ (d : Desk) (ns text out : List ℕ) (at : ℕ) where
           line = holding (replayLineOf k (unhexed text) (d .state) (d .replay));
         } = rw f at e in
         record {
-          left = ap (λ (b : ReplayAfter). record { set = d .set; state = b .state; replay = b .replay; carried = d .carried }) g;
           bytes = line;
-          prints = refl;
+          does = (ap (λ (b : ReplayAfter). withReplay (b .replay) (withState (b .state) d)) g, refl);
           onto =
               onto-line out line at (a .line) end page (replay-short k (unhexed text) (d .state) (d .replay))
               (ap (λ (b : ReplayAfter). b .line) g) p;
@@ -129,7 +130,7 @@ module _ (d : Desk) (ns text out : List ℕ) (at : ℕ) where
         → a
         ≡ record { carried = cableAfter k bytes (d .carried); set = cableSetAfter k (d .carried) (d .set); line = holding (cableLine k bytes (d .carried)) }
         → (end ≡ endOf out at (a .line)) × (page ≡ appended out at (a .line))
-        → Stepped d (Cable k) ns text out at (record { desk = record { set = a .set; state = d .state; replay = d .replay; carried = a .carried }; at = end }) page
+        → Stepped d (Cable k) ns text out at (record { desk = withCarried (a .carried) (withSet (a .set) d); at = end }) page
     cable-step k bytes a f e p =
         let line : List ℕ = cableLine k (unhexed text) (d .carried) in
         let g : a
@@ -139,19 +140,28 @@ module _ (d : Desk) (ns text out : List ℕ) (at : ℕ) where
           line = holding (cableLine k (unhexed text) (d .carried));
         } = rw f at e in
         record {
-          left = ap (λ (b : CableAfter). record { set = b .set; state = d .state; replay = d .replay; carried = b .carried }) g;
           bytes = line;
-          prints = refl;
+          does = (ap (λ (b : CableAfter). withCarried (b .carried) (withSet (b .set) d)) g, refl);
           onto = onto-line out line at (a .line) end page (cable-short k (unhexed text) (d .carried)) (ap (λ (b : CableAfter). b .line) g) p;
+        }
+
+    pub check-step : (k : CheckCommand) (a : CheckAfter) → OnLine (Checked k ns (d .set) (d .position)) a
+        → (end ≡ endOf out at (a .line)) × (page ≡ appended out at (a .line))
+        → Stepped d (Check k) ns text out at (record { desk = withPosition (a .position) d; at = end }) page
+    check-step k a o p =
+        record {
+          bytes = o .bytes;
+          does = (refl, o .so);
+          onto =
+              onto-line out (o .bytes) at (a .line) end page (checked-short k ns (d .set) (d .position) (a .position) (o .bytes) (o .so)) (o .line) p;
         }
 
     pub record-step : roomFor out at answerRoom ≡ true → Records text (nth ns 0) out at end page
         → Stepped d Record ns text out at (record { desk = d; at = end }) page
     record-step room t =
         record {
-          left = refl;
           bytes = recordLines text (nth ns 0);
-          prints = refl;
+          does = (refl, refl);
           onto = records-onto text (nth ns 0) out at end page (room-less out at recordRoom answerRoom room (omega arith)) t;
         }
 
@@ -159,7 +169,7 @@ module _ (d : Desk) (ns text out : List ℕ) (at : ℕ) where
         → Stepped d (Ask q) ns text out at (record { desk = d; at = end }) page
     question-step q room a =
         let t : Answered q ns (d .set) (d .state) out at end page = rw room at a in
-        record { left = refl; bytes = t .bytes; prints = t .prints; onto = t .onto }
+        record { bytes = t .bytes; does = (refl, t .prints); onto = t .onto }
 
   pub by-command : (k c : Command) (r : Step) (page : List ℕ) → k ≡ c → Stepped d c ns text out at r page → Stepped d k ns text out at r page
   by-command k c r page e t = rw e t
@@ -185,15 +195,22 @@ module _ (d : Desk) (line out : List ℕ) (at : ℕ) where
 
 -- ---- two results that are allowed for one input are the same
 
-command-once : (k : Command) (ns text : List ℕ) (d : Desk) (v w : List ℕ) → Prints k ns text d v → Prints k ns text d w → v ≡ w
-command-once Nothing ns text d v w p q = p ∙ sym q
-command-once Unknown ns text d v w p q = p ∙ sym q
-command-once (Set k) ns text d v w p q = p ∙ sym q
-command-once (State k) ns text d v w p q = p ∙ sym q
-command-once (Ask a) ns text d v w p q = prints-once a ns (d .set) (d .state) v w p q
-command-once (Replay k) ns text d v w p q = p ∙ sym q
-command-once Record ns text d v w p q = p ∙ sym q
-command-once (Cable k) ns text d v w p q = p ∙ sym q
+module _ (ns text : List ℕ) (d e f : Desk) (v w : List ℕ) where
+  equal : (g : Desk) (u : List ℕ) → (e ≡ g) × (v ≡ u) → (f ≡ g) × (w ≡ u) → (e ≡ f) × (v ≡ w)
+  equal g u p q = (p .0 ∙ sym (q .0), p .1 ∙ sym (q .1))
+
+  does-once : (k : Command) → Does k ns text d e v → Does k ns text d f w → (e ≡ f) × (v ≡ w)
+  does-once Nothing p q = equal _ _ p q
+  does-once Unknown p q = equal _ _ p q
+  does-once (Set k) p q = equal _ _ p q
+  does-once (State k) p q = equal _ _ p q
+  does-once (Ask a) p q = (p .0 ∙ sym (q .0), prints-once a ns (d .set) (d .state) v w (p .1) (q .1))
+  does-once (Replay k) p q = equal _ _ p q
+  does-once Record p q = equal _ _ p q
+  does-once (Cable k) p q = equal _ _ p q
+  does-once (Check k) p q =
+      let same = checked-once k ns (d .set) (d .position) (e .position) (f .position) v w (p .1) (q .1) in
+      (p .0 ∙ ap (λ (g : Position). withPosition g d) (same .0) ∙ sym (q .0), same .1)
 
 module _ (d : Desk) (line out : List ℕ) (at : ℕ) where
   pub obeys-once : (r s : Step) (p q : List ℕ) → Obeys d line out at r p → Obeys d line out at s q → (r ≡ s) × (p ≡ q)
@@ -201,7 +218,7 @@ module _ (d : Desk) (line out : List ℕ) (at : ℕ) where
     where
       go : (room : Bool) → ObeysIf room d line out at r p → ObeysIf room d line out at s q → (r ≡ s) × (p ≡ q)
       go true t u =
-          let bytes = command-once (orderOf line .command) (orderOf line .numbers) (textOf line) d (t .bytes) (u .bytes) (t .prints) (u .prints) in
-          let same = onto-once out (t .bytes) (u .bytes) at (r .at) (s .at) p q bytes (t .onto) (u .onto) in
-          (ap₂ (λ (x : Desk) (n : ℕ). record { desk = x; at = n }) (t .left ∙ sym (u .left)) (same .0), same .1)
+          let once = does-once (orderOf line .numbers) (textOf line) d (r .desk) (s .desk) (t .bytes) (u .bytes) (orderOf line .command) (t .does) (u .does) in
+          let same = onto-once out (t .bytes) (u .bytes) at (r .at) (s .at) p q (once .1) (t .onto) (u .onto) in
+          (ap₂ (λ (x : Desk) (n : ℕ). record { desk = x; at = n }) (once .0) (same .0), same .1)
       go false t u = (t .0 ∙ sym (u .0), t .1 ∙ sym (u .1))

@@ -5,6 +5,9 @@ use mathlib.Core.Bool.{Bool, true, false}
 use mathlib.Core.List.{List, []}
 use mathlib.Core.Path.{_≡_}
 use lib.ListN.{drop}
+use Rattle.rules.specs.declared.Set.{Set as Streams}
+use Rattle.rules.specs.declared.State.{State as Scheduled}
+use Rattle.rules.specs.declared.Position.{Position}
 use Rattle.rules.specs.Streams.{emptySet}
 use Rattle.rules.specs.Steps.{startOf}
 use Rattle.ascii.specs.Decimal.{letters}
@@ -12,67 +15,68 @@ use Rattle.ascii.specs.Hex.{unhexed}
 use Rattle.answer_words.specs.Words.{lineOf}
 use Rattle.page.specs.Pages.{roomFor, Onto}
 use Rattle.console_names.specs.declared.Command.{Command}
-use Rattle.console_names.specs.declared.Command.the-variants.{Nothing, Unknown, Set, State, Ask, Replay, Record, Cable}
+use Rattle.console_names.specs.declared.Command.the-variants.{Nothing, Unknown, Set, State, Ask, Replay, Record, Cable, Check}
 use Rattle.console_names.specs.Rows.{nth}
 use Rattle.console_parse.specs.Lines.{orderOf}
 use Rattle.console_set.specs.SetCommands.{setAfter, setLine}
 use Rattle.console_state.specs.StateCommands.{stateAfter, stateLine}
+use Rattle.console_replay.specs.declared.Replay.{Replay as Replayed}
 use Rattle.console_replay.specs.ReplayCommands.{firstReplay, replayAfter, replayStateAfter, replayLineOf}
 use Rattle.console_replay.specs.Records.{recordLines}
+use Rattle.sheet_carried.specs.declared.Carried.{Carried}
 use Rattle.console_cable.specs.CableCommands.{firstCarried, cableAfter, cableSetAfter, cableLine}
-use Rattle.console_ask.specs.Questions.{Prints as AskPrints, answerRoom}
+use Rattle.console_check.specs.CheckCommands.{firstPosition, Checked}
+use Rattle.console_ask.specs.Questions.{Prints, answerRoom}
 use Rattle.console_obey.specs.declared.Desk.{Desk}
 use Rattle.console_obey.specs.declared.Step.{Step}
 
 -- "The console holds a set (at first the empty set) and a state (at first the start of the empty set)." And a recording: "At first it is
--- empty." And what is carried of a sheet in pieces: "(So it is at first.)"
+-- empty." And what is carried of a sheet in pieces: "(So it is at first.)" And a position of the check: "At first it is the empty set and length 1."
 abbrev pub firstDesk : Desk
-firstDesk = record { set = emptySet; state = startOf emptySet .state; replay = firstReplay; carried = firstCarried }
+firstDesk = record { set = emptySet; state = startOf emptySet .state; replay = firstReplay; carried = firstCarried; position = firstPosition }
 
--- What a command with these numbers leaves; `text` is what stands behind them: the steps of a trace for `record`, else hex.
-abbrev pub leaves : Command → List ℕ → List ℕ → Desk → Desk
-leaves Nothing ns text d = d
--- "A line that is not one of those below .. prints `?` and changes nothing."
-leaves Unknown ns text d = d
--- "the set becomes": the state stays; "the state becomes": the set stays
-leaves (Set k) ns text d = record { set = setAfter k ns (unhexed text) (d .set); state = d .state; replay = d .replay; carried = d .carried }
-leaves (State k) ns text d = record { set = d .set; state = stateAfter k ns (d .set) (d .state); replay = d .replay; carried = d .carried }
-leaves (Ask q) ns text d = d
--- "one step of the replay on the console's state"
-leaves (Replay k) ns text d =
-    record {
-      set = d .set;
-      state = replayStateAfter k (d .replay) (d .state);
-      replay = replayAfter k ns (unhexed text) (d .state) (d .replay);
-      carried = d .carried;
-    }
-leaves Record ns text d = d
--- "does what it does with the set, and the carried state is new again"
-leaves (Cable k) ns text d =
-    record {
-      set = cableSetAfter k (d .carried) (d .set);
-      state = d .state;
-      replay = d .replay;
-      carried = cableAfter k (unhexed text) (d .carried);
-    }
+-- "the set becomes": all else stays; so with each part of a desk
+abbrev pub withSet : Streams → Desk → Desk
+withSet x d = record { set = x; state = d .state; replay = d .replay; carried = d .carried; position = d .position }
 
--- The bytes that it prints.
-abbrev pub Prints : Command → List ℕ → List ℕ → Desk → List ℕ → Type 0
+abbrev pub withState : Scheduled → Desk → Desk
+withState s d = record { set = d .set; state = s; replay = d .replay; carried = d .carried; position = d .position }
+
+abbrev pub withReplay : Replayed → Desk → Desk
+withReplay t d = record { set = d .set; state = d .state; replay = t; carried = d .carried; position = d .position }
+
+abbrev pub withCarried : Carried → Desk → Desk
+withCarried c d = record { set = d .set; state = d .state; replay = d .replay; carried = c; position = d .position }
+
+abbrev pub withPosition : Position → Desk → Desk
+withPosition p d = record { set = d .set; state = d .state; replay = d .replay; carried = d .carried; position = p }
+
+-- What a command with these numbers does: it leaves the desk e, and prints the bytes w. `text` is what stands behind the numbers: the
+-- steps of a trace for `record`, else hex.
+abbrev pub Does : Command → List ℕ → List ℕ → Desk → Desk → List ℕ → Type 0
 -- "An empty line prints nothing."
-Prints Nothing ns text d w = w ≡ []
-Prints Unknown ns text d w = w ≡ lineOf (letters "?")
-Prints (Set k) ns text d w = w ≡ setLine k (unhexed text)
-Prints (State k) ns text d w = w ≡ stateLine k ns (d .set) (d .state)
-Prints (Ask q) ns text d w = AskPrints q ns (d .set) (d .state) w
-Prints (Replay k) ns text d w = w ≡ replayLineOf k (unhexed text) (d .state) (d .replay)
-Prints Record ns text d w = w ≡ recordLines text (nth ns 0)
-Prints (Cable k) ns text d w = w ≡ cableLine k (unhexed text) (d .carried)
+Does Nothing ns text d e w = (e ≡ d) × (w ≡ [])
+-- "A line that is not one of those below .. prints `?` and changes nothing."
+Does Unknown ns text d e w = (e ≡ d) × (w ≡ lineOf (letters "?"))
+Does (Set k) ns text d e w = (e ≡ withSet (setAfter k ns (unhexed text) (d .set)) d) × (w ≡ setLine k (unhexed text))
+Does (State k) ns text d e w = (e ≡ withState (stateAfter k ns (d .set) (d .state)) d) × (w ≡ stateLine k ns (d .set) (d .state))
+Does (Ask q) ns text d e w = (e ≡ d) × Prints q ns (d .set) (d .state) w
+-- "one step of the replay on the console's state"
+Does (Replay k) ns text d e w =
+    (e ≡ withReplay (replayAfter k ns (unhexed text) (d .state) (d .replay)) (withState (replayStateAfter k (d .replay) (d .state)) d))
+    × (w ≡ replayLineOf k (unhexed text) (d .state) (d .replay))
+Does Record ns text d e w = (e ≡ d) × (w ≡ recordLines text (nth ns 0))
+-- "does what it does with the set, and the carried state is new again"
+Does (Cable k) ns text d e w =
+    (e ≡ withCarried (cableAfter k (unhexed text) (d .carried)) (withSet (cableSetAfter k (d .carried) (d .set)) d))
+    × (w ≡ cableLine k (unhexed text) (d .carried))
+-- a check is a relation: it says of the position that is left that it is the one
+Does (Check k) ns text d e w = (e ≡ withPosition (e .position) d) × Checked k ns (d .set) (d .position) (e .position) w
 
 -- A command obeyed: what it leaves, and the page with what it prints.
 pub record Stepped (d : Desk) (k : Command) (ns text out : List ℕ) (at : ℕ) (r : Step) (page : List ℕ) : Type 0 where
-  pub left : r .desk ≡ leaves k ns text d
   pub bytes : List ℕ
-  pub prints : Prints k ns text d bytes
+  pub does : Does k ns text d (r .desk) bytes
   pub onto : Onto out at bytes (r .at) page
 
 -- the text of a line, from where it starts

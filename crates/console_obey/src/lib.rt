@@ -10,6 +10,7 @@ ghost use Rattle.console_parse.specs.Lines.{longest};
 ghost use Rattle.console_ask.specs.Questions.{answerRoom};
 ghost use Rattle.console_obey.specs.Obeyed.{firstDesk, Stepped, Obeys};
 use console_names::CableCommand;
+use console_names::CheckCommand;
 use console_names::Command;
 use console_names::NUMBERS;
 use console_names::Question;
@@ -17,6 +18,7 @@ use console_names::ReplayCommand;
 use console_names::SetCommand;
 use console_names::StateCommand;
 use console_replay::Replay;
+use rules::Position;
 use rules::Set;
 use rules::State;
 use sheet_carried::Carried;
@@ -27,6 +29,7 @@ pub struct Desk {
     pub state: State,
     pub replay: Replay,
     pub carried: Carried,
+    pub position: Position,
 }
 
 // What the console holds after a command, and where the page ends.
@@ -44,11 +47,13 @@ pub fn first() -> Desk
     let state = r.state;
     let replay = console_replay::first();
     let carried = sheet_read::cable();
+    let position = console_check::first();
     Desk {
         set,
         state,
         replay,
         carried,
+        position,
     }
 }
 
@@ -78,12 +83,14 @@ fn set_step(
     let state = d.state;
     let replay = d.replay;
     let carried = d.carried;
+    let position = d.position;
     let end = page::append(out, at, a.line);
     let desk = Desk {
         set,
         state,
         replay,
         carried,
+        position,
     };
     Step { desk, at: end }
 }
@@ -103,12 +110,14 @@ fn state_step(
     let state = a.state;
     let replay = d.replay;
     let carried = d.carried;
+    let position = d.position;
     let end = page::append(out, at, a.line);
     let desk = Desk {
         set,
         state,
         replay,
         carried,
+        position,
     };
     Step { desk, at: end }
 }
@@ -145,12 +154,14 @@ fn replayed_step(
     let stepped = a.state;
     let replay = a.replay;
     let carried = d.carried;
+    let position = d.position;
     let end = page::append(out, at, a.line);
     let desk = Desk {
         set,
         state: stepped,
         replay,
         carried,
+        position,
     };
     Step { desk, at: end }
 }
@@ -180,12 +191,41 @@ fn cable_step(
     let state = d.state;
     let replay = d.replay;
     let fed = a.carried;
+    let position = d.position;
     let end = page::append(out, at, a.line);
     let desk = Desk {
         set: closed,
         state,
         replay,
         carried: fed,
+        position,
+    };
+    Step { desk, at: end }
+}
+
+fn check_step(
+    d: Desk,
+    k: CheckCommand,
+    n: [u32; NUMBERS],
+    text: &[u8],
+    out: &mut [u8],
+    at: usize,
+) -> Step
+    ensures { λ r. ⌜ Stepped d (Command.Check k) n (now (text .entry)) (now (out .entry)) at r (now (out .exit)) ⌝ }
+{
+    let a = console_check::after(d.set, d.position, k, n);
+    let set = d.set;
+    let state = d.state;
+    let replay = d.replay;
+    let carried = d.carried;
+    let gone = a.position;
+    let end = page::append(out, at, a.line);
+    let desk = Desk {
+        set,
+        state,
+        replay,
+        carried,
+        position: gone,
     };
     Step { desk, at: end }
 }
@@ -213,6 +253,7 @@ fn command_step(
         Command::Replay(c) => replayed_step(d, c, n, text, bytes, out, at),
         Command::Record => record_step(d, n, text, out, at),
         Command::Cable(c) => cable_step(d, c, n, text, bytes, out, at),
+        Command::Check(c) => check_step(d, c, n, text, out, at),
     }
 }
 

@@ -16,7 +16,7 @@ use Rattle.rules.proofs.Cycles.{least-is-h}
 use Rattle.rules.proofs.Judge.{overloads, too-long}
 use Rattle.rules.proofs.Verdicts.{verdict-unique}
 use Rattle.rules.proofs.Resumed.{lengths-unique, not-stopped}
-use Rattle.rules.specs.Resumed.{Early, StopsWith}
+use Rattle.rules.specs.Resumed.{AtOpening, StopsWith}
 use Rattle.load_cycles.specs.declared.Joined.{Joined}
 use Rattle.load_cycles.specs.declared.Joined.the-variants.{Is, Above}
 use Rattle.load_cycles.specs.declared.Opening.{Opening}
@@ -26,14 +26,14 @@ use Rattle.load_cycles.specs.Openings.{UpTo, OpeningOf}
 
 pub verdict-refused : (x : Set) → valid x ≡ false → StopsWith x (Refused OutOfRule)
 unfolding VerdictOf
-verdict-refused x bad = record { verdict = rw bad refl; early = tt }
+verdict-refused x bad = record { verdict = rw bad refl; opening = tt }
 
 pub verdict-is : (x : Set) (v : Verdict) → valid x ≡ true → JudgedByH (streamsOf x) v → VerdictOf x v
 unfolding VerdictOf
 verdict-is x v ok j = rw ok j
 
-stops-is : (x : Set) (v : Verdict) → valid x ≡ true → Early v → JudgedByH (streamsOf x) v → StopsWith x v
-stops-is x v ok early j = record { verdict = verdict-is x v ok j; early = early }
+stops-is : (x : Set) (v : Verdict) → valid x ≡ true → AtOpening v → JudgedByH (streamsOf x) v → StopsWith x v
+stops-is x v ok early j = record { verdict = verdict-is x v ok j; opening = early }
 
 -- H of the cycles that were joined, r, where it is not above 1,000,000
 joined-h : (x : Set) {r : Joined} {h : ℕ} → JoinedBy 1 (CommonOf (streamsOf x)) r → r ≡ Is h → JoinedBy 1 (CommonOf (streamsOf x)) (Is h)

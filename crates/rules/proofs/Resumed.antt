@@ -27,7 +27,7 @@ use Rattle.rules.specs.declared.GoResult.{GoResult}
 use Rattle.rules.specs.Streams.{streamsOf, valid}
 use Rattle.rules.specs.Valid.{Between}
 use Rattle.rules.specs.Load.{demand, load, lastLength, longestH, Opens, JudgedByH, VerdictIf, VerdictOf, NoneLate, FirstLate}
-use Rattle.rules.specs.Resumed.{Lengths, at, noPosition, Resumes, Early, StopsWith, OpenBy, OpenOf, Barred, stopped, before, behind, GoesOn, past, FallsFrom, Ends, GoBy, GoOf, Only12, PositionsKept, TwelveExactly, Underway, Stand, next, fallen, Calls, none, goes, falls, itself, together, AnyDivision, NoVerdictYet, LongEnough, OneCall}
+use Rattle.rules.specs.Resumed.{Lengths, at, noPosition, Resumes, AtOpening, StopsWith, OpenBy, OpenOf, Barred, stopped, before, behind, GoesOn, past, FallsFrom, Ends, GoBy, GoOf, Only12, PositionsKept, TwelveExactly, Underway, Stand, next, fallen, Calls, none, goes, falls, itself, together, AnyDivision, NoVerdictYet, LongEnough, OneCall}
 use Rattle.rules.proofs.Valid.{valid-set}
 use Rattle.rules.proofs.Cycles.{hOf, h-of}
 use Rattle.rules.proofs.Judge.{Fits, fits-one, accepts, is-late, overloads}
@@ -71,7 +71,7 @@ lengths-unique x e d a b =
     a .last ∙ ap (lastLength (streamsOf x)) (h-unique (streamsOf x) (a .h) (b .h) (a .opens .is-h) (b .opens .is-h)) ∙ sym (b .last)
 
 -- a set that is stopped has no lengths
-apart : (ss : List Stream) (h : ℕ) (v : Verdict) → Opens ss h → Early v → JudgedByH ss v → ⊥
+apart : (ss : List Stream) (h : ℕ) (v : Verdict) → Opens ss h → AtOpening v → JudgedByH ss v → ⊥
 apart ss h Accept o early j = early
 apart ss h (Late i w) o early j = early
 apart ss h Overload o early j =
@@ -81,7 +81,7 @@ apart ss h (Refused why) o early j = omega (arith, h-unique ss (j .h) h (j .is-h
 
 pub not-stopped : (x : Set) (v : Verdict) (e : ℕ) → StopsWith x v → Lengths x e → ⊥
 unfolding VerdictOf
-not-stopped x v e s l = apart (streamsOf x) (l .h) v (l .opens) (s .early) (rw (l .ok) at (s .verdict))
+not-stopped x v e s l = apart (streamsOf x) (l .h) v (l .opens) (s .opening) (rw (l .ok) at (s .verdict))
 
 pub not-barred : (p : Position) (e : ℕ) → Barred p → Resumes p e → ⊥
 not-barred p e (stopped {v = v} s) r = not-stopped (p .set) v e s (r .lengths)
@@ -175,16 +175,16 @@ lengths-of x ok s l =
       last = refl;
     }
 
-stops-as : (x : Set) (v : Verdict) → valid x ≡ true → Early v → JudgedByH (streamsOf x) v → OpenOf x (stops v)
+stops-as : (x : Set) (v : Verdict) → valid x ≡ true → AtOpening v → JudgedByH (streamsOf x) v → OpenOf x (stops v)
 unfolding VerdictOf
-stops-as x v ok early j = (record { verdict = rw ok j; early = early }, refl)
+stops-as x v ok early j = (record { verdict = rw ok j; opening = early }, refl)
 
 pub open-right : (x : Set) → OpenOf x (openOf x)
 unfolding openOf VerdictOf
 open-right x = by-test (valid x) good bad
   where
     bad : valid x ≡ false → OpenOf x (openOf x)
-    bad b = rw b (record { verdict = rw b refl; early = tt }, refl)
+    bad b = rw b (record { verdict = rw b refl; opening = tt }, refl)
 
     light : valid x ≡ true → hOf (streamsOf x) ≤ longestH → (b : Bool) → leb (load (streamsOf x) (hOf (streamsOf x))) (hOf (streamsOf x)) ≡ b
         → OpenOf x (cond b (begins x) (stops Overload))

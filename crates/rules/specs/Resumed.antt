@@ -49,16 +49,16 @@ pub record Resumes (p : Position) (e : ℕ) : Type 0 where
 -- ---- the opening
 
 -- "7, 8 and overload are answered at the opening, before any length"
-abbrev pub Early : Verdict → Type 0
-Early Accept = ⊥
-Early (Late i w) = ⊥
-Early Overload = Unit {0}
-Early (Refused why) = Unit {0}
+abbrev pub AtOpening : Verdict → Type 0
+AtOpening Accept = ⊥
+AtOpening (Late i w) = ⊥
+AtOpening Overload = Unit {0}
+AtOpening (Refused why) = Unit {0}
 
 -- a set the opening stops
 pub record StopsWith (x : Set) (v : Verdict) : Type 0 where
   pub verdict : VerdictOf x v
-  pub early : Early v
+  pub opening : AtOpening v
 
 abbrev pub OpenBy : Set → OpenAnswer → Position → Type 0
 OpenBy x Opened p = ((e : ℕ) × Lengths x e) × (p ≡ at x 1)

@@ -20,13 +20,31 @@ enum-told-3 : tie.Need-enum-told-3
 enum-told-3 c = search needs
 
 returns : tie.Need-returns
-returns c = record { given = c .before .before .before .before .go .result; is-call = c .before .before .before .before .go .ensures; position = rw (c .enum-told .given .1) refl; line = c .before .before .go-line .ensures }
+returns c =
+    let g = c .before .before .before .before .go in
+    record {
+      bytes = _;
+      so = record { given = g .result; is-call = g .ensures; position = rw (c .enum-told .given .1) refl; line = refl };
+      line = c .before .before .go-line .ensures;
+    }
 
 returns-2 : tie.Need-returns-2
-returns-2 c = record { given = c .before .before .before .before .go .result; is-call = c .before .before .before .before .go .ensures; position = rw (c .enum-told2 .given .1) refl; line = c .before .before .go-line .ensures }
+returns-2 c =
+    let g = c .before .before .before .before .go in
+    record {
+      bytes = _;
+      so = record { given = g .result; is-call = g .ensures; position = rw (c .enum-told2 .given .1) refl; line = refl };
+      line = c .before .before .go-line .ensures;
+    }
 
 returns-3 : tie.Need-returns-3
-returns-3 c = record { given = c .before .before .before .before .go .result; is-call = c .before .before .before .before .go .ensures; position = rw (c .enum-told3 .given .1) refl; line = c .before .before .go-line .ensures }
+returns-3 c =
+    let g = c .before .before .before .before .go in
+    record {
+      bytes = _;
+      so = record { given = g .result; is-call = g .ensures; position = rw (c .enum-told3 .given .1) refl; line = refl };
+      line = c .before .before .go-line .ensures;
+    }
 
 pub gone-spec : {M : Type 1} → statement M
 gone-spec =

@@ -17,10 +17,22 @@ enum-told-2 : tie.Need-enum-told-2
 enum-told-2 c = search needs
 
 returns : tie.Need-returns
-returns c = record { given = c .before .before .before .before .«open» .result; is-opening = c .before .before .before .before .«open» .ensures; position = rw (c .enum-told .given .1) refl; line = c .before .before .open-line .ensures }
+returns c =
+    let o = c .before .before .before .before .«open» in
+    record {
+      bytes = _;
+      so = record { given = o .result; is-opening = o .ensures; position = rw (c .enum-told .given .1) refl; line = refl };
+      line = c .before .before .open-line .ensures;
+    }
 
 returns-2 : tie.Need-returns-2
-returns-2 c = record { given = c .before .before .before .before .«open» .result; is-opening = c .before .before .before .before .«open» .ensures; position = rw (c .enum-told2 .given .1) refl; line = c .before .before .open-line .ensures }
+returns-2 c =
+    let o = c .before .before .before .before .«open» in
+    record {
+      bytes = _;
+      so = record { given = o .result; is-opening = o .ensures; position = rw (c .enum-told2 .given .1) refl; line = refl };
+      line = c .before .before .open-line .ensures;
+    }
 
 pub opened-spec : {M : Type 1} → statement M
 opened-spec =

@@ -1,7 +1,7 @@
 -- `console_names::row_of` meets its contract.
 -- Assumes nothing.
 use mathlib.Core.Path.{ap, _∙_}
-use Rattle.console_names.specs.Rows.{setRow, stateRow, questionRow, replayRow, cableRow, rowOf}
+use Rattle.console_names.specs.Rows.{setRow, stateRow, questionRow, replayRow, cableRow, checkRow, rowOf}
 use borrow.Author.Needs.{needs}
 use Rattle.console_names.proofs.row_of.Statement.{statement}
 use Rattle.console_names.proofs.row_of.Tie as tie
@@ -24,15 +24,20 @@ replay-row-requires c κs = search needs
 cable-row-requires : tie.Need-cable-row-requires
 cable-row-requires c κs = search needs
 
+check-row-requires : tie.Need-check-row-requires
+check-row-requires c κs = search needs
+
 returns : tie.Need-returns
 unfolding rowOf
 returns c =
-    let q = c .before .before in
+    let r = c .before .before in
+    let q = r .before in
     let set = q .before .before in
-    c .cable-row .ensures
-    ∙ ap (cableRow _) (c .before .replay-row .ensures
+    c .check-row .ensures
+    ∙ ap (checkRow _) (c .before .cable-row .ensures
+    ∙ ap (cableRow _) (r .replay-row .ensures
     ∙ ap (replayRow _) (q .question-row .ensures
-    ∙ ap (questionRow _) (q .before .state-row .ensures ∙ ap (stateRow _) (set .set-row .ensures ∙ ap (setRow _) (set .before .asks .ensures)))))
+    ∙ ap (questionRow _) (q .before .state-row .ensures ∙ ap (stateRow _) (set .set-row .ensures ∙ ap (setRow _) (set .before .asks .ensures))))))
 
 pub row-of-spec : {M : Type 1} → statement M
 row-of-spec =
@@ -44,4 +49,5 @@ row-of-spec =
     question-row-requires
     replay-row-requires
     cable-row-requires
+    check-row-requires
     returns)

@@ -50,6 +50,12 @@ enum-known-k-5 c = search needs
 cable-step-requires : tie.Need-cable-step-requires
 cable-step-requires c κs = search needs
 
+enum-known-k-6 : tie.Need-enum-known-k-6
+enum-known-k-6 c = search needs
+
+check-step-requires : tie.Need-check-step-requires
+check-step-requires c κs = search needs
+
 returns : tie.Need-returns
 returns c =
     let a = c .before .before .before .before .before .args in
@@ -118,6 +124,15 @@ returns-8 c =
     let a = e .before .before .before .before .before .args in
     by-command (a .d) (a .n) (a .text .now) (a .out .now) (a .at) (a .k) _ _ _ (e .k5 .given .1) (c .before .before .cable-step .ensures)
 
+same-length-8 : tie.Need-same-length-8
+same-length-8 c = search needs
+
+returns-9 : tie.Need-returns-9
+returns-9 c =
+    let e = c .before .before .before .before .before in
+    let a = e .before .before .before .before .before .args in
+    by-command (a .d) (a .n) (a .text .now) (a .out .now) (a .at) (a .k) _ _ _ (e .k6 .given .1) (c .before .before .check-step .ensures)
+
 pub command-step-spec : {M : Type 1} → statement M
 command-step-spec =
     tie.close
@@ -137,6 +152,8 @@ command-step-spec =
     record-step-requires
     enum-known-k-5
     cable-step-requires
+    enum-known-k-6
+    check-step-requires
     returns
     same-length
     returns-2
@@ -151,4 +168,6 @@ command-step-spec =
     same-length-6
     returns-7
     same-length-7
-    returns-8)
+    returns-8
+    same-length-8
+    returns-9)

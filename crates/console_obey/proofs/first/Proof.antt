@@ -17,8 +17,12 @@ first-requires c κs = search needs
 cable-requires : tie.Need-cable-requires
 cable-requires c κs = search needs
 
+first-requires-2 : tie.Need-first-requires-2
+first-requires-2 c κs = search needs
+
 returns : tie.Need-returns
-returns c = begun _ _ _ _ (c .before .before .before .before .empty-set .ensures) (c .before .before .before .start .ensures) (c .before .first .ensures) (c .cable .ensures)
+returns c = let b = c .before in
+    begun _ _ _ _ _ (b .before .before .before .before .empty-set .ensures) (b .before .before .before .start .ensures) (b .before .first .ensures) (b .cable .ensures) (c .first2 .ensures)
 
 pub first-spec : {M : Type 1} → statement M
-first-spec = tie.close (tie.spec empty-set-requires start-requires first-requires cable-requires returns)
+first-spec = tie.close (tie.spec empty-set-requires start-requires first-requires cable-requires first-requires-2 returns)
