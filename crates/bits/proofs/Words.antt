@@ -94,6 +94,21 @@ word-four s i a b c d h ea eb ec ed =
       word-more s i 3 (omega arith) (omega arith),
     )
 
+-- some bytes and those behind them
+pub word-joined : (s : List ℕ) (i a b : ℕ) → i + a + b ≤ length s → wordOf s i (a + b) ≡ wordOf s i a * 2 ^ (8 * b) + wordOf s (i + a) b
+word-joined s i a b h =
+    let t : List ℕ = drop i s in
+    ap (λ (l : List ℕ). value (bits l)) (take-add a b t) ∙ ap value (bits-append (take a t) (take b (drop a t)))
+    ∙ onto-append 0 (bits (take a t)) (bits (take b (drop a t))) ∙ onto-value (value (bits (take a t))) (bits (take b (drop a t)))
+    ∙ ap (λ (l : List ℕ). wordOf s i a * 2 ^ length (bits (take b l)) + value (bits (take b l))) (drop-drop a i s)
+    ∙ ap (λ (n : ℕ). wordOf s i a * 2 ^ n + wordOf s (i + a) b) (word-length s (i + a) b h)
+
+-- a field that lies in eight bytes
+pub eight-field : (s : List ℕ) (i bit w v : ℕ) → i + 8 ≤ length s → bit + w ≤ 64 → v ≡ wordOf s i 8 → v * 2 ^ bit % 2 ^ 64 / 2 ^ (64 - w) ≡ fieldAt s (8 * i + bit) w
+eight-field s i bit w v h k e =
+    ap₂ (λ (x j : ℕ). x * 2 ^ j % 2 ^ 64 / 2 ^ (64 - w)) e (let q : bit ≡ 64 - (8 * 8 - bit) = omega arith in q)
+    ∙ word-field s i bit w 8 h k (omega arith)
+
 -- a field that lies in four bytes
 pub near-field : (s : List ℕ) (i bit w v : ℕ) → i + 4 ≤ length s → bit + w ≤ 32 → v ≡ wordOf s i 4 → v * 2 ^ (32 + bit) % 2 ^ 64 / 2 ^ (64 - w) ≡ fieldAt s (8 * i + bit) w
 near-field s i bit w v h k e =

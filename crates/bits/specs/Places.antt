@@ -2,12 +2,13 @@
 -- Assumes nothing.
 use Prim.Native.Nat.{ℕ, _+_, _-_, _*_, _<_, _≤_, min}
 use mathlib.Core.List.{List}
-use mathlib.Core.Bool.{Bool, cond}
+use mathlib.Core.Bool.{Bool, true, false, cond, _&&_}
 use lib.ListN.{length, take, drop}
 use lib.Seq.{paste}
-use lib.Dec.{leb}
+use lib.Dec.{leb, ltb}
 use Rattle.laws.specs.Bits.{bits, toBits, value}
 use Rattle.bits.specs.declared.Gathered.{Gathered}
+use Rattle.bits.specs.declared.Two.{Two}
 use Rattle.bits.specs.declared.Taken.{Taken}
 use Rattle.bits.specs.declared.Taken.the-variants.{Field, Missing, TooWide}
 use Rattle.bits.specs.declared.Placing.{Placing}
@@ -38,6 +39,17 @@ gotOf n at w = min (min w 64) (behind n at)
 
 unfoldable pub gatherOf : List ℕ → ℕ → ℕ → Gathered
 gatherOf s at w = record { value = fieldAt s at (gotOf (length s) at w); got = gotOf (length s) at w }
+
+-- two fields that lie in the eight bytes from a byte on, and the eight bytes are there
+unfoldable pub inEight : ℕ → ℕ → ℕ → ℕ → ℕ → Bool
+inEight n byte bit a b = leb 8 (n - byte) && (ltb bit 8 && ((ltb 0 a && leb a 32) && (ltb 0 b && leb b 24)))
+
+-- both of them, or neither
+unfoldable pub twoOf : List ℕ → ℕ → ℕ → ℕ → ℕ → Two
+twoOf s byte bit a b =
+    cond (inEight (length s) byte bit a b)
+    (record { there = true; first = fieldAt s (8 * byte + bit) a; second = fieldAt s (8 * byte + bit + a) b })
+    (record { there = false; first = 0; second = 0 })
 
 -- a whole field, or nothing of it
 unfoldable pub takeOf : List ℕ → ℕ → ℕ → Taken

@@ -7,7 +7,7 @@ ghost use Prim.Native.Nat.{_+_, _-_, _*_, _^_, _<_, _≤_};
 ghost use lib.ListN.{length, set};
 ghost use lib.Seq.{paste};
 ghost use Rattle.laws.specs.Bits.{bits, toBits};
-ghost use Rattle.bits.specs.Places.{wordOf, Near, fieldAt, gotOf, gatherOf, takeOf, putOf, putBits};
+ghost use Rattle.bits.specs.Places.{wordOf, Near, fieldAt, gotOf, gatherOf, inEight, twoOf, takeOf, putOf, putBits};
 
 // Bits that were taken: the number that they stand for, and how many there were.
 pub struct Gathered {
@@ -20,6 +20,13 @@ pub enum Taken {
     Field(u64),
     Missing,
     TooWide,
+}
+
+// Two fields that were taken at once.
+pub struct Two {
+    pub there: bool,
+    pub first: u32,
+    pub second: u32,
 }
 
 // Whether a field was put.
@@ -141,6 +148,48 @@ pub fn gather(s: &[u8], byte: usize, bit: u32, width: u32) -> Gathered
         };
     }
     far(s, byte, bit, width)
+}
+
+// Eight bytes as one number.
+fn eight(s: &[u8], byte: usize) -> u64
+    requires { ⌜ byte + 8 ≤ length (now s) ⌝ }
+    ensures { λ r. ⌜ r ≡ wordOf (now (s .entry)) byte 8 ⌝ }
+{
+    let high = four(s, byte);
+    let low = four(s, byte + 4);
+    high * 4294967296 + low
+}
+
+// Whether two fields lie in the eight bytes from a byte on, and all eight are there.
+fn in_eight(len: usize, byte: usize, bit: u32, first: u32, second: u32) -> bool
+    ensures { λ r. ⌜ r ≡ inEight len byte bit first second ⌝ }
+{
+    if len <= byte {
+        return false;
+    }
+    let there = 8 <= len - byte;
+    let one = (0 < first) & (first <= 32);
+    let other = (0 < second) & (second <= 24);
+    there & ((bit < 8) & (one & other))
+}
+
+// Two fields, one behind the other, in eight bytes that are there: both at once, or neither.
+pub fn take_two(s: &[u8], byte: usize, bit: u32, first: u32, second: u32) -> Two
+    ensures { λ r. ⌜ r ≡ twoOf (now (s .entry)) byte bit first second ⌝ }
+{
+    if in_eight(s.len(), byte, bit, first, second) {
+        let w = eight(s, byte);
+        return Two {
+            there: true,
+            first: ((w << bit) >> (64 - first)) as u32,
+            second: ((w << (bit + first)) >> (64 - second)) as u32,
+        };
+    }
+    Two {
+        there: false,
+        first: 0,
+        second: 0,
+    }
 }
 
 // The field of `width` bits at a place.

@@ -1,3 +1,4 @@
 pub mod ByField
 pub mod Turns
+pub mod AtOnce
 pub mod Pieces

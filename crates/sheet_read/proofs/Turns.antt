@@ -7,7 +7,7 @@ use mathlib.Core.Bool.{Bool, true, false, cond, _&&_}
 use mathlib.Core.Logic.{_⊎_, inl, inr, ⊎-elim}
 use native.Mathlib.Omega.{arith}
 use lib.ListN.{length, take, drop, set, length-drop, take-append-drop}
-use lib.Seq.{drop-drop, getD-set-other, length-take-le, set-out}
+use lib.Seq.{drop-drop, getD-set-other, getD-set-same, length-take-le, set-out}
 use lib.Arith.{digits-lt}
 use lib.Pow.{pow-add, pow-mono, shl-exact, shl-lt}
 use lib.Dec.{ltb}
@@ -27,10 +27,10 @@ use Rattle.rules.specs.Sheet.{tupleOf}
 use Rattle.sheet_carried.specs.declared.SheetField.{SheetField}
 use Rattle.sheet_carried.specs.declared.Point.{Point}
 use Rattle.sheet_carried.specs.declared.Carried.{Carried}
-use Rattle.sheet_carried.specs.Table.{behindOf, followingOf, inRuleOf, openedOf, refusalOf, widthOf}
+use Rattle.sheet_carried.specs.Table.{behindOf, followingOf, greatestOf, inRuleOf, openedOf, refusalOf, rowOf, widthOf}
 use Rattle.sheet_carried.specs.Reader.{begun, behindCost, behindOffset, behindVersion, frontOf, goesOn, joinedOf, lastStage, nextField, nextOf, nextStage, nextStream, nextTuple, noStages, noTuples, noValues, pointAt, reading, refusedOf, ruleOf, run, stageIn, streamIn, tupled, valueAt, withStream, withVersion}
-use Rattle.sheet_carried.specs.Kept.{Kept, KeptAt, mostWhole}
-use Rattle.sheet_carried.proofs.Rows.{behind-padding, row-some, same-order, width-le, width-none}
+use Rattle.sheet_carried.specs.Kept.{Kept, KeptAt, mostWhole, tuplesWhole}
+use Rattle.sheet_carried.proofs.Rows.{behind-padding, row-some, rule-high, same-order, width-le, width-none}
 use Rattle.sheet_carried.proofs.Keeps.{kept-run}
 use Rattle.sheet_carried.proofs.Chunks.{run-append, run-part, run-stopped, run-whole}
 
@@ -159,10 +159,13 @@ module _ {o : Point} {vs : List ℕ} {gs : List Stage} {ts : List TuplePlace} {x
   pub ahead-kept : (c : Carried) → c ≡ ahead → Kept c
   ahead-kept c h = subst Kept (sym h) (kept-run (carried o vs gs ts x) came (w .kept) came-bits)
 
-  pub ahead-runs : (c b : Carried) (q : ℕ) → c ≡ ahead → q ≡ p + g .got → run (carried o vs gs ts x) (rest t p) ≡ run b (bits t) → run c (rest t q) ≡ run b (bits t)
-  ahead-runs c b q h j i =
+  pub ahead-on : (c : Carried) (q : ℕ) → c ≡ ahead → q ≡ p + g .got → run c (rest t q) ≡ run (carried o vs gs ts x) (rest t p)
+  ahead-on c q h j =
       ap₂ (λ (y : Carried) (m : ℕ). run y (rest t m)) h j ∙ ap (run ahead) (sym (drop-drop (g .got) p (bits t)))
-      ∙ sym (run-append (carried o vs gs ts x) came (drop (g .got) (rest t p))) ∙ ap (run (carried o vs gs ts x)) (take-append-drop (g .got) (rest t p)) ∙ i
+      ∙ sym (run-append (carried o vs gs ts x) came (drop (g .got) (rest t p))) ∙ ap (run (carried o vs gs ts x)) (take-append-drop (g .got) (rest t p))
+
+  pub ahead-runs : (c b : Carried) (q : ℕ) → c ≡ ahead → q ≡ p + g .got → run (carried o vs gs ts x) (rest t p) ≡ run b (bits t) → run c (rest t q) ≡ run b (bits t)
+  ahead-runs c b q h j i = ahead-on c q h j ∙ i
 
   module _ (n : Point) (jn : n ≡ joinedOf o g) where
     -- the number that they make with those that had come
@@ -261,20 +264,45 @@ module _ {n : Point} {vs : List ℕ} {gs : List Stage} {ts : List TuplePlace} {x
     unfolding nextField
     turn-field h i j new e = ap (λ (y : Point). carried y (set vs f v) gs ts x) e ∙ other-is h i j
 
-    -- a task and a cycle, whose places and next rows the code names
+    -- a limit of tuples and a cycle, whose next row is the same in both versions
     named : (g : ℕ) → (g ≡ 8 → ⊥) → (g ≡ 5 → ⊥) → (g ≡ 0 → ⊥) → g + 1 ≡ followingOf (x .version) g v → f ≡ g → (new : Point) → new ≡ pointAt (g + 1) (n .whole) → carried new (set vs g v) gs ts x ≡ c
     named g a d e k h new i =
         ap (λ (j : ℕ). carried new (set vs j v) gs ts x) (sym h)
         ∙ turn-field (λ q. a (sym h ∙ q)) (λ q. d (sym h ∙ q)) (λ q. e (sym h ∙ q)) new
         (i ∙ ap (λ (j : ℕ). pointAt j (n .whole)) (k ∙ ap (λ (j : ℕ). followingOf (x .version) j v) (sym h)))
 
-    pub turn-task : f ≡ 4 → (new : Point) → new ≡ pointAt 5 (n .whole) → carried new (set vs 4 v) gs ts x ≡ c
-    unfolding followingOf
-    turn-task = named 4 (λ e. omega arith) (λ e. omega arith) (λ e. omega arith) (sym (same-order 4 refl refl (x .version)))
-
     pub turn-cycle : f ≡ 7 → (new : Point) → new ≡ pointAt 8 (n .whole) → carried new (set vs 7 v) gs ts x ≡ c
     unfolding followingOf
     turn-cycle = named 7 (λ e. omega arith) (λ e. omega arith) (λ e. omega arith) (sym (same-order 7 refl refl (x .version)))
+
+    -- before the first cycle of a stream no tuple has come
+    module _ (h : f ≡ 6) where
+      at-limit : KeptAt 6 (n .whole) vs gs ts x
+      at-limit = subst (λ (i : ℕ). KeptAt i (n .whole) vs gs ts x) h (b .at)
+
+      none-whole : n .whole ≡ 0
+      unfolding mostWhole
+      none-whole = omega (arith, at-limit .most)
+
+      none-placed : ts ≡ noTuples
+      unfolding tuplesWhole
+      none-placed = at-limit .tuples .unused
+
+      pub turn-limit : begun 7 0 (set vs 6 v) gs noTuples x ≡ c
+      unfolding followingOf
+      turn-limit =
+          ap₂ (λ (m : ℕ) (us : List TuplePlace). begun 7 m (set vs 6 v) gs us x) (sym none-whole) (sym none-placed)
+          ∙ named 6 (λ e. omega arith) (λ e. omega arith) (λ e. omega arith) (sym (same-order 6 refl refl (x .version))) h (pointAt 7 (n .whole)) refl
+
+      pub limit-le : valueAt (set vs 6 v) 6 ≤ 3
+      unfolding greatestOf rowOf
+      limit-le =
+          omega (
+            arith,
+            getD-set-same vs 6 v 0 (omega (arith, b .at .nine)),
+            rule-high f (n .whole) (valueAt vs 8) v r,
+            ap (λ (i : ℕ). greatestOf i (n .whole)) h,
+          )
 
     -- padding has no value to keep
     pub turn-padding : 9 ≤ f → (new : Point) → new ≡ pointAt (f + 1) (n .whole) → carried new vs gs ts x ≡ c

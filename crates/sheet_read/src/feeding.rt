@@ -3,42 +3,19 @@ ghost use mathlib.Core.Path.{_≡_};
 ghost use Prim.Native.Nat.{_+_, _<_, _≤_};
 ghost use Rattle.laws.specs.Bits.{bits};
 ghost use Rattle.rules.specs.Streams.{emptySet, noStream};
-ghost use Rattle.rules.specs.Sheet.{tupleOf};
-ghost use Rattle.sheet_carried.specs.Reader.{frontOf, joinedOf, noStages, noTuples, refusedOf, run, stageIn, startOf, streamIn};
+ghost use Rattle.sheet_carried.specs.Reader.{frontOf, joinedOf, noStages, refusedOf, run, stageIn, startOf, streamIn};
 ghost use Rattle.sheet_carried.specs.Kept.{Holds, Kept};
 use crate::table;
+use crate::tuples;
 use bits::Gathered;
 use rules::Set;
 use rules::Stage;
 use rules::Stream;
-use rules::Tuple;
 use rules::TuplePlace;
 use sheet_carried::Carried;
 use sheet_carried::Point;
 
 // ---- stages, tuples and streams
-
-fn tuple_of(cycle: u32, offset: u32) -> TuplePlace
-    ensures { λ r. ⌜ r ≡ tupleOf cycle offset ⌝ }
-{
-    if cycle == 0 {
-        TuplePlace {
-            tuple: Tuple::Once(offset),
-        }
-    } else {
-        TuplePlace {
-            tuple: Tuple::Every(cycle, offset),
-        }
-    }
-}
-
-fn no_tuples() -> [TuplePlace; 4]
-    ensures { λ r. ⌜ r ≡ noTuples ⌝ }
-{
-    [TuplePlace {
-        tuple: Tuple::Once(0),
-    }; 4]
-}
 
 fn wide(v: u32) -> usize
     ensures { λ r. ⌜ r ≡ v ⌝ }
@@ -88,7 +65,7 @@ fn no_stream() -> Stream
         stages: no_stages(),
         deadline: 0,
         count: 0,
-        tuples: no_tuples(),
+        tuples: tuples::no_tuples(),
     }
 }
 
@@ -125,7 +102,7 @@ pub(crate) fn start() -> Carried
         point: table::begun(table::VERSION, 0),
         values: [0; 9],
         stages: no_stages(),
-        places: no_tuples(),
+        places: tuples::no_tuples(),
         set: stream_valid::empty_set(),
     }
 }
@@ -139,7 +116,7 @@ fn refused(f: usize, x: Set) -> Carried
         point: table::begun(f, 0),
         values: [0; 9],
         stages: no_stages(),
-        places: no_tuples(),
+        places: tuples::no_tuples(),
         set: cleared(x),
     }
 }
@@ -158,7 +135,8 @@ fn joined(p: Point, g: Gathered) -> Point
     }
 }
 
-// The bytes of a sheet, or of a piece of one.
+// The bytes of a sheet, or of a piece of one. `joined` stands twice, so that the compiler sees that a field whose bits came at once is
+// whole; what an unused stream has is made once, so that the compiler copies a stream that is whole in large steps.
 pub(crate) fn feed(s: Carried, piece: &[u8]) -> Carried
     requires { ⌜ Kept s ⌝ }
     ensures { λ r. ⌜ r ≡ run s (bits (now (piece .entry))) ⌝ }
@@ -168,6 +146,8 @@ pub(crate) fn feed(s: Carried, piece: &[u8]) -> Carried
     let mut stages = s.stages;
     let mut places = s.places;
     let mut set = s.set;
+    let blank = no_stages();
+    let none = tuples::no_tuples();
     let mut rule = table::rule(point, values);
     let mut byte: usize = 0;
     let mut bit: u32 = 0;
@@ -176,7 +156,6 @@ pub(crate) fn feed(s: Carried, piece: &[u8]) -> Carried
         let end = bit + g.got;
         byte += (end / 8) as usize;
         bit = end % 8;
-        // `joined` stands twice, so that the compiler sees that a field whose bits came at once is whole
         if g.got < point.left {
             point = joined(point, g);
         } else {
@@ -188,7 +167,7 @@ pub(crate) fn feed(s: Carried, piece: &[u8]) -> Carried
                 return refused(table::refusal(f), set);
             }
             if f == table::OFFSET {
-                places[n] = tuple_of(values[table::CYCLE], v);
+                places[n] = tuples::tuple_of(values[table::CYCLE], v);
                 if n < wide(values[table::TUPLES]) {
                     values[table::CYCLE] = 0;
                     values[table::OFFSET] = v;
@@ -198,24 +177,13 @@ pub(crate) fn feed(s: Carried, piece: &[u8]) -> Carried
                     let k = set.count;
                     set.streams[k] = stream_in(values, stages, n + 1, places);
                     set.count = k + 1;
-                    point = table::begun(
-                        table::opened(set.version, k + 1, wide(values[table::COUNT])),
-                        0,
-                    );
+                    let next = table::opened(set.version, k + 1, wide(values[table::COUNT]));
+                    point = table::begun(next, 0);
                     values = front(values);
-                    stages = no_stages();
-                    places = no_tuples();
+                    stages = blank;
+                    places = none;
                     rule = table::rule(point, values);
                 }
-            } else if f == table::CYCLE {
-                // as any row below, its numbers named: most fields are cycles and offsets, then tasks and costs
-                values[table::CYCLE] = v;
-                point = table::begun(table::OFFSET, n);
-                rule = table::rule(point, values);
-            } else if f == table::TASK {
-                values[table::TASK] = v;
-                point = table::begun(table::COST, n);
-                rule = table::rule(point, values);
             } else if f == table::COST {
                 stages[n] = stage_in(values[table::TASK], v);
                 values[table::TASK] = 0;
@@ -229,6 +197,16 @@ pub(crate) fn feed(s: Carried, piece: &[u8]) -> Carried
             } else if f == table::VERSION {
                 set.version = v;
                 point = table::begun(table::COUNT, n);
+                rule = table::rule(point, values);
+            } else if f == table::TUPLES {
+                values[table::TUPLES] = v;
+                let t = tuples::before_last(values, piece, byte, bit);
+                places = t.places;
+                values[table::CYCLE] = t.cycle;
+                values[table::OFFSET] = t.low;
+                byte = t.byte;
+                bit = t.bit;
+                point = table::begun(table::CYCLE, t.whole);
                 rule = table::rule(point, values);
             } else if f < table::PADDING {
                 values[f] = v;

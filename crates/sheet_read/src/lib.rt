@@ -3,16 +3,28 @@
 mod closing; // closing.rt: what the sheet reads as when no bit comes any more
 mod feeding; // feeding.rt: bits come, field after field
 mod table; // table.rt: the fields of a sheet as data
+mod tuples; // tuples.rt: tuples that come at once
 
 use rules::FeedAnswer;
 use rules::ReadAnswer;
 use rules::ReadResult;
 use rules::Refusal;
+use rules::TuplePlace;
 use sheet_carried::Carried;
 ghost use mathlib.Core.Path.{_≡_};
 ghost use Rattle.rules.specs.Sheet.{readOf};
 ghost use Rattle.sheet_carried.specs.Reader.{startOf};
 ghost use Rattle.sheet_read.specs.Cable.{closedOf, feedOf};
+
+// Tuples that came at once: how many, and the tuples; the cycle and the offset that are kept behind them; the place behind them.
+pub(crate) struct Came {
+    pub whole: usize,
+    pub places: [TuplePlace; 4],
+    pub cycle: u32,
+    pub low: u32,
+    pub byte: usize,
+    pub bit: u32,
+}
 
 // What a string of bytes reads as: the set, or a refusal with the empty set.
 pub fn read(bytes: &[u8]) -> ReadResult

@@ -2,7 +2,7 @@
 ghost use mathlib.Core.Path.{_≡_};
 ghost use Prim.Native.Nat.{_<_};
 ghost use Rattle.laws.specs.Lists.{within};
-ghost use Rattle.sheet_carried.specs.Table.{row, rowOf, greatestOf, refusalOf, behindOf, openedOf, followingOf};
+ghost use Rattle.sheet_carried.specs.Table.{row, rowOf, greatestOf, inRuleOf, refusalOf, behindOf, openedOf, followingOf};
 ghost use Rattle.sheet_carried.specs.Reader.{pointAt, ruleOf};
 use sheet_carried::Point;
 use sheet_carried::SheetField;
@@ -93,6 +93,16 @@ pub(crate) fn in_rule(r: SheetField, v: u32) -> bool
     ensures { λ b. ⌜ b ≡ within (r .least) v (r .greatest) ⌝ }
 {
     (r.least <= v) & (v <= r.greatest)
+}
+
+// Whether `v` may be the value of the field `f`, behind `n` tuples, the last of them at `low`.
+pub(crate) fn fits(f: usize, n: usize, low: u32, v: u32) -> bool
+    ensures { λ b. ⌜ b ≡ inRuleOf f n low v ⌝ }
+{
+    if f == OFFSET {
+        return (low <= v) & (v <= greatest_offset(n));
+    }
+    in_rule(row(f), v)
 }
 
 // The row of the refusal that any other value gets.

@@ -5,7 +5,7 @@ use Rattle.sheet_read.proofs.feeding.no_stream.Tie as tie
 use Rattle.sheet_read.proofs.feeding.no_stream.Reads as reads
 use Rattle.sheet_read.proofs.feeding.no_stream.Lts as lts
 use Rattle.sheet_read.proofs.feeding.no_stages.Reads as no-stages-reads
-use Rattle.sheet_read.proofs.feeding.no_tuples.Reads as no-tuples-reads
+use Rattle.sheet_read.proofs.tuples.no_tuples.Reads as no-tuples-reads
 
 -- src/feeding.rt:85:17
 no-stages-requires : tie.Need-no-stages-requires

@@ -14,7 +14,7 @@ use Rattle.sheet_read.proofs.feeding.refused.Reads as reads
 use Rattle.sheet_read.proofs.feeding.refused.Lts as lts
 use Rattle.sheet_read.proofs.feeding.cleared.Reads as cleared-reads
 use Rattle.sheet_read.proofs.feeding.no_stages.Reads as no-stages-reads
-use Rattle.sheet_read.proofs.feeding.no_tuples.Reads as no-tuples-reads
+use Rattle.sheet_read.proofs.tuples.no_tuples.Reads as no-tuples-reads
 use Rattle.sheet_read.proofs.table.begun.Reads as begun-reads
 
 -- src/feeding.rt:126:16

@@ -5,7 +5,7 @@ use Rattle.sheet_read.proofs.feeding.start.Tie as tie
 use Rattle.sheet_read.proofs.feeding.start.Reads as reads
 use Rattle.sheet_read.proofs.feeding.start.Lts as lts
 use Rattle.sheet_read.proofs.feeding.no_stages.Reads as no-stages-reads
-use Rattle.sheet_read.proofs.feeding.no_tuples.Reads as no-tuples-reads
+use Rattle.sheet_read.proofs.tuples.no_tuples.Reads as no-tuples-reads
 use Rattle.sheet_read.proofs.table.begun.Reads as begun-reads
 use Rattle.stream_valid.proofs.empty_set.Reads as empty-set-reads
 

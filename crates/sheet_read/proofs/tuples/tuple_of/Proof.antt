@@ -1,10 +1,10 @@
 use borrow.Author.Tests.{eq-eqb, ne-eqb}
 use native.Mathlib.Omega.{arith}
 use borrow.Author.Needs.{needs}
-use Rattle.sheet_read.proofs.feeding.tuple_of.Statement.{statement}
-use Rattle.sheet_read.proofs.feeding.tuple_of.Tie as tie
-use Rattle.sheet_read.proofs.feeding.tuple_of.Reads as reads
-use Rattle.sheet_read.proofs.feeding.tuple_of.Lts as lts
+use Rattle.sheet_read.proofs.tuples.tuple_of.Statement.{statement}
+use Rattle.sheet_read.proofs.tuples.tuple_of.Tie as tie
+use Rattle.sheet_read.proofs.tuples.tuple_of.Reads as reads
+use Rattle.sheet_read.proofs.tuples.tuple_of.Lts as lts
 
 -- src/feeding.rt:22:1
 returns : tie.Need-returns
