@@ -3,7 +3,7 @@
 use Prim.Native.Nat.{ℕ, _+_, _-_, _≤_, _<_}
 use mathlib.Core.Bool.{Bool, true, false, cond, false≢true}
 use mathlib.Core.List.{List}
-use mathlib.Core.Path.{_≡_, refl, sym, _∙_}
+use mathlib.Core.Path.{_≡_, refl, ap, sym, _∙_}
 use native.Mathlib.Omega.{arith}
 use borrow.Author.Tests.{ltb-true}
 use lib.Dec.{ltb, eqb}
@@ -11,6 +11,7 @@ use lib.IntN.{ℤ}
 use lib.ListN.{length, set, length-set}
 use lib.Seq.{getD-set-other}
 use Rattle.laws.proofs.Parts.{remove-step, remove-rest}
+use Rattle.laws.proofs.Sums.{by-test}
 use Rattle.laws.specs.Lists.{remove}
 use Rattle.rules.specs.declared.Message.{Message}
 use Rattle.rules.specs.declared.State.{State}
@@ -24,8 +25,9 @@ use Rattle.rules.specs.Steps.{messageAt, placeOf, ticked, stayed, departed, lax
 use Rattle.state_formed.proofs.WellFormed.{well-formed, in-range, unused-zero, stands, stage-place, message-stage}
 use Rattle.state_choosing.specs.declared.ToServe.{ToServe}
 use Rattle.state_choosing.specs.declared.ToServe.the-variants.{IllFormed as NotFormed, Nothing as Nowhere, At}
-use Rattle.state_choosing.specs.ToServe.{serveOf}
-use Rattle.state_choosing.proofs.Looking.{serves, place-count, place-lt}
+use Rattle.state_choosing.specs.declared.Looked.{Looked}
+use Rattle.state_choosing.specs.ToServe.{lookedOf, serveOf}
+use Rattle.state_choosing.proofs.Looking.{looked-found, looked-later, serves, place-count, place-lt}
 use Rattle.scheduler.specs.declared.Work.{Work}
 use Rattle.scheduler.specs.declared.Work.the-variants.{Refused as Refuse, Idle as Rest, Serve}
 use Rattle.scheduler.specs.Serving.{workOf, servedAnswer, departs, steppedOn}
@@ -133,10 +135,23 @@ module _ (s : State) (done : Bool) (f : ToServe) (w : Work) (e : f ≡ serveOf s
   unfolding serveOf unitOf
   unit-by = rw (q, e) (unit-if s (placeOf s) _ _ _ (wellFormed s) (eqb (s .count) 0) _ done refl)
 
--- an idle unit, with what is left to wait
-pub idles : (s : State) (done : Bool) (f : ToServe) → f ≡ serveOf s → Rest ≡ workOf f (s .clock) done → (ws : List ℕ) → ws ≡ waitsLater (s .set .streams) (s .waits)
-    → answered (withWaits (ticked s) ws) Idle ≡ unitOf s done
-idles s done f e q ws later = rw later (unit-by s done f Rest e q)
+-- an idle unit, with what is left to wait: where only the clock moves, the state is well formed
+ill-found : (s : State) → wellFormed s ≡ false → serveOf s ≡ NotFormed
+unfolding serveOf
+ill-found s e = rw e
+
+rest-formed : (f : ToServe) (clock : ℕ) (done : Bool) → Rest ≡ workOf f clock done → f ≡ NotFormed → ⊥
+unfolding workOf
+rest-formed f clock done q e =
+    let h : Rest ≡ Refuse IllFormed = q ∙ ap (λ (g : ToServe). workOf g clock done) e in
+    let z : _≡_ {A = ℕ} 0 1 = cc in omega arith
+
+module _ (s : State) (done : Bool) (r : Looked) (e : r ≡ lookedOf s) (q : Rest ≡ workOf (r .found) (s .clock) done) where
+  idle-formed : wellFormed s ≡ true
+  idle-formed = by-test (wellFormed s) (λ t. t) (λ t. absurd (rest-formed (r .found) (s .clock) done q (looked-found s r e ∙ ill-found s t)))
+
+  pub idles : answered (withWaits (ticked s) (r .later)) Idle ≡ unitOf s done
+  idles = rw (looked-later s r e idle-formed) (unit-by s done (r .found) Rest (looked-found s r e) q)
 
 -- what follows of what was found and of the clock
 abbrev Told : Work → ToServe → ℕ → Type 0
@@ -158,6 +173,7 @@ told w f clock done q = rw q (told-if f clock _ done refl)
 
 -- what a unit of the message at i relies on
 pub record Serving (s : State) (i t c : ℕ) (l : Bool) : Type 0 where
+  pub formed : wellFormed s ≡ true
   pub clock : s .clock < 4000000000
   pub here : i < s .count
   pub place : i < 64
@@ -179,6 +195,7 @@ module _ (s : State) (done : Bool) (f : ToServe) (w : Work) (i t c : ℕ) (l : B
       let well = well-formed s (h .chosen .formed) in
       let in-count = place-count s i (h .chosen) ms ss in
       record {
+        formed = h .chosen .formed;
         clock = at .0;
         here = in-count;
         place = place-lt s i (h .chosen) ms ss;

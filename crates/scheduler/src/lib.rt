@@ -182,9 +182,9 @@ fn stepped(m: Message, done: bool) -> Message
 pub fn unit(s: State, done: bool) -> UnitResult
     ensures { λ r. ⌜ r ≡ unitOf s done ⌝ }
 {
-    let found = state_choosing::look(s);
-    let waits = s.waits;
-    let later = stream_doors::waits_later(s.set, waits);
+    let looked = state_choosing::look(s);
+    let found = looked.found;
+    let later = looked.later;
     let mut next = s;
     let mut a = UnitAnswer::Idle;
     let what = decide(found, next.clock, done);

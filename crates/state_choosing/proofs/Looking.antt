@@ -2,7 +2,8 @@
 -- Assumes nothing.
 use Prim.Native.Nat.{ℕ, _<_}
 use mathlib.Core.Bool.{Bool, true, false, cond}
-use mathlib.Core.Path.{_≡_, refl, sym, _∙_}
+use mathlib.Core.List.{List}
+use mathlib.Core.Path.{_≡_, refl, ap, sym, _∙_}
 use native.Mathlib.Omega.{arith}
 use borrow.Author.Tests.{eqb-false, eq-eqb, ne-eqb}
 use lib.Dec.{eqb}
@@ -10,13 +11,15 @@ use lib.ListN.{length}
 use Rattle.rules.specs.declared.State.{State}
 use Rattle.rules.specs.declared.Refusal.the-variants.{IllFormed as NotFormed}
 use Rattle.rules.specs.declared.ChooseAnswer.the-variants.{Nothing as NoTask, Runs, Refused}
+use Rattle.rules.specs.Doors.{waitsLater}
 use Rattle.rules.specs.States.{taskOf, costOf, wellFormed}
 use Rattle.rules.specs.Steps.{placeOf, messageAt, chooseOf, atLast}
 use Rattle.state_formed.proofs.WellFormed.{well-formed}
 use Rattle.state_choosing.specs.declared.Found.{Found}
 use Rattle.state_choosing.specs.declared.ToServe.{ToServe}
 use Rattle.state_choosing.specs.declared.ToServe.the-variants.{IllFormed, Nothing, At}
-use Rattle.state_choosing.specs.ToServe.{foundOf, serveOf}
+use Rattle.state_choosing.specs.declared.Looked.{Looked}
+use Rattle.state_choosing.specs.ToServe.{foundOf, lookedOf, serveOf}
 use Rattle.state_choosing.proofs.Choice.{place-in}
 
 -- i is the place of the choice, in a well formed state with something pending
@@ -69,30 +72,42 @@ module _ (s : State) (i : ℕ) (h : Chosen s i) where
     pub place-lt : i < 64
     place-lt = omega (arith, place-count, well-formed s (h .formed) .few)
 
+-- ---- what looking tells a unit
+
+module _ (s : State) (r : Looked) (e : r ≡ lookedOf s) where
+  pub looked-found : r .found ≡ serveOf s
+  unfolding lookedOf
+  looked-found = ap (λ (y : Looked). y .found) e
+
+  pub looked-later : wellFormed s ≡ true → r .later ≡ waitsLater (s .set .streams) (s .waits)
+  unfolding lookedOf
+  looked-later w = rw (e, w)
+
 -- ---- what looking and choosing answer, as the code goes
 
 module _ (s : State) where
-  pub look-ill : wellFormed s ≡ false → IllFormed ≡ serveOf s
-  unfolding serveOf
-  look-ill e = rw e
+  pub look-ill : wellFormed s ≡ false → (ws : List ℕ) → ws ≡ s .waits → record { found = IllFormed; later = ws } ≡ lookedOf s
+  unfolding serveOf lookedOf
+  look-ill e ws f = rw (e, f)
 
   pub choose-12 : wellFormed s ≡ false → Refused NotFormed ≡ chooseOf s
   unfolding chooseOf
   choose-12 e = rw e
 
   module _ (w : wellFormed s ≡ true) where
-    pub look-none : s .count ≡ 0 → Nothing ≡ serveOf s
-    unfolding serveOf
-    look-none e = rw (w, eq-eqb _ _ e)
+    pub look-none : s .count ≡ 0 → (ws : List ℕ) → ws ≡ waitsLater (s .set .streams) (s .waits) → record { found = Nothing; later = ws } ≡ lookedOf s
+    unfolding serveOf lookedOf
+    look-none e ws f = rw (w, eq-eqb _ _ e, f)
 
     pub choose-none : s .count ≡ 0 → NoTask ≡ chooseOf s
     unfolding chooseOf
     choose-none e = rw (w, eq-eqb _ _ e)
 
     module _ (some : s .count ≡ 0 → ⊥) (f : Found) (e : f ≡ foundOf s) where
-      pub look-one : At (f .place) (f .task) (f .cost) (f .last) ≡ serveOf s
-      unfolding serveOf foundOf
-      look-one = rw (e, w, ne-eqb _ _ some)
+      pub look-one : (ws : List ℕ) → ws ≡ waitsLater (s .set .streams) (s .waits)
+          → record { found = At (f .place) (f .task) (f .cost) (f .last); later = ws } ≡ lookedOf s
+      unfolding serveOf foundOf lookedOf
+      look-one ws g = rw (e, w, ne-eqb _ _ some, g)
 
       pub choose-one : Runs (f .task) (messageAt s (f .place) .stream) ≡ chooseOf s
       unfolding chooseOf foundOf

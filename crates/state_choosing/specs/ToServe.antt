@@ -4,9 +4,11 @@ use Prim.Native.Nat.{ℕ}
 use mathlib.Core.Bool.{cond}
 use lib.Dec.{eqb}
 use Rattle.rules.specs.declared.State.{State}
+use Rattle.rules.specs.Doors.{waitsLater}
 use Rattle.rules.specs.States.{taskOf, costOf, wellFormed}
 use Rattle.rules.specs.Steps.{placeOf, messageAt, atLast}
 use Rattle.state_choosing.specs.declared.Found.{Found}
+use Rattle.state_choosing.specs.declared.Looked.{Looked}
 use Rattle.state_choosing.specs.declared.ToServe.{ToServe}
 use Rattle.state_choosing.specs.declared.ToServe.the-variants.{IllFormed, Nothing, At}
 
@@ -22,3 +24,7 @@ foundOf s =
 
 unfoldable pub serveOf : State → ToServe
 serveOf s = cond (wellFormed s) (cond (eqb (s .count) 0) Nothing (serveAt s (placeOf s))) IllFormed
+
+-- and the waits after a unit that moves the clock, which come to nothing where the state is not well formed
+unfoldable pub lookedOf : State → Looked
+lookedOf s = record { found = serveOf s; later = cond (wellFormed s) (waitsLater (s .set .streams) (s .waits)) (s .waits) }

@@ -5,7 +5,7 @@ ghost use Prim.Native.Nat.{_<_};
 ghost use Rattle.rules.specs.States.{wellFormed};
 ghost use Rattle.rules.specs.Steps.{messageAt, chooseOf};
 ghost use Rattle.state_choosing.specs.First.{goesFirst};
-ghost use Rattle.state_choosing.specs.ToServe.{foundOf, serveOf};
+ghost use Rattle.state_choosing.specs.ToServe.{foundOf, lookedOf};
 use rules::ChooseAnswer;
 use rules::Refusal;
 use rules::State;
@@ -16,6 +16,13 @@ pub enum ToServe {
     IllFormed,
     Nothing,
     At(usize, usize, u32, bool),
+}
+
+// What looking tells: what there is to serve, and what a unit that moves the clock leaves of the waits; the waits as they are where the state is not
+// well formed.
+pub struct Looked {
+    pub found: ToServe,
+    pub later: [u32; 16],
 }
 
 // The message that is served, by its place, with the same.
@@ -96,20 +103,35 @@ fn served(s: State) -> Found
 }
 
 // What there is to serve. The state is tested here, once for a call.
-pub fn look(s: State) -> ToServe
-    ensures { λ r. ⌜ r ≡ serveOf s ⌝ }
+pub fn look(s: State) -> Looked
+    ensures { λ r. ⌜ r ≡ lookedOf s ⌝ }
 {
+    let waits = s.waits;
     if !stream_valid::is_valid(s.set) {
-        return ToServe::IllFormed;
+        return Looked {
+            found: ToServe::IllFormed,
+            later: waits,
+        };
     }
-    if !state_formed::formed(s) {
-        return ToServe::IllFormed;
+    let tested = state_formed::formed(s);
+    let later = tested.later;
+    if !tested.sound {
+        return Looked {
+            found: ToServe::IllFormed,
+            later,
+        };
     }
     if s.count == 0 {
-        return ToServe::Nothing;
+        return Looked {
+            found: ToServe::Nothing,
+            later,
+        };
     }
-    let found = served(s);
-    ToServe::At(found.place, found.task, found.cost, found.last)
+    let best = served(s);
+    Looked {
+        found: ToServe::At(best.place, best.task, best.cost, best.last),
+        later,
+    }
 }
 
 // The stream of the message at i. In a function of its own, so that the copy which an index reads takes no stack while looking.
@@ -128,7 +150,8 @@ pub fn choose(s: State) -> ChooseAnswer
     ensures { λ r. ⌜ r ≡ chooseOf s ⌝ }
 {
     if stream_valid::is_valid(s.set) {
-        if state_formed::formed(s) {
+        let tested = state_formed::formed(s);
+        if tested.sound {
             if s.count == 0 {
                 return ChooseAnswer::Nothing;
             }

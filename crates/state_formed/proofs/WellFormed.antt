@@ -2,7 +2,7 @@
 -- Assumes nothing.
 use Prim.Native.Nat.{ℕ, _+_, _-_, _≤_, _<_}
 use mathlib.Core.Bool.{Bool, true, false, false≢true}
-use mathlib.Core.List.{[], _∷_}
+use mathlib.Core.List.{List, [], _∷_}
 use mathlib.Core.Path.{_≡_, refl, ap, sym, _∙_}
 use native.Mathlib.Omega.{arith}
 use borrow.Author.Tests.{leb-true, le-leb, eqb-true}
@@ -21,7 +21,9 @@ use Rattle.rules.specs.States.{noMessage, pending, stagesIn, stageOf, taskOf, p
 use Rattle.rules.specs.Steps.{messageAt}
 use Rattle.rules.specs.Valid.{ValidStage, ValidStream, ValidSet}
 use Rattle.rules.proofs.Valid.{valid-set}
-use Rattle.state_formed.specs.InRange.{InRange, restFormed}
+use Rattle.rules.specs.Doors.{waitsLater}
+use Rattle.state_formed.specs.declared.Tested.{Tested}
+use Rattle.state_formed.specs.InRange.{InRange, restFormed, testedOf}
 use Rattle.state_formed.proofs.Standing.{Standing, standing, stage-room}
 
 -- the default of a place that the machine reads within an array
@@ -125,6 +127,23 @@ pub set-fails : (s : State) → valid (s .set) ≡ false → false ≡ wellForme
 unfolding wellFormed
 set-fails s e = rw e refl
 
-pub rest-tells : (s : State) (r : Bool) → valid (s .set) ≡ true → r ≡ restFormed s → r ≡ wellFormed s
-unfolding wellFormed restFormed
-rest-tells s r e f = rw e f
+pub rest-tells : (s : State) (r : Tested) → valid (s .set) ≡ true → r ≡ testedOf s → r .sound ≡ wellFormed s
+unfolding wellFormed restFormed testedOf
+rest-tells s r e f = rw (f, e)
+
+-- what the tests give, and the waits with it
+pub fails-so : (s : State) → false ≡ restFormed s → record { sound = false; later = s .waits } ≡ testedOf s
+unfolding testedOf
+fails-so s e = rw (← e)
+
+pub sound-so : (s : State) (ws : List ℕ) → true ≡ restFormed s → ws ≡ waitsLater (s .set .streams) (s .waits) → record { sound = true; later = ws } ≡ testedOf s
+unfolding testedOf
+sound-so s ws e f = rw (← e, f)
+
+pub sound-later : (s : State) (r : Tested) → r ≡ testedOf s → r .sound ≡ true → r .later ≡ waitsLater (s .set .streams) (s .waits)
+unfolding testedOf
+sound-later s r e f = let h : restFormed s ≡ true = sym (ap (λ (y : Tested). y .sound) e) ∙ f in rw (e, h)
+
+pub fails-later : (s : State) (r : Tested) → r ≡ testedOf s → r .sound ≡ false → r .later ≡ s .waits
+unfolding testedOf
+fails-later s r e f = let h : restFormed s ≡ false = sym (ap (λ (y : Tested). y .sound) e) ∙ f in rw (e, h)

@@ -1,7 +1,8 @@
 // Is a state well formed? And the readers that the steps use.
 ghost use mathlib.Core.Path.{_≡_};
+ghost use mathlib.Core.Bool.{false};
 ghost use Rattle.rules.specs.States.{noMessage, messageUnused, wellFormed};
-ghost use Rattle.state_formed.specs.InRange.{restFormed};
+ghost use Rattle.state_formed.specs.InRange.{testedOf};
 use rules::Message;
 use rules::State;
 
@@ -22,18 +23,34 @@ fn message_unused(m: Message) -> bool
     (m.stream == 0) & ((m.deadline == 0) & ((m.used == 0) & (m.stage == 0)))
 }
 
+// What the tests of a state but for its set's say, and what a unit that moves the clock leaves of the waits; the waits as they are where a test fails.
+pub struct Tested {
+    pub sound: bool,
+    pub later: [u32; 16],
+}
+
+fn fails(waits: [u32; 16]) -> Tested
+    ensures { λ r. ⌜ r ≡ record { sound = false; later = waits } ⌝ }
+{
+    Tested {
+        sound: false,
+        later: waits,
+    }
+}
+
 // The tests of a state but for the first, that its set is valid. A first pass over the pending messages: each names a stream of the set and one of its
 // stages, has used less than that stage's c, was posted by now and not before the one in front of it, and is that stage's task's only started one. A second
-// over the places behind: they are zero. A third over the waits: each is at most what its stream's door allows. All passes stand here, since what is handed
-// to another function is copied.
-pub fn formed(s: State) -> bool
-    ensures { λ r. ⌜ r ≡ restFormed s ⌝ }
+// over the places behind: they are zero. A third over the waits: each is at most what its stream's door allows; what a unit leaves of it is reckoned in the
+// same pass, where the door is at hand. All passes stand here, since what is handed to another function is copied.
+pub fn formed(s: State) -> Tested
+    ensures { λ r. ⌜ r ≡ testedOf s ⌝ }
 {
+    let waits = s.waits;
     if 64 < s.count {
-        return false;
+        return fails(waits);
     }
     if rules::LAST_CLOCK < s.clock {
-        return false;
+        return fails(waits);
     }
     let set = s.set;
     let messages = s.messages;
@@ -45,7 +62,7 @@ pub fn formed(s: State) -> bool
         let i = m.stream;
         let j = m.stage;
         if !((i < set.count) & ((i < 16) & (j < 4))) {
-            return false;
+            return fails(waits);
         }
         let x = set.streams[i];
         // an index reads from a copy: of the stages alone
@@ -57,11 +74,11 @@ pub fn formed(s: State) -> bool
             & ((m.used < g.cost)
                 & (((x.deadline <= m.deadline) & (at <= s.clock)) & (before <= at)));
         if !ok {
-            return false;
+            return fails(waits);
         }
         if (0 < m.used) & (t < 16) {
             if 0 < counts[t] {
-                return false;
+                return fails(waits);
             }
             counts[t] = 1;
         }
@@ -75,7 +92,7 @@ pub fn formed(s: State) -> bool
         unused = unused & zero;
         k = k + 1;
     }
-    let waits = s.waits;
+    let mut later = waits;
     let mut kept = true;
     k = 0;
     while k < 16 {
@@ -83,9 +100,14 @@ pub fn formed(s: State) -> bool
         let d = stream_doors::door_of(x);
         let ok = stream_doors::may_wait(d, waits[k]);
         kept = kept & ok;
+        let w = stream_doors::wait_later(d, later[k]);
+        later[k] = w;
         k = k + 1;
     }
-    unused & kept
+    if unused & kept {
+        return Tested { sound: true, later };
+    }
+    fails(waits)
 }
 
 // Is the state well formed? A parameter that is not read by an index here is handed on without a copy.
@@ -95,5 +117,6 @@ pub fn well_formed(s: State) -> bool
     if !stream_valid::is_valid(s.set) {
         return false;
     }
-    formed(s)
+    let tested = formed(s);
+    tested.sound
 }

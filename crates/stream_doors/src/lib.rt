@@ -1,10 +1,9 @@
 // The doors of streams: which one a stream has, when it is shut, and what is left to wait after an accepted post and after a unit.
 ghost use mathlib.Core.Path.{_≡_};
 ghost use lib.Dec.{leb};
-ghost use Rattle.rules.specs.Doors.{doorOfOne, doorOfTwo, doorOf, shut, waitAfter, waitLater, waitsLater, mostWait};
+ghost use Rattle.rules.specs.Doors.{doorOfOne, doorOfTwo, doorOf, shut, waitAfter, waitLater, mostWait};
 ghost use Rattle.rules.specs.Doors.{larger as greater};
 use rules::Door;
-use rules::Set;
 use rules::Stream;
 use rules::Tuple;
 
@@ -118,22 +117,4 @@ pub fn wait_later(d: Door, wait: u32) -> u32
         Door::Single => wait,
         Door::Spaced(_, _) => stream_valid::less(wait, 1),
     }
-}
-
-// ---- all waits
-
-// What a unit that moved the clock leaves of them.
-pub fn waits_later(x: Set, ws: [u32; 16]) -> [u32; 16]
-    ensures { λ r. ⌜ r ≡ waitsLater (x .streams) ws ⌝ }
-{
-    let mut next = ws;
-    let mut k: usize = 0;
-    while k < 16 {
-        let s = x.streams[k];
-        let d = door_of(s);
-        let w = wait_later(d, next[k]);
-        next[k] = w;
-        k = k + 1;
-    }
-    next
 }

@@ -6,6 +6,7 @@ use mathlib.Core.Path.{_≡_, refl, sym, _∙_}
 use Rattle.laws.proofs.Parts.{sized}
 use Rattle.rules.specs.Doors.{waitsLater}
 use Rattle.rules.specs.Steps.{servedOf, unitOf}
+use Rattle.state_choosing.proofs.Looking.{looked-found, looked-later}
 use Rattle.scheduler.proofs.Serving.{Moving, moving-go, moved-up, leaves, stays, unit-by, idles, Serving, serving, told}
 use Rattle.scheduler.proofs.unit.Statement.{statement}
 use Rattle.scheduler.proofs.unit.Tie as tie
@@ -17,23 +18,20 @@ abbrev μ-loop : tie.MeasureT-loop
 μ-loop done next₀ a i task cost last spent end k₀ next k = end - k
 
 -- where a message is served: what that relies on, and that it is the unit
-facts : (c : tie.After-what2 Inv-loop μ-loop) → Serving (c .before .before .before .before .before .before .args .s) (c .what2 .given .0 .0) (c .what2 .given .0 .1 .0) (c .what2 .given .0 .1 .1 .0) (c .what2 .given .0 .1 .1 .1 .0)
+facts : (c : tie.After-what2 Inv-loop μ-loop) → Serving (c .before .before .before .before .before .args .s) (c .what2 .given .0 .0) (c .what2 .given .0 .1 .0) (c .what2 .given .0 .1 .1 .0) (c .what2 .given .0 .1 .1 .1 .0)
 facts c =
-    let start = c .before .before .before .before .before .before in
-    serving (start .args .s) (start .args .done) (c .before .before .before .before .before .look .result) (c .before .before .decide .result) _ _ _ _ (c .before .before .before .before .before .look .ensures) (c .before .before .decide .ensures) (c .what2 .given .1) (sized _ (start .args .s .messages) 64 (start .good .0 .1 .1 .1 .1 .1 .0 .1 .0 .1)) (sized _ (start .args .s .set .streams) 16 (start .good .0 .1 .1 .0 .1 .1 .1 .0 .1 .0 .1))
+    let start = c .before .before .before .before .before in
+    serving (start .args .s) (start .args .done) (c .before .before .before .before .look .result .found) (c .before .before .decide .result) _ _ _ _ (looked-found _ _ (c .before .before .before .before .look .ensures)) (c .before .before .decide .ensures) (c .what2 .given .1) (sized _ (start .args .s .messages) 64 (start .good .0 .1 .1 .1 .1 .1 .0 .1 .0 .1)) (sized _ (start .args .s .set .streams) 16 (start .good .0 .1 .1 .0 .1 .1 .1 .0 .1 .0 .1))
 
-serves : (c : tie.After-what2 Inv-loop μ-loop) → servedOf (c .before .before .before .before .before .before .args .s) (c .what2 .given .0 .0) (c .before .before .before .before .before .before .args .done) ≡ unitOf (c .before .before .before .before .before .before .args .s) (c .before .before .before .before .before .before .args .done)
-serves c = unit-by _ _ _ _ (c .before .before .before .before .before .look .ensures) (sym (c .what2 .given .1) ∙ c .before .before .decide .ensures)
+serves : (c : tie.After-what2 Inv-loop μ-loop) → servedOf (c .before .before .before .before .before .args .s) (c .what2 .given .0 .0) (c .before .before .before .before .before .args .done) ≡ unitOf (c .before .before .before .before .before .args .s) (c .before .before .before .before .before .args .done)
+serves c = unit-by _ _ _ _ (looked-found _ _ (c .before .before .before .before .look .ensures)) (sym (c .what2 .given .1) ∙ c .before .before .decide .ensures)
 
 -- what is left to wait
-later : (c : tie.After-what2 Inv-loop μ-loop) → c .before .before .before .waits-later .result ≡ waitsLater (c .before .before .before .before .before .before .args .s .set .streams) (c .before .before .before .before .before .before .args .s .waits)
-later c = c .before .before .before .waits-later .ensures
+later : (c : tie.After-what2 Inv-loop μ-loop) → c .before .before .before .before .look .result .later ≡ waitsLater (c .before .before .before .before .before .args .s .set .streams) (c .before .before .before .before .before .args .s .waits)
+later c = looked-later _ _ (c .before .before .before .before .look .ensures) (facts c .formed)
 
 look-requires : tie.Need-look-requires Inv-loop μ-loop
 look-requires c κs = search needs
-
-waits-later-requires : tie.Need-waits-later-requires Inv-loop μ-loop
-waits-later-requires c κs = search needs
 
 decide-requires : tie.Need-decide-requires Inv-loop μ-loop
 decide-requires c κs = search needs
@@ -118,10 +116,10 @@ element-set-from-on : tie.Need-element-set-from-on Inv-loop μ-loop
 element-set-from-on c = facts (c .before .before .before .before .before .before) .place
 
 returns : tie.Need-returns Inv-loop μ-loop
-returns c = unit-by _ _ _ _ (c .before .before .before .before .before .before .look .ensures) (sym (c .before .what .given .1) ∙ c .before .before .before .decide .ensures)
+returns c = unit-by _ _ _ _ (looked-found _ _ (c .before .before .before .before .before .look .ensures)) (sym (c .before .what .given .1) ∙ c .before .before .before .decide .ensures)
 
 returns-2 : tie.Need-returns-2 Inv-loop μ-loop
-returns-2 c = idles _ _ _ (c .before .before .before .before .before .look .ensures) (sym (c .enum-told .given .1) ∙ c .before .before .decide .ensures) _ (c .before .before .before .waits-later .ensures)
+returns-2 c = idles _ _ _ (c .before .before .before .before .look .ensures) (sym (c .enum-told .given .1) ∙ c .before .before .decide .ensures)
 
 returns-3 : tie.Need-returns-3 Inv-loop μ-loop
 returns-3 c =
@@ -143,7 +141,6 @@ unit-spec =
     Inv-loop
     μ-loop
     look-requires
-    waits-later-requires
     decide-requires
     enum-known-what
     enum-told

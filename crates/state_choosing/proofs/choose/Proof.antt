@@ -19,7 +19,7 @@ formed-requires : tie.Need-formed-requires
 formed-requires c κs = search needs
 
 -- both tests together are that of a well formed state
-tested : (c : tie.After-formed) → c .formed .result ≡ wellFormed (c .before .before .before .args .s)
+tested : (c : tie.After-formed) → c .formed .result .sound ≡ wellFormed (c .before .before .before .args .s)
 tested c = rest-tells _ _ (sym (c .before .before .is-valid .ensures) ∙ c .before .if1 .taken) (c .formed .ensures)
 
 returns : tie.Need-returns

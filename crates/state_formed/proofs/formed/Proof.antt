@@ -12,42 +12,48 @@ use Rattle.laws.proofs.Parts.{sized}
 use Rattle.laws.proofs.Fits.{and-go, and-end}
 use Rattle.rules.specs.States.{noMessage, messageUnused, waitOk}
 use Rattle.rules.specs.Streams.{FourPlaces}
+use Rattle.state_formed.specs.InRange.{restFormed}
 use Rattle.state_formed.proofs.Places.{each-all}
-use Rattle.state_formed.proofs.WellFormed.{no-test}
+use Rattle.state_formed.proofs.WellFormed.{no-test, fails-so, sound-so}
 use Rattle.state_formed.proofs.Pass.{Opened, Pass, pass-start, pass-out, pass-stream, pass-stage, pass-no, pass-past, pass-task, pass-twice, pass-go, Passed, pass-end, last-tests}
-use Rattle.state_formed.proofs.Waiting.{none-tested, ok-go, all-tested}
+use Rattle.state_formed.proofs.Waiting.{Waiting, wait-start, wait-go, all-tested, all-passed}
 use Rattle.state_formed.proofs.formed.Statement.{statement}
 use Rattle.state_formed.proofs.formed.Tie as tie
 
 abbrev Inv-loop : tie.InvT-loop
-Inv-loop s set messages counts₀ before₀ k₀ counts before k = Pass s k before counts
+Inv-loop s waits set messages counts₀ before₀ k₀ counts before k = Pass s k before counts
 
 abbrev μ-loop : tie.MeasureT-loop
-μ-loop s set messages counts₀ before₀ k₀ counts before k = s .count - k
+μ-loop s waits set messages counts₀ before₀ k₀ counts before k = s .count - k
 
 abbrev Inv-loop2 : tie.InvT-loop2
-Inv-loop2 s set messages before k₀ unused₀ k unused =
+Inv-loop2 waits set messages before k₀ unused₀ k unused =
     (length messages ≡ 64) × ((unused && all messageUnused (drop k messages)) ≡ all messageUnused (drop k₀ messages))
 
 abbrev μ-loop2 : tie.MeasureT-loop2
-μ-loop2 s set messages before k₀ unused₀ k unused = 64 - k
+μ-loop2 waits set messages before k₀ unused₀ k unused = 64 - k
 
 abbrev Inv-loop3 : tie.InvT-loop3
-Inv-loop3 set before k₀ unused waits kept₀ k kept =
-    (length (set .streams) ≡ 16) × ((length waits ≡ 16) × ((k ≤ 16) × (kept ≡ all (waitOk set waits) (below k))))
+Inv-loop3 waits set before k₀ unused later₀ kept₀ k later kept = Waiting set waits k later kept
 
 abbrev μ-loop3 : tie.MeasureT-loop3
-μ-loop3 set before k₀ unused waits kept₀ k kept = 16 - k
+μ-loop3 waits set before k₀ unused later₀ kept₀ k later kept = 16 - k
+
+fails-requires : tie.Need-fails-requires Inv-loop μ-loop Inv-loop2 μ-loop2 Inv-loop3 μ-loop3
+fails-requires c κs = search needs
 
 returns : tie.Need-returns Inv-loop μ-loop Inv-loop2 μ-loop2 Inv-loop3 μ-loop3
-returns c = no-test _ 0 (lt-leb _ 64 (c .if1 .taken))
+returns c = c .fails .ensures ∙ fails-so _ (no-test _ 0 (lt-leb _ 64 (c .before .if1 .taken)))
+
+fails-requires-2 : tie.Need-fails-requires-2 Inv-loop μ-loop Inv-loop2 μ-loop2 Inv-loop3 μ-loop3
+fails-requires-2 c κs = search needs
 
 returns-2 : tie.Need-returns-2 Inv-loop μ-loop Inv-loop2 μ-loop2 Inv-loop3 μ-loop3
-returns-2 c = no-test _ 1 (lt-leb _ 4000000000 (c .if2 .taken))
+returns-2 c = c .fails2 .ensures ∙ fails-so _ (no-test _ 1 (lt-leb _ 4000000000 (c .before .if2 .taken)))
 
 loop-holds : tie.Need-loop-holds Inv-loop μ-loop Inv-loop2 μ-loop2 Inv-loop3 μ-loop3
 loop-holds c =
-    let start = c .before .before .before .before .before .before in
+    let start = c .before .before .before .before .before .before .before in
     pass-start (start .args .s) (record {
       few = c .before .before .before .before .if1 .left;
       clock = c .before .before .if2 .left;
@@ -64,10 +70,13 @@ mul-m c = omega (arith, c .if3 .taken, c .before .before .loop .inv .opened .few
 array-copy-out-m : tie.Need-array-copy-out-m Inv-loop μ-loop Inv-loop2 μ-loop2 Inv-loop3 μ-loop3
 array-copy-out-m c = omega (arith, c .if3 .taken, c .before .before .loop .inv .opened .few)
 
+fails-requires-3 : tie.Need-fails-requires-3 Inv-loop μ-loop Inv-loop2 μ-loop2 Inv-loop3 μ-loop3
+fails-requires-3 c κs = search needs
+
 returns-3 : tie.Need-returns-3 Inv-loop μ-loop Inv-loop2 μ-loop2 Inv-loop3 μ-loop3
 returns-3 c =
-    let loop = c .before .before .before .before .loop in
-    pass-out _ (loop .k) _ _ (loop .inv) (c .before .before .if3 .taken) (not-true _ (c .if4 .taken))
+    let loop = c .before .before .before .before .before .loop in
+    c .fails3 .ensures ∙ fails-so _ (pass-out _ (loop .k) _ _ (loop .inv) (c .before .before .before .if3 .taken) (not-true _ (c .before .if4 .taken)))
 
 mul-x : tie.Need-mul-x Inv-loop μ-loop Inv-loop2 μ-loop2 Inv-loop3 μ-loop3
 mul-x c =
@@ -92,11 +101,14 @@ array-copy-out-g c =
 less-requires : tie.Need-less-requires Inv-loop μ-loop Inv-loop2 μ-loop2 Inv-loop3 μ-loop3
 less-requires c κs = search needs
 
+fails-requires-4 : tie.Need-fails-requires-4 Inv-loop μ-loop Inv-loop2 μ-loop2 Inv-loop3 μ-loop3
+fails-requires-4 c κs = search needs
+
 returns-4 : tie.Need-returns-4 Inv-loop μ-loop Inv-loop2 μ-loop2 Inv-loop3 μ-loop3
 returns-4 c =
-    let loop = c .before .before .before .before .before .before .before .before .before .before .before .before .before .before .before .loop in
-    let less = c .before .before .before .before .before .before .before .less in
-    pass-no _ (loop .k) _ _ (loop .inv) (c .before .before .before .before .before .before .before .before .before .before .before .before .before .if3 .taken) (not-false _ (c .before .before .before .before .before .before .before .before .before .before .before .if4 .left)) (less .result) (less .ensures) (not-true _ (c .if5 .taken))
+    let loop = c .before .before .before .before .before .before .before .before .before .before .before .before .before .before .before .before .loop in
+    let less = c .before .before .before .before .before .before .before .before .less in
+    c .fails4 .ensures ∙ fails-so _ (pass-no _ (loop .k) _ _ (loop .inv) (c .before .before .before .before .before .before .before .before .before .before .before .before .before .before .if3 .taken) (not-false _ (c .before .before .before .before .before .before .before .before .before .before .before .before .if4 .left)) (less .result) (less .ensures) (not-true _ (c .before .if5 .taken)))
 
 mul-if7 : tie.Need-mul-if7 Inv-loop μ-loop Inv-loop2 μ-loop2 Inv-loop3 μ-loop3
 mul-if7 c =
@@ -110,11 +122,14 @@ array-read-if7 c =
     let less = c .before .before .before .before .before .before .before .before .before .less in
     pass-task _ (loop .k) _ _ (loop .inv) (c .before .before .before .before .before .before .before .before .before .before .before .before .before .before .before .if3 .taken) (not-false _ (c .before .before .before .before .before .before .before .before .before .before .before .before .before .if4 .left)) (less .result) (less .ensures) (not-false _ (c .before .before .if5 .left)) (c .if6 .taken)
 
+fails-requires-5 : tie.Need-fails-requires-5 Inv-loop μ-loop Inv-loop2 μ-loop2 Inv-loop3 μ-loop3
+fails-requires-5 c κs = search needs
+
 returns-5 : tie.Need-returns-5 Inv-loop μ-loop Inv-loop2 μ-loop2 Inv-loop3 μ-loop3
 returns-5 c =
-    let loop = c .before .before .before .before .before .before .before .before .before .before .before .before .before .before .before .before .before .before .loop in
-    let less = c .before .before .before .before .before .before .before .before .before .before .less in
-    pass-twice _ (loop .k) _ _ (loop .inv) (c .before .before .before .before .before .before .before .before .before .before .before .before .before .before .before .before .if3 .taken) (not-false _ (c .before .before .before .before .before .before .before .before .before .before .before .before .before .before .if4 .left)) (less .result) (less .ensures) (not-false _ (c .before .before .before .if5 .left)) (c .before .if6 .taken) (c .if7 .taken)
+    let loop = c .before .before .before .before .before .before .before .before .before .before .before .before .before .before .before .before .before .before .before .loop in
+    let less = c .before .before .before .before .before .before .before .before .before .before .before .less in
+    c .fails5 .ensures ∙ fails-so _ (pass-twice _ (loop .k) _ _ (loop .inv) (c .before .before .before .before .before .before .before .before .before .before .before .before .before .before .before .before .before .if3 .taken) (not-false _ (c .before .before .before .before .before .before .before .before .before .before .before .before .before .before .before .if4 .left)) (less .result) (less .ensures) (not-false _ (c .before .before .before .before .if5 .left)) (c .before .before .if6 .taken) (c .before .if7 .taken))
 
 mul-counts : tie.Need-mul-counts Inv-loop μ-loop Inv-loop2 μ-loop2 Inv-loop3 μ-loop3
 mul-counts c =
@@ -168,12 +183,12 @@ loop2-less c = search needs
 loop2-again : tie.Need-loop2-again Inv-loop μ-loop Inv-loop2 μ-loop2 Inv-loop3 μ-loop3
 loop2-again c =
     let loop = c .before .before .before .loop2 in
-    (loop .inv .0, and-go messageUnused (c .before .before .before .before .before .before .before .before .before .before .before .before .before .args .s .messages) (loop .k) (loop .unused) _ _ noMessage _ (loop .inv .1) refl (c .message-unused .ensures) (omega (arith, c .before .before .loop2-test .taken, loop .inv .0)))
+    (loop .inv .0, and-go messageUnused (c .before .before .before .before .before .before .before .before .before .before .before .before .before .before .args .s .messages) (loop .k) (loop .unused) _ _ noMessage _ (loop .inv .1) refl (c .message-unused .ensures) (omega (arith, c .before .before .loop2-test .taken, loop .inv .0)))
 
 loop3-holds : tie.Need-loop3-holds Inv-loop μ-loop Inv-loop2 μ-loop2 Inv-loop3 μ-loop3
 loop3-holds c =
     let start = c .before .before .before .before .before .before .before .before .before .before .before .before in
-    (c .before .before .before .before .before .loop .inv .opened .set .sixteen, (sized _ (start .args .s .waits) 16 (start .good .0 .1 .1 .1 .1 .1 .1 .0 .1 .0 .1), (omega arith, none-tested _ _)))
+    wait-start _ _ (c .before .before .before .before .loop .inv .opened .set .sixteen) (sized _ (start .args .s .waits) 16 (start .good .0 .1 .1 .1 .1 .1 .1 .0 .1 .0 .1))
 
 mul-x-2 : tie.Need-mul-x-2 Inv-loop μ-loop Inv-loop2 μ-loop2 Inv-loop3 μ-loop3
 mul-x-2 c = search needs
@@ -193,6 +208,21 @@ array-read-may-wait c = search needs
 may-wait-requires : tie.Need-may-wait-requires Inv-loop μ-loop Inv-loop2 μ-loop2 Inv-loop3 μ-loop3
 may-wait-requires c κs = search needs
 
+mul-wait-later : tie.Need-mul-wait-later Inv-loop μ-loop Inv-loop2 μ-loop2 Inv-loop3 μ-loop3
+mul-wait-later c = search needs
+
+array-read-wait-later : tie.Need-array-read-wait-later Inv-loop μ-loop Inv-loop2 μ-loop2 Inv-loop3 μ-loop3
+array-read-wait-later c = search needs
+
+wait-later-requires : tie.Need-wait-later-requires Inv-loop μ-loop Inv-loop2 μ-loop2 Inv-loop3 μ-loop3
+wait-later-requires c κs = search needs
+
+mul-later : tie.Need-mul-later Inv-loop μ-loop Inv-loop2 μ-loop2 Inv-loop3 μ-loop3
+mul-later c = search needs
+
+array-write-later : tie.Need-array-write-later Inv-loop μ-loop Inv-loop2 μ-loop2 Inv-loop3 μ-loop3
+array-write-later c = search needs
+
 add-k-3 : tie.Need-add-k-3 Inv-loop μ-loop Inv-loop2 μ-loop2 Inv-loop3 μ-loop3
 add-k-3 c = search needs
 
@@ -201,18 +231,30 @@ loop3-less c = search needs
 
 loop3-again : tie.Need-loop3-again Inv-loop μ-loop Inv-loop2 μ-loop2 Inv-loop3 μ-loop3
 loop3-again c =
-    let loop = c .before .before .before .before .loop3 in
-    (loop .inv .0, (loop .inv .1 .0, (omega arith, ok-go _ _ (loop .k) _ _ _ (loop .inv .0) (c .before .before .before .loop3-test .taken) (loop .inv .1 .1 .1) (c .before .door-of .ensures) (c .may-wait .ensures))))
+    let loop = c .before .before .before .before .before .loop3 in
+    wait-go _ _ (loop .k) _ _ _ _ _ (loop .inv) (c .before .before .before .before .loop3-test .taken) (c .before .before .door-of .ensures) (c .before .may-wait .ensures) (c .wait-later .ensures)
+
+-- behind the three passes the last two tests tell them all
+tested : (c : tie.After-loop3 Inv-loop μ-loop Inv-loop2 μ-loop2 Inv-loop3 μ-loop3)
+    → (c .before .before .before .loop2 .unused && c .before .loop3 .kept) ≡ restFormed (c .before .before .before .before .before .before .before .before .before .before .before .before .before .before .args .s)
+tested c =
+    let s = c .before .before .before .before .before .before .before .before .before .before .before .before .before .before .args .s in
+    let first = c .before .before .before .before .before .before .loop in
+    let loop = c .before .before .before .loop2 in
+    let last = c .before .loop3 in
+    let end : first .k ≡ s .count = omega (arith, first .inv .here, c .before .before .before .before .if3 .left) in
+    last-tests s (loop .unused) (last .kept) (pass-end _ _ _ _ (first .inv) (c .before .before .before .before .if3 .left))
+    (and-end messageUnused (s .messages) (loop .k) _ _ (loop .inv .1) (omega (arith, c .before .before .loop2-test .left, loop .inv .0)) ∙ ap (λ (k : ℕ). all messageUnused (drop k (s .messages))) end)
+    (all-tested _ _ (last .k) _ _ (last .inv) (c .loop3-test .left))
 
 returns-6 : tie.Need-returns-6 Inv-loop μ-loop Inv-loop2 μ-loop2 Inv-loop3 μ-loop3
-returns-6 c =
-    let s = c .before .before .before .before .before .before .before .before .before .before .before .before .before .before .args .s in
-    let loop = c .before .before .before .before .loop2 in
-    let last = c .before .loop3 in
-    let end : c .before .before .before .before .before .before .before .loop .k ≡ s .count = omega (arith, c .before .before .before .before .before .before .before .loop .inv .here, c .before .before .before .before .before .if3 .left) in
-    last-tests s (loop .unused) (last .kept) (pass-end _ _ _ _ (c .before .before .before .before .before .before .before .loop .inv) (c .before .before .before .before .before .if3 .left))
-    (and-end messageUnused (s .messages) (loop .k) _ _ (loop .inv .1) (omega (arith, c .before .before .before .loop2-test .left, loop .inv .0)) ∙ ap (λ (k : ℕ). all messageUnused (drop k (s .messages))) end)
-    (all-tested _ _ (last .k) _ (last .inv .1 .1 .0) (c .loop3-test .left) (last .inv .1 .1 .1))
+returns-6 c = sound-so _ _ (sym (c .if8 .taken) ∙ tested (c .before)) (let loop = c .before .before .loop3 in all-passed _ _ (loop .k) _ _ (loop .inv) (c .before .loop3-test .left))
+
+fails-requires-6 : tie.Need-fails-requires-6 Inv-loop μ-loop Inv-loop2 μ-loop2 Inv-loop3 μ-loop3
+fails-requires-6 c κs = search needs
+
+returns-7 : tie.Need-returns-7 Inv-loop μ-loop Inv-loop2 μ-loop2 Inv-loop3 μ-loop3
+returns-7 c = c .fails6 .ensures ∙ fails-so _ (sym (c .before .if8 .left) ∙ tested (c .before .before))
 
 pub formed-spec : {M : Type 1} → statement M
 formed-spec =
@@ -224,20 +266,25 @@ formed-spec =
     μ-loop2
     Inv-loop3
     μ-loop3
+    fails-requires
     returns
+    fails-requires-2
     returns-2
     loop-holds
     mul-m
     array-copy-out-m
+    fails-requires-3
     returns-3
     mul-x
     element-copy-out-x
     mul-g
     array-copy-out-g
     less-requires
+    fails-requires-4
     returns-4
     mul-if7
     array-read-if7
+    fails-requires-5
     returns-5
     mul-counts
     array-write-counts
@@ -258,7 +305,14 @@ formed-spec =
     mul-may-wait
     array-read-may-wait
     may-wait-requires
+    mul-wait-later
+    array-read-wait-later
+    wait-later-requires
+    mul-later
+    array-write-later
     add-k-3
     loop3-less
     loop3-again
-    returns-6)
+    returns-6
+    fails-requires-6
+    returns-7)
