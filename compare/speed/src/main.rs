@@ -4,6 +4,7 @@
 //! measured: the two programs by turns, on the same bytes, for SECONDS (5 if left out). Nothing is
 //! cleared between two measurements, and both write their result to a register only.
 
+mod floor;
 mod inputs;
 mod measure;
 mod plain;
@@ -71,6 +72,12 @@ impl Table {
         let shown = limit.map_or("none".to_string(), |limit| format!("{limit:.1}"));
         println!("| {what} | {ratio:.2} | {shown} | {rounds} |");
         self.within &= limit.map_or(true, |limit| ratio <= limit);
+    }
+
+    /// A row of two programs that do different work, to be known.
+    fn beside(&self, what: &str, first: &dyn Fn() -> u64, second: &dyn Fn() -> u64) {
+        let (ratio, rounds) = measure::ratio(first, second, self.seconds);
+        println!("| {what} | {ratio:.2} | none | {rounds} |");
     }
 
     /// A run of calls beside the plain scheduler by value, and beside the one in place.
@@ -163,11 +170,15 @@ fn main() -> ExitCode {
     ] {
         for size in [64, 8, 1] {
             let what = format!("{name} in pieces of {size}, beside one piece");
-            let limit = if size == 1 { Some(3.0) } else { None };
-            table.row(&what, limit, &|| proved::fed(sheet, size, 0), &|| {
+            table.row(&what, None, &|| proved::fed(sheet, size, 0), &|| {
                 proved::fed(sheet, 0, 0)
             });
         }
+        let one_piece = || proved::fed(sheet, 0, 0);
+        let what = format!("{name}: what is carried handed over and back for each byte, and nothing else, beside one piece");
+        table.beside(&what, &|| floor::handed(sheet), &one_piece);
+        let what = format!("{name}: what is carried lent and looked at once for each byte, and nothing else, beside one piece");
+        table.beside(&what, &|| floor::looked(sheet), &one_piece);
     }
     table.steps(16, 4);
     table.steps(1, 2);
