@@ -56,12 +56,13 @@ pub fn start(x: Set) -> StartResult
 
 // ---- post
 
-// A message of the stream k, which counts at its door, or 12, 1, 15 or 2.
+// A message of the stream k, which counts at its door, or 12, 1, 15 or 2. Here and in `unit` the state that goes is copied before the one that came is
+// tested: behind the test the compiler cannot tell that it is still the same, and keeps a copy more.
 pub fn post(s: State, k: usize) -> PostResult
     ensures { λ r. ⌜ r ≡ postOf s k ⌝ }
 {
-    let sound = state_formed::well_formed(s);
     let mut next = s;
+    let sound = state_formed::well_formed(s);
     let mut a = PostAnswer::Refused(Refusal::IllFormed);
     if sound {
         a = PostAnswer::Refused(Refusal::NoStream);
@@ -182,10 +183,10 @@ fn stepped(m: Message, done: bool) -> Message
 pub fn unit(s: State, done: bool) -> UnitResult
     ensures { λ r. ⌜ r ≡ unitOf s done ⌝ }
 {
+    let mut next = s;
     let looked = state_choosing::look(s);
     let found = looked.found;
     let later = looked.later;
-    let mut next = s;
     let mut a = UnitAnswer::Idle;
     let what = decide(found, next.clock, done);
     match what {

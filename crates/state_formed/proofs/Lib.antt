@@ -2,5 +2,4 @@ pub mod WellFormed
 pub mod Standing
 pub mod Counted
 pub mod Pass
-pub mod Places
 pub mod Waiting

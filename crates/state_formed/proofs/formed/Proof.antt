@@ -10,10 +10,10 @@ use lib.ListN.{length, getD, drop}
 use Rattle.laws.specs.Lists.{below, all}
 use Rattle.laws.proofs.Parts.{sized}
 use Rattle.laws.proofs.Fits.{and-go, and-end}
+use Rattle.laws.proofs.Arrays.{each-all}
 use Rattle.rules.specs.States.{noMessage, messageUnused, waitOk}
 use Rattle.rules.specs.Streams.{FourPlaces}
 use Rattle.state_formed.specs.InRange.{restFormed}
-use Rattle.state_formed.proofs.Places.{each-all}
 use Rattle.state_formed.proofs.WellFormed.{no-test, fails-so, sound-so}
 use Rattle.state_formed.proofs.Pass.{Opened, Pass, pass-start, pass-out, pass-stream, pass-stage, pass-no, pass-past, pass-task, pass-twice, pass-go, Passed, pass-end, last-tests}
 use Rattle.state_formed.proofs.Waiting.{Waiting, wait-start, wait-go, all-tested, all-passed}
