@@ -162,3 +162,8 @@ pub goes-on : (vs s : List ℕ) (p : ℕ) (t : Came) (gs : List Stage) (x : Set)
 goes-on vs s p t gs x new o e k =
     let q : carried new (kept-by vs (t .cycle) (t .low)) gs (t .places) x ≡ tupledBy t vs gs x = ap (λ (y : Point). carried y (kept-by vs (t .cycle) (t .low)) gs (t .places) x) e in
     record { kept = subst Kept (sym q) (o .kept gs x k); runs = ap (λ (c : Carried). run c (rest s (endOf t))) q ∙ o .same gs x k }
+
+-- what has come, as the contract has it
+pub came-at-once : (vs s : List ℕ) (p : ℕ) (r : Came) → r .bit < 8 → p ≤ endOf r → endOf r ≤ 8 * length s
+    → ((gs : List Stage) (x : Set) → Kept (untupled vs gs x) → Comes s p (untupled vs gs x) (endOf r) (tupledBy r vs gs x)) → AtOnce vs s p r
+came-at-once vs s p r b l e h = record { bit = b; later = l; ends = e; kept = λ gs x k. h gs x k .kept; same = λ gs x k. h gs x k .runs }

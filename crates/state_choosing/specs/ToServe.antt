@@ -25,6 +25,6 @@ foundOf s =
 unfoldable pub serveOf : State → ToServe
 serveOf s = cond (wellFormed s) (cond (eqb (s .count) 0) Nothing (serveAt s (placeOf s))) IllFormed
 
--- and the waits after a unit that moves the clock, which come to nothing where the state is not well formed
+-- beside it the waits after a unit that moves the clock; those that there are where the state is not well formed
 unfoldable pub lookedOf : State → Looked
 lookedOf s = record { found = serveOf s; later = cond (wellFormed s) (waitsLater (s .set .streams) (s .waits)) (s .waits) }

@@ -15,7 +15,7 @@ use Rattle.state_formed.specs.declared.Tested.{Tested}
 unfoldable pub restFormed : State → Bool
 restFormed s = every (drop 1 (stateTests s))
 
--- what they say, and the waits after a unit that moves the clock, which come to nothing where a test fails
+-- what they say, and beside it the waits after a unit that moves the clock; those that there are where a test fails
 unfoldable pub testedOf : State → Tested
 testedOf s = record { sound = restFormed s; later = cond (restFormed s) (waitsLater (s .set .streams) (s .waits)) (s .waits) }
 

@@ -1,3 +1,4 @@
+-- `sheet_read::tuples::before_last` meets its contract: while tuples come, what they come to is what their fields come to one by one. Assumes nothing.
 use native.Mathlib.Omega.{arith}
 use borrow.Author.Needs.{needs}
 use borrow.Author.Tests.{not-false}
@@ -15,7 +16,7 @@ use Rattle.sheet_carried.specs.Table.{inRuleOf}
 use Rattle.sheet_carried.specs.Reader.{begun}
 use Rattle.sheet_carried.specs.Kept.{Kept}
 use Rattle.sheet_read.specs.AtOnce.{untupled}
-use Rattle.sheet_read.proofs.AtOnce.{Comes, From, comes-first, comes-next, kept-by}
+use Rattle.sheet_read.proofs.AtOnce.{Comes, From, came-at-once, comes-first, comes-next, kept-by}
 use Rattle.sheet_read.proofs.tuples.before_last.Statement.{statement}
 use Rattle.sheet_read.proofs.tuples.before_last.Tie as tie
 use Rattle.sheet_read.proofs.tuples.before_last.Reads as reads
@@ -108,13 +109,7 @@ returns c =
     let l = c .before .before .before .before .loop in
     let start = c .before .before .before .before .before .before .before in
     let f : From (start .args .t1) _ _ _ = record { last-is = refl; cycle-was = refl; low-was = refl } in
-    record {
-      bit = l .inv .0;
-      later = l .inv .1;
-      ends = l .inv .2;
-      kept = λ gs x k. l .inv .4 (start .args .t1) gs x f k .kept;
-      same = λ gs x k. l .inv .4 (start .args .t1) gs x f k .runs;
-    }
+    came-at-once _ _ _ _ (l .inv .0) (l .inv .1) (l .inv .2) (λ gs x. l .inv .4 (start .args .t1) gs x f)
 
 -- src/tuples.rt:72:25
 tuple-of-requires : tie.Need-tuple-of-requires Inv-loop μ-loop
@@ -166,13 +161,7 @@ returns-2 c =
     let l = c .before .loop in
     let start = c .before .before .before .before in
     let f : From (start .args .t1) _ _ _ = record { last-is = refl; cycle-was = refl; low-was = refl } in
-    record {
-      bit = l .inv .0;
-      later = l .inv .1;
-      ends = l .inv .2;
-      kept = λ gs x k. l .inv .4 (start .args .t1) gs x f k .kept;
-      same = λ gs x k. l .inv .4 (start .args .t1) gs x f k .runs;
-    }
+    came-at-once _ _ _ _ (l .inv .0) (l .inv .1) (l .inv .2) (λ gs x. l .inv .4 (start .args .t1) gs x f)
 
 pub before-last-spec : {M : Type 1} → statement M
 before-last-spec =
