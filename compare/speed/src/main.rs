@@ -4,6 +4,7 @@
 //! measured: the two programs by turns, on the same bytes, for SECONDS (5 if left out). Nothing is
 //! cleared between two measurements, and both write their result to a register only.
 
+mod dense;
 mod floor;
 mod inputs;
 mod measure;
@@ -22,6 +23,13 @@ fn compare(cases: u32) {
             case,
             proved::read(&sheet, k),
             plain::read(&sheet, k),
+            slow::read(&sheet, k),
+        );
+        let size = random.below(9) as usize;
+        same(
+            case,
+            proved::fed(&sheet, size, k),
+            dense::fed::<{ dense::JUDGES }>(&sheet, size, k),
             slow::read(&sheet, k),
         );
         same(
@@ -78,6 +86,14 @@ impl Table {
     fn beside(&self, what: &str, first: &dyn Fn() -> u64, second: &dyn Fn() -> u64) {
         let (ratio, rounds) = measure::ratio(first, second, self.seconds);
         println!("| {what} | {ratio:.2} | none | {rounds} |");
+    }
+
+    /// The plain reader whose state is dense and lent, one byte at a time beside its own one piece.
+    fn dense<const TEST: u8>(&mut self, name: &str, test: &str, sheet: &[u8]) {
+        let what = format!("{name} by a plain reader with a dense state, lent, that {test}: in pieces of 1, beside one piece");
+        self.row(&what, None, &|| dense::fed::<TEST>(sheet, 1, 0), &|| {
+            dense::fed::<TEST>(sheet, 0, 0)
+        });
     }
 
     /// A run of calls beside the plain scheduler by value, and beside the one in place.
@@ -180,6 +196,19 @@ fn main() -> ExitCode {
         table.beside(&what, &|| floor::handed(sheet), &one_piece);
         let what = format!("{name}: what is carried lent and looked at once for each byte, and nothing else, beside one piece");
         table.beside(&what, &|| floor::looked(sheet), &one_piece);
+        table.dense::<{ dense::NOTHING }>(name, "tests nothing", sheet);
+        table.dense::<{ dense::LOOKS_AT_USED }>(name, "looks at each word in use", sheet);
+        table.dense::<{ dense::LOOKS }>(name, "looks at each word", sheet);
+        table.dense::<{ dense::JUDGES_USED }>(
+            name,
+            "holds the fields in use against their greatest values",
+            sheet,
+        );
+        table.dense::<{ dense::JUDGES }>(
+            name,
+            "holds the fields against their greatest values",
+            sheet,
+        );
     }
     table.steps(16, 4);
     table.steps(1, 2);

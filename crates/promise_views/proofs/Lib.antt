@@ -1,0 +1,4 @@
+pub mod Pending
+pub mod Balance
+pub mod Ledger
+pub mod Views
