@@ -11,6 +11,7 @@ pub mod Yard
 pub mod Staged
 pub mod Doors
 pub mod Waits
+pub mod Parties
 pub mod Events
 pub mod Runs
 pub mod Refusals
