@@ -1,5 +1,6 @@
 pub mod Valid
 pub mod Cases
+pub mod Pending
 pub mod Rows
 pub mod Started
 pub mod Waits

@@ -7,7 +7,8 @@ use mathlib.Core.Logic.{_↔_}
 use mathlib.Core.Path.{_≡_}
 use Rattle.rules.specs.declared.State.{State}
 use Rattle.rules.specs.declared.Call.{Call}
-use Rattle.rules.specs.States.{mostPending, lastClock, wellFormed}
+use Rattle.rules.specs.Parties.{placesOf}
+use Rattle.rules.specs.States.{partyOf, heldBy, lastClock, wellFormed}
 use Rattle.rules.specs.Doors.{shut}
 use Rattle.rules.specs.Steps.{doorAt, waitAt, postOf, chooseOf, unitOf, callOf}
 use Rattle.rules.specs.Numbers.{Says, refused, postSays, chooseSays, unitSays, callSays}
@@ -44,12 +45,12 @@ pub record DoorShut (s : State) (k : ℕ) : Type 0 where
 unfoldable pub Fifteen : Type 0
 Fifteen = (s : State) (k : ℕ) → (saysToPost s k ≡ refused 15) ↔ DoorShut s k
 
--- "2: post with 64 pending"
+-- request 8: "A post is refused as full exactly when its own party has its number pending."
 pub record AllPlacesTaken (s : State) (k : ℕ) : Type 0 where
   pub formed : wellFormed s ≡ true
   pub in-set : k < s .set .count
   pub is-open : shut (doorAt s k) (waitAt s k) ≡ false
-  pub full : mostPending ≤ s .count
+  pub full : placesOf (s .places) (partyOf s k) ≤ heldBy s (partyOf s k)
 
 unfoldable pub Two : Type 0
 Two = (s : State) (k : ℕ) → (saysToPost s k ≡ refused 2) ↔ AllPlacesTaken s k

@@ -1,7 +1,7 @@
 -- Laws about the two parties: whose a stream is, and how many messages each has.
 -- Assumes nothing.
 use Prim.Native.Nat.{ℕ, zero, suc, _+_, _-_, _≤_}
-use mathlib.Core.Bool.{Bool, true, false, cond}
+use mathlib.Core.Bool.{Bool, true, false, cond, false≢true}
 use mathlib.Core.List.{List, [], _∷_, _++_}
 use mathlib.Core.Path.{_≡_, refl, ap, sym, _∙_}
 use native.Mathlib.Omega.{arith}
@@ -17,9 +17,24 @@ use Rattle.rules.specs.declared.Owner.{Owner}
 use Rattle.rules.specs.declared.Party.{Party}
 use Rattle.rules.specs.declared.Party.the-variants.{Ours, Theirs}
 use Rattle.rules.specs.Parties.{same, ours, partyAt, belongs, heldOf, ownerUnused, ownersFor, allOurs, allPlaces}
-use Rattle.rules.specs.Streams.{valid}
+use Rattle.rules.specs.declared.Call.{Call}
+use Rattle.rules.specs.declared.StartResult.{StartResult}
+use Rattle.rules.specs.Streams.{Placed, valid}
 use Rattle.rules.specs.Steps.{startOf, startFor}
+use Rattle.rules.specs.Runs.{Run, Start, Starts, alone, startAt, beginFor, runFrom, runFor, begin, runOf}
 use Rattle.rules.proofs.Valid.{valid-set}
+
+pub same-self : (p : Party) → same p p ≡ true
+unfolding same
+same-self Ours = refl
+same-self Theirs = refl
+
+pub same-is : (p q : Party) → same p q ≡ true → p ≡ q
+unfolding same
+same-is Ours Ours e = refl
+same-is Ours Theirs e = absurd (false≢true e)
+same-is Theirs Ours e = absurd (false≢true e)
+same-is Theirs Theirs e = refl
 
 -- each message is one party's
 one-side : (p : Party) → _≡_ {A = ℕ} (cond (same p Ours) 1 0 + cond (same p Theirs) 1 0) 1
@@ -72,3 +87,16 @@ unfolding startFor startOf
 start-alone x = by-test (valid x)
     (λ e. rw (e, owners-alone (x .count) (valid-set x e .count)))
     (λ e. rw e)
+
+-- ---- a run of a set alone
+
+pub begin-alone : (x : Set) → beginFor (alone x) ≡ begin x
+unfolding beginFor begin
+begin-alone x = ap (λ (r : StartResult). startAt (r .state)) (start-alone x)
+
+pub run-alone : (x : Set) (calls : List Call) → runFor (alone x) calls ≡ runOf x calls
+unfolding runFor runOf
+run-alone x calls = ap (λ (r : Run). runFrom r calls) (begin-alone x)
+
+pub starts-alone : (x : Set) → Placed x → valid x ≡ true → Starts (alone x)
+starts-alone x h e = record { boxed = record { set = h; owners = refl }; valid-set = e; few = omega arith }
