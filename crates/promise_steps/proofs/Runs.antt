@@ -11,10 +11,11 @@ use Rattle.rules.specs.declared.Set.{Set}
 use Rattle.rules.specs.declared.State.{State}
 use Rattle.rules.specs.Streams.{Placed, FourPlaces, noStream, emptySet, stageUnused, tupleUnused, streamUnused, versionOk, valid}
 use Rattle.rules.specs.States.{messagesOk, startedOnce, messageUnused, mostPending}
-use Rattle.rules.specs.Steps.{fresh, freshFor, startFor, postOf, unitOf, callOf}
+use Rattle.rules.specs.Steps.{fresh, freshFor, startFor, startOf, postOf, unitOf, callOf}
 use Rattle.rules.specs.declared.Party.the-variants.{Ours, Theirs}
 use Rattle.rules.specs.Parties.{same, together, ownerUnused, ownersFor}
-use Rattle.rules.proofs.Parties.{held-none, owners-length, owners-unused}
+use Rattle.rules.proofs.Parties.{held-none, owners-length, owners-unused, start-alone}
+use Rattle.rules.specs.declared.StartResult.{StartResult}
 use Rattle.rules.proofs.Valid.{valid-set}
 use borrow.Author.Tests.{leb-true}
 use lib.Dec.{leb}
@@ -63,7 +64,7 @@ empty-valid : valid emptySet ≡ true
 unfolding valid all streamUnused stageUnused tupleUnused versionOk
 empty-valid = refl
 
-empty-formed : Formed (fresh emptySet)
+pub empty-formed : Formed (fresh emptySet)
 unfolding all ownerUnused same
 empty-formed = fresh-formed (alone emptySet) (record { set = empty-placed; owners = refl }) empty-valid (omega arith) refl
 
@@ -81,6 +82,11 @@ start-gives z b = by-test (valid (z .set))
     (λ g. rw (e, g) (given-formed z b e (leb-true _ _ g)))
     (λ g. rw (e, g) empty-formed))
     (λ e. rw e empty-formed)
+
+-- of a set alone
+pub alone-gives : (S : Set) → Placed S → Formed (startOf S .state)
+unfolding StartGives
+alone-gives S placed = subst (λ (r : StartResult). Formed (r .state)) (start-alone S) (start-gives (alone S) (record { set = placed; owners = refl }))
 
 -- ---- the calls
 

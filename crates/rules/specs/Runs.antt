@@ -196,12 +196,18 @@ unfoldable pub stepsFrom : Run → List Call → List Step
 stepsFrom r [] = []
 stepsFrom r (c ∷ cs) = stepTo (r .state) c ∷ stepsFrom (stepOf r c) cs
 
+unfoldable pub stepsFor : Start → List Call → List Step
+stepsFor z calls = stepsFrom (beginFor z) calls
+
 unfoldable pub stepsOf : Set → List Call → List Step
 stepsOf x calls = stepsFrom (begin x) calls
 
 -- the answers alone, in order
 abbrev pub saidAt : Step → Says
 saidAt s = s .says
+
+unfoldable pub answersFor : Start → List Call → List Says
+answersFor z calls = map saidAt (stepsFor z calls)
 
 unfoldable pub answersOf : Set → List Call → List Says
 answersOf x calls = map saidAt (stepsOf x calls)
