@@ -15,6 +15,7 @@ pub mod Parties
 pub mod Events
 pub mod Runs
 pub mod Refusals
+pub mod Shared
 pub mod Ways
 pub mod Recordings
 pub mod Resumed
