@@ -57,7 +57,7 @@ fn starts() {
 
 // A state for each way to break a party's rule.
 fn broken() {
-    crate::say::words(b"65 places, an unused stream theirs, more than their number\n");
+    crate::say::words(b"65 places, an unused stream theirs, more than a party's number\n");
     let mut s = begin(40, 24);
     let places = Places {
         ours: 40,
@@ -78,6 +78,13 @@ fn broken() {
     };
     s.places = places;
     yard::post(s, 0);
+    let mut s = yard::post(begin(40, 24), 0);
+    let places = Places {
+        ours: 0,
+        theirs: 64,
+    };
+    s.places = places;
+    yard::post(s, 1);
 }
 
 pub fn each() {
