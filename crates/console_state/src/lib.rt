@@ -3,7 +3,7 @@ ghost use mathlib.Core.Path.{_≡_};
 ghost use Rattle.ascii.specs.Decimal.{letters};
 ghost use Rattle.line.specs.Line.{holding};
 ghost use Rattle.answer_words.specs.Words.{lineOf};
-ghost use Rattle.console_state.specs.StateCommands.{clockPut, pendingPut, messagePut, stagedPut, doorPut, ownerOf, placesFor, ownsPut, roomPut, ownerPut, placesPut, firstTerms, started, posted, ran, stateAfter, termsAfter, stateLine};
+ghost use Rattle.console_state.specs.StateCommands.{clockPut, pendingPut, messagePut, stagedPut, doorPut, ownerOf, ownsPut, roomPut, ownerPut, placesPut, firstTerms, started, posted, ran, stateAfter, termsAfter, stateLine};
 use console_names::NUMBERS;
 use console_names::StateCommand;
 use line::Line;
