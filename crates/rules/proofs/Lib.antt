@@ -1,5 +1,6 @@
 -- Theorems about the definitions. Assumes nothing.
 pub mod Examples
+pub mod Joint
 pub mod Valid
 pub mod Stages
 pub mod Ahead
@@ -15,7 +16,6 @@ pub mod Parties
 pub mod Events
 pub mod Runs
 pub mod Refusals
-pub mod Shared
 pub mod Ways
 pub mod Recordings
 pub mod Resumed
