@@ -7,4 +7,5 @@ pub mod Waits
 pub mod Kept
 pub mod Runs
 pub mod Refusals
+pub mod Starts
 pub mod Steps

@@ -19,7 +19,7 @@ use Rattle.rules.specs.Numbers.{Says, refused, refused-with-0, started, posted,
 use Rattle.promise_steps.specs.Refusals.{saysToPost, saysToUnit, Twelve, One, NotInSet, Fifteen, DoorShut, Two, AllPlacesTaken, Three, AtLastClock, Four, DoneWithNothing, RefusedSame}
 
 -- the number of a refusal, 0 of any other answer: two that say the same have the same
-no-of : Says → ℕ
+unfoldable pub no-of : Says → ℕ
 no-of (refused n) = n
 no-of (refused-with-0 n) = n
 no-of started = 0
