@@ -5,10 +5,11 @@ use std::fmt::Write;
 use crate::cable::Carried;
 use crate::check::{self, Position};
 use crate::load;
+use crate::parties::{Parties, Party, Places};
 use crate::recording::{self, Place};
 use crate::refusal::Refusal;
 use crate::replay;
-use crate::requests::{DOOR, PIECES, REPLAY, RESUMABLE, STAGES};
+use crate::requests::{DOOR, PARTIES, PIECES, REPLAY, RESUMABLE, STAGES};
 use crate::set::{self, Set, Stage, Stream, Tuple, STAGE_PLACES, STREAM_PLACES, TUPLE_PLACES};
 use crate::sheet;
 use crate::state::{Message, State, MESSAGE_PLACES};
@@ -25,7 +26,8 @@ pub const LONGEST_RECORDING: usize = 1_024;
 
 /// "The console holds a set (at first the empty set) and a state (at first the start of the empty
 /// set)." Of request 1 it holds "the recording that is replayed" ("At first it is empty.") and the
-/// reader's place; of request 5 the carried state; of request 7 the position.
+/// reader's place; of request 5 the carried state; of request 7 the position; of request 8 owners
+/// and places.
 #[derive(Clone, Debug, PartialEq, Eq)]
 pub struct Console {
     /// The requests that are in force: all up to this number.
@@ -42,6 +44,8 @@ pub struct Console {
     pub carried: Carried,
     /// The position of the resumable check.
     pub position: Position,
+    /// The owners and places that `start` uses.
+    pub parties: Parties,
 }
 
 /// "Each request's commands come with its landing." The request that brings a command, 0 for every
@@ -53,6 +57,7 @@ fn request_of(name: &[u8]) -> u32 {
         b"cable" | b"feed" | b"close" => PIECES,
         b"door" => DOOR,
         b"open" | b"go" | b"resume" => RESUMABLE,
+        b"owner" | b"places" | b"owns" | b"room" => PARTIES,
         _ => 0,
     }
 }
@@ -79,6 +84,8 @@ impl Console {
                 set: Set::EMPTY,
                 next: 1,
             },
+            // "at first all ours, 64 and 0"
+            parties: Parties::US_ALONE,
         }
     }
 
@@ -170,14 +177,7 @@ impl Console {
             }),
             (b"jitter", &[cycle, jitter]) => Some(self.jitter(cycle, jitter)),
             (b"verdict", []) => Some(load::verdict(&self.set).to_string()),
-            (b"start", []) => {
-                let (state, result) = State::start(&self.set, self.requests);
-                self.state = state;
-                Some(match result {
-                    Ok(()) => "started".to_string(),
-                    Err(refusal) => refusal.to_string(),
-                })
-            }
+            (b"start", []) => Some(self.start()),
             (b"clock", &[clock]) => {
                 self.state.clock = clock;
                 put()
@@ -231,7 +231,37 @@ impl Console {
             }
             (b"close", []) => Some(self.close()),
             (b"where", []) => Some(format!("at {} {}", self.place.byte, self.place.bit)),
-            _ => None,
+            _ => self.command_of_parties(name, &numbers),
+        }
+    }
+
+    /// The commands of request 8.
+    fn command_of_parties(&mut self, name: &[u8], numbers: &[u32]) -> Option<String> {
+        match (name, numbers) {
+            (b"owner", &[place, party]) => {
+                let owner = &mut self.parties.owners[index(place, STREAM_PLACES)?];
+                *owner = Party::of_number(party)?;
+            }
+            (b"places", &[ours, theirs]) => self.parties.places = Places { ours, theirs },
+            (b"owns", &[place, party]) => {
+                let owner = &mut self.state.parties.owners[index(place, STREAM_PLACES)?];
+                *owner = Party::of_number(party)?;
+            }
+            (b"room", &[ours, theirs]) => self.state.parties.places = Places { ours, theirs },
+            _ => return None,
+        }
+        put()
+    }
+
+    /// "`start`: the state becomes the start of the set. Prints `started`, or `refused 7` (and the
+    /// start of the empty set)." With request 8 it goes by the owners and places that were put, and
+    /// "prints `refused 16` too".
+    fn start(&mut self) -> String {
+        let (state, result) = State::start_shared(&self.set, &self.parties, self.requests);
+        self.state = state;
+        match result {
+            Ok(()) => "started".to_string(),
+            Err(refusal) => refusal.to_string(),
         }
     }
 
@@ -373,7 +403,8 @@ impl Console {
     ///
     /// "What `state` prints grows at its end: the lines of a request stand behind those of the
     /// requests before it, and only for what is not zero": "`state` prints `staged I N` (a place of
-    /// which only the stage is not 0 has no `message` line)"; "`state` prints `door I N`".
+    /// which only the stage is not 0 has no `message` line)"; "`state` prints `door I N`"; of owners
+    /// and places [`show_parties`].
     fn show_state(&self) -> String {
         let mut answer = format!("clock {}\npending {}", self.state.clock, self.state.pending);
         for (place, message) in self.state.messages.iter().enumerate() {
@@ -400,8 +431,25 @@ impl Console {
                     .expect("a string takes all that is written to it");
             }
         }
-        answer
+        answer + &show_parties(&self.state.parties)
     }
+}
+
+/// "`state` prints `owns I 1`, `room A B`": "only for what is not zero (owners: not ours; places:
+/// not 64 and 0)".
+fn show_parties(parties: &Parties) -> String {
+    let mut lines = String::new();
+    for (place, &owner) in parties.owners.iter().enumerate() {
+        if owner != Party::Ours {
+            write!(lines, "\nowns {place} {}", owner.number())
+                .expect("a string takes all that is written to it");
+        }
+    }
+    if parties.places != Parties::US_ALONE.places {
+        let Places { ours, theirs } = parties.places;
+        write!(lines, "\nroom {ours} {theirs}").expect("a string takes all that is written to it");
+    }
+    lines
 }
 
 /// "Print `put`."

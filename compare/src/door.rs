@@ -77,6 +77,21 @@ impl Door {
     }
 }
 
+/// Whether a post at a clock keeps the event limit of a stream, given the clocks of its accepted
+/// posts so far, none of them later.
+///
+/// "A run keeps the limit if, for every x and I of 0 or more, the accepted posts at clocks x to
+/// x + I, both ends counted, are at most E(I)." The new post adds to the windows that it is in. As
+/// E never falls, it is enough to look at those that end with it, and among these at those that
+/// begin with a post: a window that begins with none holds the same posts as a shorter one.
+pub fn keeps_limit(stream: &Stream, posts: &[u32], clock: u32) -> bool {
+    let with_new_post = posts.len() as u64 + 1;
+    stream.event_limit(0) >= 1
+        && posts.iter().zip(0..).all(|(&begin, earlier)| {
+            with_new_post - earlier <= stream.event_limit(u64::from(clock - begin))
+        })
+}
+
 /// An accepted post.
 #[derive(Clone, Copy, Debug, PartialEq, Eq)]
 struct Accepted {

@@ -13,8 +13,10 @@
 //! - [`load`]: demand, H, long-run load and the verdicts
 //! - [`sheet`]: reading and writing the packed sheet, of both versions (request 4)
 //! - [`door`]: which posts come too early (request 6)
+//! - [`parties`]: whose streams and places they are (request 8)
 //! - [`state`]: the state, its rules, and the calls start, post, choose and unit
 //! - [`trace`]: the trace program
+//! - [`view`]: what a party sees of a run, and its answers from that alone (request 8)
 //! - [`recording`]: recordings of calls, and the cab's recorder (request 1)
 //! - [`replay`]: replay of a recording, step by step and whole (request 1)
 //! - [`cable`]: a sheet that comes in pieces (request 5)
@@ -29,6 +31,7 @@ pub mod check;
 pub mod console;
 pub mod door;
 pub mod load;
+pub mod parties;
 pub mod recording;
 pub mod refusal;
 pub mod replay;
@@ -37,3 +40,4 @@ pub mod set;
 pub mod sheet;
 pub mod state;
 pub mod trace;
+pub mod view;

@@ -7,7 +7,7 @@ use std::fmt;
 pub enum Refusal {
     /// "post to a stream not in the set"
     NoSuchStream = 1,
-    /// "post with 64 pending"
+    /// "post with 64 pending"; with request 8 "2 now means the party's number"
     Full = 2,
     /// "unit at clock 4,000,000,000"
     LastClock = 3,
@@ -36,6 +36,8 @@ pub enum Refusal {
     AfterEnd = 14,
     /// "exactly when accepting would break that stream's limit given its accepted posts so far"
     AtTheDoor = 15,
+    /// "16 at start, after 7, when the places exceed 64"
+    TooManyPlaces = 16,
 }
 
 impl Refusal {

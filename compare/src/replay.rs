@@ -1,7 +1,9 @@
 //! Replay of a recording (request 1): a step of it, the office reader, and the replay program.
 
+use crate::parties::Parties;
 use crate::recording::{said_at, Place, Said};
 use crate::refusal::Refusal;
+use crate::sheet;
 use crate::state::{Answer, State};
 use crate::trace::{call, line, Run};
 
@@ -26,6 +28,16 @@ impl Replayed {
             Replayed::End => "end".to_string(),
             Replayed::Refused(refusal) => refusal.to_string(),
         }
+    }
+}
+
+/// Where a replay starts. "The start: bytes of a sheet, and reading's refusals 5, 6, 7, 10 as they
+/// are." "Replay starts with the same owners and places", and with 16 where they are too many. A
+/// refusal comes with the start of the empty set.
+pub fn start(sheet: &[u8], parties: &Parties, requests: u32) -> (State, Result<(), Refusal>) {
+    match sheet::read(sheet, requests) {
+        Ok(set) => State::start_shared(&set, parties, requests),
+        Err(refusal) => (State::empty(requests), Err(refusal)),
     }
 }
 
@@ -81,7 +93,7 @@ impl<'a> Reader<'a> {
 /// the answer the cab gave". It prints "the lines of the trace program, the verdict first, then
 /// `end` or `refused 13` or `refused 14`"; "all steps before them stand". "The start: bytes of a
 /// sheet, and reading's refusals 5, 6, 7, 10 as they are": as with a trace, "a refused sheet
-/// prints only that line".
+/// prints only that line", and all streams are ours, with 64 places.
 pub fn run(sheet: &[u8], recording: &[u8], requests: u32) -> Run {
     let (mut run, mut state) = match Run::begin(sheet, requests) {
         (run, Some(state)) => (run, state),

@@ -6,10 +6,10 @@ use std::io;
 
 /// The requests of document 02 that are in force: all up to this number. A request's landing
 /// raises it.
-pub const IN_FORCE: u32 = 7;
+pub const IN_FORCE: u32 = 8;
 
 /// The last request that is rendered here. Those above [`IN_FORCE`] wait for their landing.
-pub const RENDERED: u32 = RESUMABLE;
+pub const RENDERED: u32 = PARTIES;
 
 /// "CR 1. Replay a cab's recording in the office."
 pub const REPLAY: u32 = 1;
@@ -25,6 +25,8 @@ pub const PIECES: u32 = 5;
 pub const DOOR: u32 = 6;
 /// "CR 7. Check while the tablet stays alive." "We want it resumable".
 pub const RESUMABLE: u32 = 7;
+/// "CR 8. Lifting-gear maker on our computer." "A partner's streams will share the message table."
+pub const PARTIES: u32 = 8;
 
 /// The number that a program goes by, and its other arguments: [`IN_FORCE`], or, for trying, N
 /// where the last arguments are `--requests N`. None if request N is not rendered here.

@@ -6,12 +6,16 @@
 //! times, and a post to a stream with a door is judged by them. The wait that the state keeps is
 //! judged beside it, and the program stops where the two disagree. After a wait was put by hand
 //! there is no run from a start that led to it, and the wait alone decides.
+//!
+//! With request 8 in force a state also has the owners of its streams and the places of the two
+//! parties. That a party's answers come from what it sees of a run alone is for [`crate::view`].
 
 use std::fmt;
 
 use crate::door::History;
+use crate::parties::{Parties, Party};
 use crate::refusal::Refusal;
-use crate::requests::DOOR;
+use crate::requests::{DOOR, PARTIES};
 use crate::set::{Set, Stage, Stream, GREATEST_TASK, STREAM_PLACES};
 
 /// "up to 64 pending messages"
@@ -59,6 +63,8 @@ pub struct State {
     pub messages: [Message; MESSAGE_PLACES],
     /// "Kept for each stream, in the state: a wait, 0 at the start."
     pub waits: [u32; STREAM_PLACES],
+    /// "State: owners and places, last."
+    pub parties: Parties,
     /// What led to it.
     past: Past,
 }
@@ -89,7 +95,9 @@ impl Past {
 impl PartialEq for State {
     fn eq(&self, other: &State) -> bool {
         let held = |state: &State| (state.set, state.clock, state.pending, state.waits);
-        held(self) == held(other) && self.messages == other.messages
+        held(self) == held(other)
+            && self.messages == other.messages
+            && self.parties == other.parties
     }
 }
 
@@ -185,6 +193,7 @@ impl State {
             pending: 0,
             messages: [Message::UNUSED; MESSAGE_PLACES],
             waits: [0; STREAM_PLACES],
+            parties: Parties::US_ALONE,
             past: Past::new(requests),
         }
     }
@@ -192,13 +201,35 @@ impl State {
     /// "Start. A valid set gives the clock at 0 and no message. An invalid one gives 7 and the
     /// start of the empty set."
     ///
-    /// The requests up to a number are in force for the calls that follow.
+    /// The requests up to a number are in force for the calls that follow. With request 8: "The old
+    /// `start` with one argument stays as what it is: all ours, 64 and 0."
     pub fn start(set: &Set, requests: u32) -> (State, Result<(), Refusal>) {
+        State::start_shared(set, &Parties::US_ALONE, requests)
+    }
+
+    /// "`start(set, owners, places)`": "7, then 16 if the places together exceed 64 (they are any
+    /// numbers; the sum may not overflow), each with the start of the empty set (ours, 64 and 0).
+    /// The owners of streams that the set does not have are taken as ours."
+    ///
+    /// Before request 8 there is one party, whatever is given.
+    pub fn start_shared(
+        set: &Set,
+        parties: &Parties,
+        requests: u32,
+    ) -> (State, Result<(), Refusal>) {
+        let parties = match requests {
+            PARTIES.. => parties,
+            _ => &Parties::US_ALONE,
+        };
         if !set.valid() {
             return (State::empty(requests), Err(Refusal::OutOfRule));
         }
+        if !parties.places.in_rule() {
+            return (State::empty(requests), Err(Refusal::TooManyPlaces));
+        }
         let state = State {
             set: *set,
+            parties: parties.at_start_of(set),
             ..State::empty(requests)
         };
         (state, Ok(()))
@@ -228,7 +259,8 @@ impl State {
     /// With stages: "the stage is one of its stream's; it has used less than that stage's cost;
     /// each task has at most one message *in a stage of that task* with a used unit".
     ///
-    /// With the door: [`State::waits_in_rule`]. Before request 6 every wait is 0.
+    /// With the door: [`State::waits_in_rule`]. Before request 6 every wait is 0. With two parties:
+    /// [`State::parties_in_rule`]. Before request 8 all is ours.
     pub fn well_formed(&self) -> bool {
         self.set.valid()
             && self.pending as usize <= MESSAGE_PLACES
@@ -243,6 +275,24 @@ impl State {
                 .iter()
                 .all(|message| *message == Message::UNUSED)
             && self.waits_in_rule()
+            && self.parties_in_rule()
+    }
+
+    /// "Rules: places together at most 64; unused streams ours; a party has at most its places
+    /// pending." Each message must name a stream of the set.
+    fn parties_in_rule(&self) -> bool {
+        let within = |party| self.pending_of(party) <= self.parties.places.of(party);
+        self.parties.places.in_rule()
+            && self.parties.unused_are_ours(&self.set)
+            && Party::BOTH.into_iter().all(within)
+    }
+
+    /// How many of the pending messages are of a party's streams. Each must name a stream of the
+    /// set.
+    pub fn pending_of(&self, party: Party) -> u32 {
+        let owner = |message: &&Message| self.parties.owners[message.stream as usize];
+        let messages = self.pending_messages().iter();
+        messages.filter(|message| owner(message) == party).count() as u32
     }
 
     /// "Rules: a wait is at most 1 for the first kind, at most (z - a, or 0) + (the larger of a and
@@ -299,7 +349,8 @@ impl State {
 
     /// "Post. A message with deadline clock + d and 0 used goes last." Refusals: "post 12, 1, 2".
     /// "Posting at the last clock is allowed." With the door: "Order of post: 12, 1, 15, 2. A post
-    /// that is refused by 2 adds nothing to the wait."
+    /// that is refused by 2 adds nothing to the wait." With two parties: "A post is refused as full
+    /// exactly when its own party has its number pending."
     pub fn post(&mut self, stream: u32) -> Answer {
         if !self.well_formed() {
             return Answer::Refused(Refusal::NotWellFormed);
@@ -310,7 +361,8 @@ impl State {
         if self.door_is_shut(stream as usize) {
             return Answer::Refused(Refusal::AtTheDoor);
         }
-        if self.pending as usize == MESSAGE_PLACES {
+        let owner = self.parties.owners[stream as usize];
+        if self.pending_of(owner) == self.parties.places.of(owner) {
             return Answer::Refused(Refusal::Full);
         }
         self.go_through_door(stream as usize);

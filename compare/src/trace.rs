@@ -29,7 +29,8 @@ pub struct Run {
     pub sheet_refused: bool,
 }
 
-/// Runs a trace: the verdict, then the steps.
+/// Runs a trace: the verdict, then the steps. "the trace program gives us all streams and 64
+/// places".
 pub fn run(sheet: &[u8], trace: &[u8], requests: u32) -> Run {
     let (mut run, mut state) = match Run::begin(sheet, requests) {
         (run, Some(state)) => (run, state),

@@ -88,4 +88,7 @@ fn earlier_examples_stay_as_they_were() {
     for requests in DOOR..=RENDERED {
         check(requests, include_str!("examples/cr-06.md"), 4);
     }
+    for requests in RESUMABLE..=RENDERED {
+        check(requests, include_str!("examples/cr-07.md"), 4);
+    }
 }

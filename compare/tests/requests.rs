@@ -7,7 +7,7 @@ use std::process::{Command, Output};
 use common::{said_from, said_with};
 use second::console::Console;
 use second::requests::{
-    of_arguments, DOOR, IN_FORCE, JITTER_BOTH_WAYS, LESS_STACK, PIECES, RENDERED, REPLAY,
+    of_arguments, DOOR, IN_FORCE, JITTER_BOTH_WAYS, LESS_STACK, PARTIES, PIECES, RENDERED, REPLAY,
     RESUMABLE, STAGES,
 };
 
@@ -44,6 +44,16 @@ const COMMANDS_OF_DOOR: [&str; 3] = ["door 0 0", "door 15 1", "door 3 4294967295
 /// Lines that are commands by request 7.
 const COMMANDS_OF_CHECK: [&str; 4] = ["open", "go 0", "go 4294967295", "resume 1"];
 
+/// Lines that are commands by request 8.
+const COMMANDS_OF_PARTIES: [&str; 6] = [
+    "owner 0 0",
+    "owner 15 1",
+    "places 64 0",
+    "places 4294967295 1",
+    "owns 15 1",
+    "room 0 4294967295",
+];
+
 #[test]
 fn what_is_in_force_is_rendered() {
     assert!((0..=RENDERED).contains(&IN_FORCE));
@@ -79,6 +89,12 @@ fn commands_come_with_their_request() {
         }
         assert_ne!(said_from(RESUMABLE, command), "?\n", "{command}");
     }
+    for command in COMMANDS_OF_PARTIES {
+        for requests in 0..PARTIES {
+            assert_eq!(said_with(requests, command), "?\n", "{command}");
+        }
+        assert_eq!(said_from(PARTIES, command), "put\n", "{command}");
+    }
 }
 
 #[test]
@@ -97,6 +113,7 @@ fn a_command_that_is_not_in_force_changes_nothing() {
         (STAGES, &COMMANDS_OF_PIECES),
         (PIECES, &COMMANDS_OF_DOOR),
         (DOOR, &COMMANDS_OF_CHECK),
+        (RESUMABLE, &COMMANDS_OF_PARTIES),
     ] {
         let mut console = Console::new(requests);
         for line in ["read 10980010000a0000500000", "start", "post 0", "unit"] {
@@ -183,6 +200,7 @@ fn programs_of_a_request_that_is_not_in_force_are_not_compared() {
         ("pieces", PIECES, env!("CARGO_BIN_EXE_second-console")),
         ("check", RESUMABLE, env!("CARGO_BIN_EXE_second-console")),
         ("checks", RESUMABLE, env!("CARGO_BIN_EXE_second-check")),
+        ("parties", PARTIES, env!("CARGO_BIN_EXE_second-console")),
     ] {
         let with = |requests: u32| {
             let number = requests.to_string();
@@ -198,6 +216,20 @@ fn programs_of_a_request_that_is_not_in_force_are_not_compared() {
             assert_eq!(with(IN_FORCE).status.code(), Some(0));
         }
     }
+}
+
+#[test]
+fn isolation_is_checked_once_there_are_two_parties() {
+    let with = |requests: u32| {
+        let number = requests.to_string();
+        compared(&["isolation", "20", "1", "--requests", &number])
+    };
+    let output = with(PARTIES - 1);
+    assert_eq!(output.status.code(), Some(2));
+    assert!(String::from_utf8_lossy(&output.stderr).contains("request 8"));
+    let output = with(PARTIES);
+    assert_eq!(output.status.code(), Some(0));
+    assert!(String::from_utf8_lossy(&output.stdout).ends_with(", 0 differ\n"));
 }
 
 #[test]

@@ -23,5 +23,6 @@ pub fn refusal_number(why: Refusal) -> u64
         Refusal::StopsEarly => 13,
         Refusal::Trailing => 14,
         Refusal::Early => 15,
+        Refusal::Crowded => 16,
     }
 }

@@ -27,7 +27,7 @@ use Rattle.console_ask.proofs.Sheets.{write-short}
 said : (v : Says) → length (lineOf (says v)) ≤ lineRoom
 said v = line-short (says v) (says-short v)
 
--- a state of the machine has 64 places for messages, and 16 waits
+-- a state of the machine has 64 places for messages, 16 waits and 16 owners
 pub answer-fits : (q : Question) (ns : List ℕ) (x : Set) (s : State) (w : List ℕ) → Sized s → Prints q ns x s w
     → length w ≤ answerRoom
 answer-fits Write ns x s w all p = omega (arith, ap length p, write-short x (nth ns 0))
@@ -37,5 +37,5 @@ answer-fits Demand ns x s w all p = omega (arith, ap length p, said (countSays (
 answer-fits Jitter ns x s w all p = omega (arith, ap length p, said (jitterSays (jitterOf (nth ns 0) (nth ns 1))))
 answer-fits Verdict ns x s w all p = omega (arith, ap length (p .line), said (verdictSays (p .given)))
 answer-fits Choose ns x s w all p = omega (arith, ap length p, said (chooseSays (chooseOf s)))
-answer-fits Shown ns x s w all p = omega (arith, ap length p, state-short s (all .0) (all .1))
+answer-fits Shown ns x s w all p = omega (arith, ap length p, state-short s all)
 answer-fits Formed ns x s w all p = omega (arith, ap length p, line-short (formedWords (wellFormed s)) (formed-words (wellFormed s)))

@@ -1,4 +1,4 @@
--- A message's lines, and a wait's, and that each takes no more bytes than a line has.
+-- A message's lines, a wait's, an owner's and that of the parties' places, and that each takes no more bytes than a line has.
 -- Assumes nothing.
 use Prim.Native.Nat.{ℕ, _+_, _≤_}
 use native.Mathlib.Omega.{arith}
@@ -6,6 +6,7 @@ use mathlib.Core.Path.{_≡_}
 use mathlib.Core.List.{List, [], _∷_, _++_}
 use lib.ListN.{length, length-append}
 use Rattle.rules.specs.declared.Message.{Message}
+use Rattle.rules.specs.declared.Places.{Places}
 use Rattle.line.specs.declared.Line.{Line}
 use Rattle.ascii.specs.Decimal.{letters, decimalOf, spaced}
 use Rattle.line.specs.Line.{lineRoom, holding, putOf, puts}
@@ -14,7 +15,7 @@ use Rattle.line.proofs.Puts.{then}
 use Rattle.answer_words.specs.Words.{lineOf}
 use Rattle.answer_words.proofs.Lengths.{two, line-short}
 use Rattle.answer_words.proofs.Ends.{ended}
-use Rattle.console_ask.specs.Questions.{messageText, stagedText, doorText}
+use Rattle.console_ask.specs.Questions.{messageText, stagedText, doorText, ownsText, roomText}
 
 -- ---- lengths
 
@@ -51,6 +52,18 @@ door-short i n =
     line-short (letters "door" ++ spaced (decimalOf i) ++ spaced (decimalOf n))
     (omega (arith, two (letters "door") i n))
 
+pub owns-short : (i : ℕ) → length (ownsText i) ≤ lineRoom
+unfolding ownsText
+owns-short i =
+    line-short (letters "owns" ++ spaced (decimalOf i) ++ spaced (decimalOf 1))
+    (omega (arith, two (letters "owns") i 1))
+
+pub room-short : (p : Places) → length (roomText p) ≤ lineRoom
+unfolding roomText
+room-short p =
+    line-short (letters "room" ++ spaced (decimalOf (p .ours)) ++ spaced (decimalOf (p .theirs)))
+    (omega (arith, two (letters "room") (p .ours) (p .theirs)))
+
 -- ---- the lines
 
 pub message-is : (b f u v r : Line) (i : ℕ) (m : Message) → b ≡ holding []
@@ -74,3 +87,15 @@ pub door-is : (b f r : Line) (i n : ℕ) → b ≡ holding []
 unfolding doorText
 door-is b f r i n e p q =
     ended b f r (letters "door" ++ spaced (decimalOf i) ++ spaced (decimalOf n)) (omega (arith, two (letters "door") i n)) e p q
+
+pub owns-is : (b f r : Line) (i : ℕ) → b ≡ holding []
+    → f ≡ puts b (letters "owns" ++ spaced (decimalOf i) ++ spaced (decimalOf 1)) → r ≡ putOf f 10 → r ≡ holding (ownsText i)
+unfolding ownsText
+owns-is b f r i e p q =
+    ended b f r (letters "owns" ++ spaced (decimalOf i) ++ spaced (decimalOf 1)) (omega (arith, two (letters "owns") i 1)) e p q
+
+pub room-is : (b f r : Line) (x : Places) → b ≡ holding []
+    → f ≡ puts b (letters "room" ++ spaced (decimalOf (x .ours)) ++ spaced (decimalOf (x .theirs))) → r ≡ putOf f 10 → r ≡ holding (roomText x)
+unfolding roomText
+room-is b f r x e p q =
+    ended b f r (letters "room" ++ spaced (decimalOf (x .ours)) ++ spaced (decimalOf (x .theirs))) (omega (arith, two (letters "room") (x .ours) (x .theirs))) e p q

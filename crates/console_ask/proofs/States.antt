@@ -1,4 +1,4 @@
--- A state on a page: its clock, its count, its messages and their stages, and its waits, a line each.
+-- A state on a page: its clock, its count, its messages and their stages, its waits, its owners and the parties' places, a line each.
 -- Assumes nothing.
 use Prim.Native.Nat.{ℕ, _+_, _-_, _*_, _≤_, _<_}
 use native.Mathlib.Omega.{arith}
@@ -11,6 +11,10 @@ use lib.Seq.{drop-cons}
 use lib.Dec.{eqb}
 use Rattle.laws.proofs.Sums.{by-test}
 use Rattle.rules.specs.declared.Message.{Message}
+use Rattle.rules.specs.declared.Party.{Party}
+use Rattle.rules.specs.declared.Party.the-variants.{Ours, Theirs}
+use Rattle.rules.specs.declared.Owner.{Owner}
+use Rattle.rules.specs.declared.Places.{Places}
 use Rattle.rules.specs.declared.State.{State}
 use Rattle.line.specs.declared.Line.{Line}
 use Rattle.ascii.specs.Decimal.{letters, decimalOf, spaced}
@@ -19,8 +23,8 @@ use Rattle.answer_words.specs.Words.{lineOf}
 use Rattle.answer_words.proofs.Ends.{ended}
 use Rattle.answer_words.proofs.Lengths.{line-short}
 use Rattle.page.specs.Pages.{roomFor, Onto, appended, endOf}
-use Rattle.console_ask.specs.Questions.{messageText, messageZero, messageLine, stagedText, stagedLine, doorText, doorLine, linesOf, placeLines, restLines, stateLines, linesRoom, placesRoom, doorsRoom, restRoom, answerRoom}
-use Rattle.console_ask.proofs.Lines.{numbered, message-short, staged-short, door-short}
+use Rattle.console_ask.specs.Questions.{messageText, messageZero, messageLine, stagedText, stagedLine, doorText, doorLine, ownsText, ownsIf, ownsLine, roomText, allForUs, roomLine, linesOf, placeLines, tableLines, partyLines, restLines, stateLines, linesRoom, placesRoom, doorsRoom, tableRoom, ownersRoom, partiesRoom, restRoom, answerRoom}
+use Rattle.console_ask.proofs.Lines.{numbered, message-short, staged-short, door-short, owns-short, room-short}
 use Rattle.page.proofs.Pieces.{onto-line, onto-none, onto-room, onto-then, onto-size}
 
 -- ---- a message, and its stage
@@ -55,6 +59,43 @@ module _ (i n : ℕ) (out : List ℕ) (at : ℕ) where
       → (end ≡ endOf out at l) × (page ≡ appended out at l) → Onto out at (doorLine i n) end page
   unfolding doorLine
   wait-onto l end page e f p = rw e (onto-line out (doorText i n) at l end page (door-short i n) f p)
+
+-- an owner, and the parties' places
+
+owns-if : (i : ℕ) (p : Party) → length (ownsIf i p) ≤ lineRoom
+owns-if i Ours = omega arith
+owns-if i Theirs = owns-short i
+
+pub owner-short : (i : ℕ) (o : Owner) → length (ownsLine i o) ≤ lineRoom
+unfolding ownsLine
+owner-short i o = owns-if i (o .party)
+
+module _ (i : ℕ) (o : Owner) (out : List ℕ) (at : ℕ) where
+  pub ours-onto : o .party ≡ Ours → Onto out at (ownsLine i o) at out
+  unfolding ownsLine
+  ours-onto e = rw e (onto-none out at)
+
+  pub theirs-onto : (l : Line) (end : ℕ) (page : List ℕ) → o .party ≡ Theirs → l ≡ holding (ownsText i)
+      → (end ≡ endOf out at l) × (page ≡ appended out at l) → Onto out at (ownsLine i o) end page
+  unfolding ownsLine
+  theirs-onto l end page e f p = rw e (onto-line out (ownsText i) at l end page (owns-short i) f p)
+
+pub shares-short : (p : Places) → length (roomLine p) ≤ lineRoom
+unfolding roomLine
+shares-short p =
+    by-test (allForUs p)
+    (λ e. rw e (omega arith))
+    (λ e. rw e (room-short p))
+
+module _ (x : Places) (out : List ℕ) (at : ℕ) where
+  pub alone-onto : allForUs x ≡ true → Onto out at (roomLine x) at out
+  unfolding roomLine
+  alone-onto e = rw e (onto-none out at)
+
+  pub room-onto : (l : Line) (end : ℕ) (page : List ℕ) → allForUs x ≡ false → l ≡ holding (roomText x)
+      → (end ≡ endOf out at l) × (page ≡ appended out at l) → Onto out at (roomLine x) end page
+  unfolding roomLine
+  room-onto l end page e f p = rw e (onto-line out (roomText x) at l end page (room-short x) f p)
 
 module _ (i : ℕ) (m : Message) (out : List ℕ) (at : ℕ) where
   pub zero-onto : messageZero m ≡ true → Onto out at (messageLine i m) at out
@@ -148,23 +189,57 @@ module _ (ms : List Message) (out : List ℕ) (at : ℕ) (all : length ms ≡ 64
       onto-then out (linesOf messageLine 0 ms) at placesRoom a o room p (linesOf stagedLine 0 ms) end page
       (omega (arith, messages-few ms all, stages-few ms all)) q
 
--- ---- the waits, behind all places
+-- what the types say: 64 places for messages, 16 waits and 16 owners
+pub record Sized (s : State) : Type 0 where
+  pub messages : length (s .messages) ≡ 64
+  pub waits : length (s .waits) ≡ 16
+  pub owners : length (s .owners) ≡ 16
 
-module _ (s : State) (all : length (s .messages) ≡ 64) (waits : length (s .waits) ≡ 16) where
+module _ (s : State) (all : Sized s) where
+  -- ---- the waits, behind all places
+
   doors-few : length (linesOf doorLine 0 (s .waits)) ≤ doorsRoom
-  doors-few = omega (arith, lines-short 16 doorLine (s .waits) wait-short 0 (s .waits))
+  doors-few = omega (arith, all .waits, lines-short 16 doorLine (s .waits) wait-short 0 (s .waits))
+
+  table-few : length (tableLines s) ≤ tableRoom
+  table-few =
+      omega (arith, length-append (placeLines (s .messages)) (linesOf doorLine 0 (s .waits)), places-few (s .messages) (all .messages), doors-few)
+
+  module _ (out : List ℕ) (at : ℕ) (room : roomFor out at tableRoom ≡ true) (a : ℕ) (o : List ℕ) (p : Onto out at (placeLines (s .messages)) a o) where
+    pub doors-room : roomFor o a doorsRoom ≡ true
+    doors-room = onto-room out (placeLines (s .messages)) at tableRoom a o room p doorsRoom (omega (arith, places-few (s .messages) (all .messages)))
+
+    pub table-onto : (end : ℕ) (page : List ℕ) → Onto o a (linesOf doorLine 0 (s .waits)) end page → Onto out at (tableLines s) end page
+    table-onto end page q =
+        onto-then out (placeLines (s .messages)) at tableRoom a o room p (linesOf doorLine 0 (s .waits)) end page
+        (omega (arith, places-few (s .messages) (all .messages), doors-few)) q
+
+  -- ---- the parties' places, behind all owners
+
+  owners-few : length (linesOf ownsLine 0 (s .owners)) ≤ ownersRoom
+  owners-few = omega (arith, all .owners, lines-short 16 ownsLine (s .owners) owner-short 0 (s .owners))
+
+  parties-few : length (partyLines s) ≤ partiesRoom
+  parties-few = omega (arith, length-append (linesOf ownsLine 0 (s .owners)) (roomLine (s .places)), owners-few, shares-short (s .places))
+
+  pub parties-onto : (out : List ℕ) (at : ℕ) → roomFor out at partiesRoom ≡ true → (a : ℕ) (o : List ℕ) → Onto out at (linesOf ownsLine 0 (s .owners)) a o
+      → (end : ℕ) (page : List ℕ) → Onto o a (roomLine (s .places)) end page → Onto out at (partyLines s) end page
+  parties-onto out at room a o p end page q =
+      onto-then out (linesOf ownsLine 0 (s .owners)) at partiesRoom a o room p (roomLine (s .places)) end page
+      (omega (arith, owners-few, shares-short (s .places))) q
+
+  -- ---- the parties, behind all waits
 
   rest-few : length (restLines s) ≤ restRoom
-  rest-few = omega (arith, length-append (placeLines (s .messages)) (linesOf doorLine 0 (s .waits)), places-few (s .messages) all, doors-few)
+  rest-few = omega (arith, length-append (tableLines s) (partyLines s), table-few, parties-few)
 
-  module _ (out : List ℕ) (at : ℕ) (room : roomFor out at restRoom ≡ true) (a : ℕ) (o : List ℕ) (p : Onto out at (placeLines (s .messages)) a o) where
-    pub doors-room : roomFor o a doorsRoom ≡ true
-    doors-room = onto-room out (placeLines (s .messages)) at restRoom a o room p doorsRoom (omega (arith, places-few (s .messages) all))
+  module _ (out : List ℕ) (at : ℕ) (room : roomFor out at restRoom ≡ true) (a : ℕ) (o : List ℕ) (p : Onto out at (tableLines s) a o) where
+    pub parties-room : roomFor o a partiesRoom ≡ true
+    parties-room = onto-room out (tableLines s) at restRoom a o room p partiesRoom (omega (arith, table-few))
 
-    pub rest-onto : (end : ℕ) (page : List ℕ) → Onto o a (linesOf doorLine 0 (s .waits)) end page → Onto out at (restLines s) end page
+    pub rest-onto : (end : ℕ) (page : List ℕ) → Onto o a (partyLines s) end page → Onto out at (restLines s) end page
     rest-onto end page q =
-        onto-then out (placeLines (s .messages)) at restRoom a o room p (linesOf doorLine 0 (s .waits)) end page
-        (omega (arith, places-few (s .messages) all, doors-few)) q
+        onto-then out (tableLines s) at restRoom a o room p (partyLines s) end page (omega (arith, table-few, parties-few)) q
 
 -- ---- the state
 
@@ -199,28 +274,24 @@ module _ (s : State) (out : List ℕ) (at : ℕ) (room : roomFor out at answerRo
         onto-room o (countLine s) a (lineRoom + restRoom) b p (onto-room out (clockLine s) at answerRoom a o room first (lineRoom + restRoom) (omega (arith, clock-short s))) second restRoom
         (omega (arith, count-short s))
 
-    pub state-onto : (end : ℕ) (page : List ℕ) → length (s .messages) ≡ 64 → length (s .waits) ≡ 16 → Onto p b (restLines s) end page
+    pub state-onto : (end : ℕ) (page : List ℕ) → Sized s → Onto p b (restLines s) end page
         → Onto out at (stateLines s) end page
     unfolding stateLines
-    state-onto end page all waits q =
+    state-onto end page all q =
         let left : roomFor o a (lineRoom + restRoom) ≡ true = onto-room out (clockLine s) at answerRoom a o room first (lineRoom + restRoom) (omega (arith, clock-short s)) in
-        let short : length (restLines s) ≤ restRoom = rest-few s all waits in
+        let short : length (restLines s) ≤ restRoom = rest-few s all in
         onto-then out (clockLine s) at answerRoom a o room first (countLine s ++ restLines s) end page
         (omega (arith, clock-short s, count-short s, length-append (countLine s) (restLines s)))
         (onto-then o (countLine s) a (lineRoom + restRoom) b p left second (restLines s) end page (omega (arith, count-short s)) q)
 
--- what the types say: 64 places for messages, and 16 waits
-abbrev pub Sized : State → Type 0
-Sized s = (length (s .messages) ≡ 64) × (length (s .waits) ≡ 16)
-
-pub state-short : (s : State) → length (s .messages) ≡ 64 → length (s .waits) ≡ 16 → length (stateLines s) ≤ answerRoom
+pub state-short : (s : State) → Sized s → length (stateLines s) ≤ answerRoom
 unfolding stateLines
-state-short s all waits =
+state-short s all =
     omega (
       arith,
       clock-short s,
       count-short s,
-      rest-few s all waits,
+      rest-few s all,
       length-append (clockLine s) (countLine s ++ restLines s),
       length-append (countLine s) (restLines s),
     )

@@ -10,6 +10,10 @@ use Rattle.laws.specs.Lists.{every}
 use Rattle.rules.specs.declared.Set.{Set}
 use Rattle.rules.specs.declared.State.{State}
 use Rattle.rules.specs.declared.Message.{Message}
+use Rattle.rules.specs.declared.Party.{Party}
+use Rattle.rules.specs.declared.Party.the-variants.{Ours, Theirs}
+use Rattle.rules.specs.declared.Owner.{Owner}
+use Rattle.rules.specs.declared.Places.{Places}
 use Rattle.rules.specs.declared.Verdict.{Verdict as Judgement}
 use Rattle.rules.specs.Streams.{valid, limitOf, jitterOf}
 use Rattle.rules.specs.States.{wellFormed}
@@ -52,6 +56,26 @@ doorText i n = lineOf (letters "door" ++ nr i ++ nr n)
 unfoldable pub doorLine : ℕ → ℕ → List ℕ
 doorLine i n = cond (eqb n 0) [] (doorText i n)
 
+-- **CR 8**: "`state` prints `owns I 1`, `room A B`", "only for what is not zero (owners: not ours; places: not 64 and 0)"
+unfoldable pub ownsText : ℕ → List ℕ
+ownsText i = lineOf (letters "owns" ++ nr i ++ nr 1)
+
+abbrev pub ownsIf : ℕ → Party → List ℕ
+ownsIf i Ours = []
+ownsIf i Theirs = ownsText i
+
+unfoldable pub ownsLine : ℕ → Owner → List ℕ
+ownsLine i o = ownsIf i (o .party)
+
+unfoldable pub roomText : Places → List ℕ
+roomText p = lineOf (letters "room" ++ nr (p .ours) ++ nr (p .theirs))
+
+unfoldable pub allForUs : Places → Bool
+allForUs p = every (eqb (p .ours) 64 ∷ eqb (p .theirs) 0 ∷ [])
+
+unfoldable pub roomLine : Places → List ℕ
+roomLine p = cond (allForUs p) [] (roomText p)
+
 -- ".. in order", from place i on: what `line` gives for each place
 unfoldable pub linesOf : {A : Type 0} (line : ℕ → A → List ℕ) → ℕ → List A → List ℕ
 linesOf line i [] = []
@@ -61,8 +85,14 @@ linesOf line i (m ∷ ms) = line i m ++ linesOf line (i + 1) ms
 abbrev pub placeLines : List Message → List ℕ
 placeLines ms = linesOf messageLine 0 ms ++ linesOf stagedLine 0 ms
 
+abbrev pub tableLines : State → List ℕ
+tableLines s = placeLines (s .messages) ++ linesOf doorLine 0 (s .waits)
+
+abbrev pub partyLines : State → List ℕ
+partyLines s = linesOf ownsLine 0 (s .owners) ++ roomLine (s .places)
+
 abbrev pub restLines : State → List ℕ
-restLines s = placeLines (s .messages) ++ linesOf doorLine 0 (s .waits)
+restLines s = tableLines s ++ partyLines s
 
 -- "prints `clock N`, then `pending N`, then .."
 unfoldable pub stateLines : State → List ℕ
@@ -96,7 +126,8 @@ Prints Choose ns x s w = w ≡ lineOf (says (chooseSays (chooseOf s)))
 Prints Shown ns x s w = w ≡ stateLines s
 Prints Formed ns x s w = w ≡ lineOf (formedWords (wellFormed s))
 
--- No answer has more lines than a state: a line for its clock, one for its count, two for each of its 64 places, and one for each of its 16 waits.
+-- No answer has more lines than a state: a line for its clock, one for its count, two for each of its 64 places, one for each of its 16 waits,
+-- one for each of its 16 owners, and one for the parties' places.
 abbrev pub linesRoom : ℕ
 linesRoom = 64 * lineRoom
 
@@ -106,8 +137,17 @@ placesRoom = linesRoom + linesRoom
 abbrev pub doorsRoom : ℕ
 doorsRoom = 16 * lineRoom
 
+abbrev pub tableRoom : ℕ
+tableRoom = placesRoom + doorsRoom
+
+abbrev pub ownersRoom : ℕ
+ownersRoom = 16 * lineRoom
+
+abbrev pub partiesRoom : ℕ
+partiesRoom = ownersRoom + lineRoom
+
 abbrev pub restRoom : ℕ
-restRoom = placesRoom + doorsRoom
+restRoom = tableRoom + partiesRoom
 
 abbrev pub answerRoom : ℕ
 answerRoom = lineRoom + lineRoom + restRoom

@@ -9,16 +9,20 @@ ghost use Rattle.line.specs.Line.{holding};
 ghost use Rattle.answer_words.specs.Words.{lineOf};
 ghost use Rattle.page.specs.Pages.{roomFor, Onto};
 ghost use Rattle.console_names.specs.Rows.{mostBytes};
-ghost use Rattle.console_ask.specs.Questions.{messageText, messageLine, stagedText, stagedLine, doorText, doorLine, linesOf, placeLines, restLines, stateLines, sheetLines, writeLines, linesRoom, placesRoom, doorsRoom, restRoom, answerRoom, Answered, Asks};
+ghost use Rattle.console_ask.specs.Questions.{messageText, messageLine, stagedText, stagedLine, doorText, doorLine, ownsText, ownsLine, roomText, roomLine, linesOf, placeLines, tableLines, partyLines, restLines, stateLines, sheetLines, writeLines, linesRoom, placesRoom, doorsRoom, ownersRoom, tableRoom, partiesRoom, restRoom, answerRoom, Answered, Asks};
 use console_names::NUMBERS;
 use console_names::Question;
 use line::Line;
 use rules::Message;
+use rules::Owner;
+use rules::Party;
+use rules::Places;
 use rules::Set;
 use rules::State;
 
-// Room for any answer: a line for a state's clock, one for its count, two for each of its places, and one for each wait.
-pub const ROOM: usize = (2 + 64 + 64 + 16) * line::ROOM;
+// Room for any answer: a line for a state's clock, one for its count, two for each of its places, one for each wait, one
+// for each owner, and one for the parties' places.
+pub const ROOM: usize = (2 + 64 + 64 + 16 + 16 + 1) * line::ROOM;
 
 // The longest buffer for a sheet.
 const MOST_BYTES: usize = console_names::MOST_BYTES as usize;
@@ -50,6 +54,21 @@ fn door_line(i: usize, n: u32) -> Line
     line::put(line::two(line::blank(), b"door", i as u64, n as u64), b'\n')
 }
 
+fn owns_line(i: usize) -> Line
+    ensures { λ r. ⌜ r ≡ holding (ownsText i) ⌝ }
+{
+    line::put(line::two(line::blank(), b"owns", i as u64, 1), b'\n')
+}
+
+fn room_line(p: Places) -> Line
+    ensures { λ r. ⌜ r ≡ holding (roomText p) ⌝ }
+{
+    line::put(
+        line::two(line::blank(), b"room", p.ours as u64, p.theirs as u64),
+        b'\n',
+    )
+}
+
 // A place that is all zero, but for its stage, is left out.
 fn message_onto(i: usize, m: Message, out: &mut [u8], at: usize) -> usize
     ensures { λ r. ⌜ Onto (now (out .entry)) at (messageLine i m) r (now (out .exit)) ⌝ }
@@ -78,6 +97,28 @@ fn door_onto(i: usize, n: u32, out: &mut [u8], at: usize) -> usize
         at
     } else {
         page::append(out, at, door_line(i, n))
+    }
+}
+
+// What is ours is left out.
+fn owns_onto(i: usize, o: Owner, out: &mut [u8], at: usize) -> usize
+    ensures { λ r. ⌜ Onto (now (out .entry)) at (ownsLine i o) r (now (out .exit)) ⌝ }
+{
+    let party = o.party;
+    match party {
+        Party::Ours => at,
+        Party::Theirs => page::append(out, at, owns_line(i)),
+    }
+}
+
+// All places for us are left out.
+fn room_onto(p: Places, out: &mut [u8], at: usize) -> usize
+    ensures { λ r. ⌜ Onto (now (out .entry)) at (roomLine p) r (now (out .exit)) ⌝ }
+{
+    if (p.ours == 64) & (p.theirs == 0) {
+        at
+    } else {
+        page::append(out, at, room_line(p))
     }
 }
 
@@ -133,12 +174,45 @@ fn doors_onto(s: State, out: &mut [u8], at: usize) -> usize
 }
 
 // The waits stand behind all places.
+fn tables_onto(s: State, out: &mut [u8], at: usize) -> usize
+    requires { ⌜ roomFor (now out) at tableRoom ≡ true ⌝ }
+    ensures { λ r. ⌜ Onto (now (out .entry)) at (tableLines s) r (now (out .exit)) ⌝ }
+{
+    let end = places_onto(s, out, at);
+    doors_onto(s, out, end)
+}
+
+fn owners_onto(s: State, out: &mut [u8], at: usize) -> usize
+    requires { ⌜ roomFor (now out) at ownersRoom ≡ true ⌝ }
+    ensures { λ r. ⌜ Onto (now (out .entry)) at (linesOf ownsLine 0 (s .owners)) r (now (out .exit)) ⌝ }
+{
+    let owners = s.owners;
+    let mut end = at;
+    let mut i = 0;
+    while i < 16 {
+        end = owns_onto(i, owners[i], out, end);
+        i += 1;
+    }
+    end
+}
+
+// The parties' places stand behind all owners.
+fn parties_onto(s: State, out: &mut [u8], at: usize) -> usize
+    requires { ⌜ roomFor (now out) at partiesRoom ≡ true ⌝ }
+    ensures { λ r. ⌜ Onto (now (out .entry)) at (partyLines s) r (now (out .exit)) ⌝ }
+{
+    let end = owners_onto(s, out, at);
+    let places = s.places;
+    room_onto(places, out, end)
+}
+
+// The parties stand behind all waits.
 fn rest_onto(s: State, out: &mut [u8], at: usize) -> usize
     requires { ⌜ roomFor (now out) at restRoom ≡ true ⌝ }
     ensures { λ r. ⌜ Onto (now (out .entry)) at (restLines s) r (now (out .exit)) ⌝ }
 {
-    let end = places_onto(s, out, at);
-    doors_onto(s, out, end)
+    let end = tables_onto(s, out, at);
+    parties_onto(s, out, end)
 }
 
 // A word and a number, as a line.

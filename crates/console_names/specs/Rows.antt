@@ -9,7 +9,7 @@ use Rattle.laws.specs.Bits.{zeros}
 use Rattle.ascii.specs.Decimal.{letters}
 use Rattle.ascii.specs.Same.{same}
 use Rattle.console_names.specs.declared.SetCommand.the-variants.{Read, Streams, Stream, Once, Every, Version, Stages, Stage}
-use Rattle.console_names.specs.declared.StateCommand.the-variants.{Start, Clock, Pending, Message, Post, Unit, Done, Staged, Door}
+use Rattle.console_names.specs.declared.StateCommand.the-variants.{Start, Clock, Pending, Message, Post, Unit, Done, Staged, Door, Owner, Places, Owns, Room}
 use Rattle.console_names.specs.declared.Question.the-variants as ask
 use Rattle.console_names.specs.declared.ReplayCommand.the-variants.{Recording, Next, Reader, Where}
 use Rattle.console_names.specs.declared.CableCommand.the-variants.{Cable as NewCable, Feed, Close}
@@ -97,6 +97,18 @@ stateRow w =
     ∷ []
     )
 
+-- **CR 8**: "`owner I P` (P 0 ours or 1 theirs, else `?`), `places A B`", "`owns I P`, `room A B`": "(I 0 to 15 for streams, .. P 0 or 1 ..), else `?`;
+-- every other number may be any"
+unfoldable pub partyRow : List ℕ → Row → Row
+partyRow w =
+    among w (
+    row "owner" (State Owner) (15 ∷ 1 ∷ [])
+    ∷ row "places" (State Places) (top ∷ top ∷ [])
+    ∷ row "owns" (State Owns) (15 ∷ 1 ∷ [])
+    ∷ row "room" (State Room) (top ∷ top ∷ [])
+    ∷ []
+    )
+
 -- what only asks, of the set and of the state
 unfoldable pub questionRow : List ℕ → Row → Row
 questionRow w =
@@ -135,4 +147,4 @@ checkRow w = among w (row "open" (Check Open) [] ∷ row "go" (Check Go) (top �
 
 -- "A line that is not one of those below .. prints `?`"
 unfoldable pub rowOf : List ℕ → Row
-rowOf w = checkRow w (cableRow w (replayRow w (questionRow w (stateRow w (setRow w (asks Unknown []))))))
+rowOf w = checkRow w (cableRow w (replayRow w (questionRow w (partyRow w (stateRow w (setRow w (asks Unknown [])))))))

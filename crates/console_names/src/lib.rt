@@ -1,7 +1,7 @@
 // The console's commands by name, in groups, and what each asks for.
 ghost use mathlib.Core.Path.{_≡_};
 ghost use mathlib.Core.List.{_∷_, []};
-ghost use Rattle.console_names.specs.Rows.{mostBytes, ifNamed, setRow, stateRow, questionRow, replayRow, cableRow, checkRow, rowOf};
+ghost use Rattle.console_names.specs.Rows.{mostBytes, ifNamed, setRow, stateRow, partyRow, questionRow, replayRow, cableRow, checkRow, rowOf};
 
 // The commands that change the set.
 pub enum SetCommand {
@@ -15,7 +15,7 @@ pub enum SetCommand {
     Stage,
 }
 
-// The commands that change the state.
+// The commands that change the state, and what a start uses.
 pub enum StateCommand {
     Start,
     Clock,
@@ -26,6 +26,10 @@ pub enum StateCommand {
     Done,
     Staged,
     Door,
+    Owner,
+    Places,
+    Owns,
+    Room,
 }
 
 // The commands that ask, and change nothing.
@@ -199,6 +203,22 @@ fn state_row(w: &[u8], other: Row) -> Row
     r
 }
 
+// Of the commands that change the state, and what a start uses, those of the two parties.
+fn party_row(w: &[u8], other: Row) -> Row
+    ensures { λ r. ⌜ r ≡ partyRow (now (w .entry)) other ⌝ }
+{
+    let mut r = other;
+    let owner = of_state(StateCommand::Owner, 2, [15, 1, 0, 0, 0]);
+    r = named(w, b"owner", owner, r);
+    let places = of_state(StateCommand::Places, 2, [TOP, TOP, 0, 0, 0]);
+    r = named(w, b"places", places, r);
+    let owns = of_state(StateCommand::Owns, 2, [15, 1, 0, 0, 0]);
+    r = named(w, b"owns", owns, r);
+    let room = of_state(StateCommand::Room, 2, [TOP, TOP, 0, 0, 0]);
+    r = named(w, b"room", room, r);
+    r
+}
+
 fn question_row(w: &[u8], other: Row) -> Row
     ensures { λ r. ⌜ r ≡ questionRow (now (w .entry)) other ⌝ }
 {
@@ -305,7 +325,10 @@ pub fn row_of(w: &[u8]) -> Row
         w,
         cable_row(
             w,
-            replay_row(w, question_row(w, state_row(w, set_row(w, none)))),
+            replay_row(
+                w,
+                question_row(w, party_row(w, state_row(w, set_row(w, none)))),
+            ),
         ),
     )
 }

@@ -27,13 +27,13 @@ use Rattle.console_obey.specs.declared.Desk.{Desk}
 use Rattle.console_obey.specs.declared.Step.{Step}
 use Rattle.console_obey.specs.Obeyed.{Does, textOf, Obeyed}
 
--- a state of the machine has 64 places for messages, and 16 waits
+-- a state of the machine has 64 places for messages, 16 waits and 16 owners
 pub command-fits : (k : Command) (ns text : List ℕ) (d e : Desk) (w : List ℕ) → Sized (d .state) → Does k ns text d e w
     → length w ≤ answerRoom
 command-fits Nothing ns text d e w all p = omega (arith, ap length (p .1))
 command-fits Unknown ns text d e w all p = omega (arith, ap length (p .1))
 command-fits (Set k) ns text d e w all p = omega (arith, ap length (p .1), set-short k (unhexed text))
-command-fits (State k) ns text d e w all p = omega (arith, ap length (p .1), state-short k ns (d .set) (d .state))
+command-fits (State k) ns text d e w all p = omega (arith, ap length (p .1), state-short k ns (d .set) (d .terms) (d .state))
 command-fits (Ask q) ns text d e w all p = answer-fits q ns (d .set) (d .state) w all (p .1)
 command-fits (Replay k) ns text d e w all p = omega (arith, ap length (p .1), replay-short k (unhexed text) (d .state) (d .replay))
 command-fits Record ns text d e w all p = omega (arith, ap length (p .1), record-short text (nth ns 0))

@@ -34,8 +34,9 @@ use Rattle.console_parse.specs.Lines.{orderOf}
 use Rattle.console_set.specs.declared.SetAfter.{SetAfter}
 use Rattle.console_set.specs.SetCommands.{setAfter, setLine}
 use Rattle.console_set.proofs.Puts.{set-short}
+use Rattle.console_state.specs.declared.Terms.{Terms}
 use Rattle.console_state.specs.declared.StateAfter.{StateAfter}
-use Rattle.console_state.specs.StateCommands.{stateAfter, stateLine}
+use Rattle.console_state.specs.StateCommands.{firstTerms, stateAfter, termsAfter, stateLine}
 use Rattle.console_state.proofs.Steps.{state-short}
 use Rattle.console_replay.specs.declared.Replay.{Replay as Replayed}
 use Rattle.console_replay.specs.declared.ReplayAfter.{ReplayAfter}
@@ -54,11 +55,12 @@ use Rattle.console_ask.specs.Questions.{Asks, Answered, answerRoom}
 use Rattle.console_ask.proofs.Once.{prints-once}
 use Rattle.console_obey.specs.declared.Desk.{Desk}
 use Rattle.console_obey.specs.declared.Step.{Step}
-use Rattle.console_obey.specs.Obeyed.{firstDesk, withSet, withState, withReplay, withCarried, withPosition, Does, Stepped, textOf, Obeyed, ObeysIf, Obeys}
+use Rattle.console_obey.specs.Obeyed.{firstDesk, withSet, withState, withReplay, withCarried, withPosition, withTerms, Does, Stepped, textOf, Obeyed, ObeysIf, Obeys}
 
-pub begun : (x : Streams) (s : StartResult) (t : Replayed) (k : Carried) (p : Position) → x ≡ emptySet → s ≡ startOf x → t ≡ firstReplay → k ≡ firstCarried
-    → p ≡ firstPosition → _≡_ {A = Desk} (record { set = x; state = s .state; replay = t; carried = k; position = p }) firstDesk
-begun x s t k p e f g h i = rw (f, e, g, h, i)
+pub begun : (x : Streams) (s : StartResult) (t : Replayed) (k : Carried) (p : Position) (u : Terms) → x ≡ emptySet → s ≡ startOf x → t ≡ firstReplay
+    → k ≡ firstCarried → p ≡ firstPosition → u ≡ firstTerms
+    → _≡_ {A = Desk} (record { set = x; state = s .state; replay = t; carried = k; position = p; terms = u }) firstDesk
+begun x s t k p u e f g h i j = rw (f, e, g, h, i, j)
 
 -- ---- a command of each group
 
@@ -89,15 +91,21 @@ module _ (d : Desk) (ns text out : List ℕ) (at : ℕ) where
         }
 
     pub state-step : (k : StateCommand) (a : StateAfter)
-        → a ≡ record { state = stateAfter k ns (d .set) (d .state); line = holding (stateLine k ns (d .set) (d .state)) }
+        → a
+        ≡ record {
+          state = stateAfter k ns (d .set) (d .terms) (d .state);
+          terms = termsAfter k ns (d .terms);
+          line = holding (stateLine k ns (d .set) (d .terms) (d .state));
+        }
         → (end ≡ endOf out at (a .line)) × (page ≡ appended out at (a .line))
-        → Stepped d (State k) ns text out at (record { desk = withState (a .state) d; at = end }) page
+        → Stepped d (State k) ns text out at (record { desk = withTerms (a .terms) (withState (a .state) d); at = end }) page
     state-step k a e p =
+        let line : List ℕ = stateLine k ns (d .set) (d .terms) (d .state) in
         record {
-          bytes = stateLine k ns (d .set) (d .state);
-          does = (ap (λ (b : StateAfter). withState (b .state) d) e, refl);
+          bytes = line;
+          does = (ap (λ (b : StateAfter). withTerms (b .terms) (withState (b .state) d)) e, refl);
           onto =
-              onto-line out (stateLine k ns (d .set) (d .state)) at (a .line) end page (state-short k ns (d .set) (d .state))
+              onto-line out line at (a .line) end page (state-short k ns (d .set) (d .terms) (d .state))
               (ap (λ (b : StateAfter). b .line) e) p;
         }
 

@@ -19,7 +19,8 @@ use Rattle.console_names.specs.declared.Command.the-variants.{Nothing, Unknown,
 use Rattle.console_names.specs.Rows.{nth}
 use Rattle.console_parse.specs.Lines.{orderOf}
 use Rattle.console_set.specs.SetCommands.{setAfter, setLine}
-use Rattle.console_state.specs.StateCommands.{stateAfter, stateLine}
+use Rattle.console_state.specs.declared.Terms.{Terms}
+use Rattle.console_state.specs.StateCommands.{firstTerms, stateAfter, termsAfter, stateLine}
 use Rattle.console_replay.specs.declared.Replay.{Replay as Replayed}
 use Rattle.console_replay.specs.ReplayCommands.{firstReplay, replayAfter, replayStateAfter, replayLineOf}
 use Rattle.console_replay.specs.Records.{recordLines}
@@ -32,24 +33,28 @@ use Rattle.console_obey.specs.declared.Step.{Step}
 
 -- "The console holds a set (at first the empty set) and a state (at first the start of the empty set)." And a recording: "At first it is
 -- empty." And what is carried of a sheet in pieces: "(So it is at first.)" And a position of the check: "At first it is the empty set and length 1."
+-- And what a start uses: "at first all ours, 64 and 0"
 abbrev pub firstDesk : Desk
-firstDesk = record { set = emptySet; state = startOf emptySet .state; replay = firstReplay; carried = firstCarried; position = firstPosition }
+firstDesk = record { set = emptySet; state = startOf emptySet .state; replay = firstReplay; carried = firstCarried; position = firstPosition; terms = firstTerms }
 
 -- "the set becomes": all else stays; so with each part of a desk
 abbrev pub withSet : Streams → Desk → Desk
-withSet x d = record { set = x; state = d .state; replay = d .replay; carried = d .carried; position = d .position }
+withSet x d = record { set = x; state = d .state; replay = d .replay; carried = d .carried; position = d .position; terms = d .terms }
 
 abbrev pub withState : Scheduled → Desk → Desk
-withState s d = record { set = d .set; state = s; replay = d .replay; carried = d .carried; position = d .position }
+withState s d = record { set = d .set; state = s; replay = d .replay; carried = d .carried; position = d .position; terms = d .terms }
 
 abbrev pub withReplay : Replayed → Desk → Desk
-withReplay t d = record { set = d .set; state = d .state; replay = t; carried = d .carried; position = d .position }
+withReplay t d = record { set = d .set; state = d .state; replay = t; carried = d .carried; position = d .position; terms = d .terms }
 
 abbrev pub withCarried : Carried → Desk → Desk
-withCarried c d = record { set = d .set; state = d .state; replay = d .replay; carried = c; position = d .position }
+withCarried c d = record { set = d .set; state = d .state; replay = d .replay; carried = c; position = d .position; terms = d .terms }
 
 abbrev pub withPosition : Position → Desk → Desk
-withPosition p d = record { set = d .set; state = d .state; replay = d .replay; carried = d .carried; position = p }
+withPosition p d = record { set = d .set; state = d .state; replay = d .replay; carried = d .carried; position = p; terms = d .terms }
+
+abbrev pub withTerms : Terms → Desk → Desk
+withTerms t d = record { set = d .set; state = d .state; replay = d .replay; carried = d .carried; position = d .position; terms = t }
 
 -- What a command with these numbers does: it leaves the desk e, and prints the bytes w. `text` is what stands behind the numbers: the
 -- steps of a trace for `record`, else hex.
@@ -59,7 +64,10 @@ Does Nothing ns text d e w = (e ≡ d) × (w ≡ [])
 -- "A line that is not one of those below .. prints `?` and changes nothing."
 Does Unknown ns text d e w = (e ≡ d) × (w ≡ lineOf (letters "?"))
 Does (Set k) ns text d e w = (e ≡ withSet (setAfter k ns (unhexed text) (d .set)) d) × (w ≡ setLine k (unhexed text))
-Does (State k) ns text d e w = (e ≡ withState (stateAfter k ns (d .set) (d .state)) d) × (w ≡ stateLine k ns (d .set) (d .state))
+-- "what `start` uses from then on"
+Does (State k) ns text d e w =
+    (e ≡ withTerms (termsAfter k ns (d .terms)) (withState (stateAfter k ns (d .set) (d .terms) (d .state)) d))
+    × (w ≡ stateLine k ns (d .set) (d .terms) (d .state))
 Does (Ask q) ns text d e w = (e ≡ d) × Prints q ns (d .set) (d .state) w
 -- "one step of the replay on the console's state"
 Does (Replay k) ns text d e w =

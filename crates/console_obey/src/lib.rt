@@ -18,6 +18,7 @@ use console_names::ReplayCommand;
 use console_names::SetCommand;
 use console_names::StateCommand;
 use console_replay::Replay;
+use console_state::Terms;
 use rules::Position;
 use rules::Set;
 use rules::State;
@@ -30,6 +31,7 @@ pub struct Desk {
     pub replay: Replay,
     pub carried: Carried,
     pub position: Position,
+    pub terms: Terms,
 }
 
 // What the console holds after a command, and where the page ends.
@@ -48,12 +50,14 @@ pub fn first() -> Desk
     let replay = console_replay::first();
     let carried = sheet_read::cable();
     let position = console_check::first();
+    let terms = console_state::first();
     Desk {
         set,
         state,
         replay,
         carried,
         position,
+        terms,
     }
 }
 
@@ -84,6 +88,7 @@ fn set_step(
     let replay = d.replay;
     let carried = d.carried;
     let position = d.position;
+    let terms = d.terms;
     let end = page::append(out, at, a.line);
     let desk = Desk {
         set,
@@ -91,6 +96,7 @@ fn set_step(
         replay,
         carried,
         position,
+        terms,
     };
     Step { desk, at: end }
 }
@@ -105,12 +111,13 @@ fn state_step(
 ) -> Step
     ensures { λ r. ⌜ Stepped d (Command.State k) n (now (text .entry)) (now (out .entry)) at r (now (out .exit)) ⌝ }
 {
-    let a = console_state::after(d.set, d.state, k, n);
+    let a = console_state::after(d.set, d.state, d.terms, k, n);
     let set = d.set;
     let state = a.state;
     let replay = d.replay;
     let carried = d.carried;
     let position = d.position;
+    let terms = a.terms;
     let end = page::append(out, at, a.line);
     let desk = Desk {
         set,
@@ -118,6 +125,7 @@ fn state_step(
         replay,
         carried,
         position,
+        terms,
     };
     Step { desk, at: end }
 }
@@ -155,6 +163,7 @@ fn replayed_step(
     let replay = a.replay;
     let carried = d.carried;
     let position = d.position;
+    let terms = d.terms;
     let end = page::append(out, at, a.line);
     let desk = Desk {
         set,
@@ -162,6 +171,7 @@ fn replayed_step(
         replay,
         carried,
         position,
+        terms,
     };
     Step { desk, at: end }
 }
@@ -192,6 +202,7 @@ fn cable_step(
     let replay = d.replay;
     let fed = a.carried;
     let position = d.position;
+    let terms = d.terms;
     let end = page::append(out, at, a.line);
     let desk = Desk {
         set: closed,
@@ -199,6 +210,7 @@ fn cable_step(
         replay,
         carried: fed,
         position,
+        terms,
     };
     Step { desk, at: end }
 }
@@ -219,6 +231,7 @@ fn check_step(
     let replay = d.replay;
     let carried = d.carried;
     let gone = a.position;
+    let terms = d.terms;
     let end = page::append(out, at, a.line);
     let desk = Desk {
         set,
@@ -226,6 +239,7 @@ fn check_step(
         replay,
         carried,
         position: gone,
+        terms,
     };
     Step { desk, at: end }
 }

@@ -1,20 +1,40 @@
-// The console's commands that change the state: what each leaves of it, and what it prints.
+// The console's commands that change the state, or what a start uses: what each leaves of them, and what it prints.
 ghost use mathlib.Core.Path.{_≡_};
 ghost use Rattle.ascii.specs.Decimal.{letters};
 ghost use Rattle.line.specs.Line.{holding};
 ghost use Rattle.answer_words.specs.Words.{lineOf};
-ghost use Rattle.console_state.specs.StateCommands.{clockPut, pendingPut, messagePut, stagedPut, doorPut, started, posted, ran, stateAfter, stateLine};
+ghost use Rattle.console_state.specs.StateCommands.{clockPut, pendingPut, messagePut, stagedPut, doorPut, ownerOf, ownsPut, roomPut, ownerPut, placesPut, firstTerms, started, posted, ran, stateAfter, termsAfter, stateLine};
 use console_names::NUMBERS;
 use console_names::StateCommand;
 use line::Line;
 use rules::Message;
+use rules::Owner;
+use rules::Party;
+use rules::Places;
 use rules::Set;
 use rules::State;
 
-// The state after a command, and the line that is printed.
+// What a start uses beside the set: whose each stream is, and the parties' places.
+pub struct Terms {
+    pub owners: [Owner; 16],
+    pub places: Places,
+}
+
+// The state after a command, what a start then uses, and the line that is printed.
 pub struct StateAfter {
     pub state: State,
+    pub terms: Terms,
     pub line: Line,
+}
+
+// What a start uses at first.
+pub fn first() -> Terms
+    ensures { λ r. ⌜ r ≡ firstTerms ⌝ }
+{
+    Terms {
+        owners: state_parties::all_ours(),
+        places: state_parties::all_places(),
+    }
 }
 
 // ---- what is put into the state; a place that there is not stays out
@@ -72,31 +92,87 @@ fn put_door(s: State, i: usize, n: u32) -> State
     next
 }
 
+// ---- whose the streams are, and the parties' places: in the state, and in what a start uses
+
+fn owner_of(n: u32) -> Owner
+    ensures { λ r. ⌜ r ≡ ownerOf n ⌝ }
+{
+    if n == 0 {
+        Owner { party: Party::Ours }
+    } else {
+        Owner {
+            party: Party::Theirs,
+        }
+    }
+}
+
+fn put_owns(s: State, i: usize, n: u32) -> State
+    ensures { λ r. ⌜ r ≡ ownsPut s i n ⌝ }
+{
+    let mut next = s;
+    if i < 16 {
+        next.owners[i] = owner_of(n);
+    }
+    next
+}
+
+fn put_room(s: State, ours: u32, theirs: u32) -> State
+    ensures { λ r. ⌜ r ≡ roomPut s ours theirs ⌝ }
+{
+    let mut next = s;
+    let places = Places { ours, theirs };
+    next.places = places;
+    next
+}
+
+fn put_owner(t: Terms, i: usize, n: u32) -> Terms
+    ensures { λ r. ⌜ r ≡ ownerPut t i n ⌝ }
+{
+    let mut next = t;
+    if i < 16 {
+        next.owners[i] = owner_of(n);
+    }
+    next
+}
+
+fn put_places(t: Terms, ours: u32, theirs: u32) -> Terms
+    ensures { λ r. ⌜ r ≡ placesPut t ours theirs ⌝ }
+{
+    let mut next = t;
+    let places = Places { ours, theirs };
+    next.places = places;
+    next
+}
+
 // ---- every command
 
-fn put(s: State) -> StateAfter
-    ensures { λ r. ⌜ r ≡ record { state = s; line = holding (lineOf (letters "put")) } ⌝ }
+fn put(s: State, t: Terms) -> StateAfter
+    ensures { λ r. ⌜ r ≡ record { state = s; terms = t; line = holding (lineOf (letters "put")) } ⌝ }
 {
     StateAfter {
         state: s,
+        terms: t,
         line: console_words::put_line(),
     }
 }
 
-fn start(x: Set) -> StateAfter
-    ensures { λ r. ⌜ r ≡ started x ⌝ }
+fn start(x: Set, t: Terms) -> StateAfter
+    ensures { λ r. ⌜ r ≡ started x t ⌝ }
 {
-    let r = scheduler::start(x);
+    let owners = t.owners;
+    let places = t.places;
+    let r = scheduler::start_for(x, owners, places);
     let answer = r.answer;
     let state = r.state;
     StateAfter {
         state,
+        terms: t,
         line: console_words::start_line(answer),
     }
 }
 
-fn post(s: State, k: u32) -> StateAfter
-    ensures { λ r. ⌜ r ≡ posted s k ⌝ }
+fn post(s: State, t: Terms, k: u32) -> StateAfter
+    ensures { λ r. ⌜ r ≡ posted s t k ⌝ }
 {
     let clock = s.clock;
     let r = scheduler::post(s, k as usize);
@@ -104,12 +180,13 @@ fn post(s: State, k: u32) -> StateAfter
     let state = r.state;
     StateAfter {
         state,
+        terms: t,
         line: answer_words::post_line(clock, answer),
     }
 }
 
-fn unit(s: State, done: bool) -> StateAfter
-    ensures { λ r. ⌜ r ≡ ran s done ⌝ }
+fn unit(s: State, t: Terms, done: bool) -> StateAfter
+    ensures { λ r. ⌜ r ≡ ran s t done ⌝ }
 {
     let clock = s.clock;
     let r = scheduler::unit(s, done);
@@ -117,25 +194,30 @@ fn unit(s: State, done: bool) -> StateAfter
     let state = r.state;
     StateAfter {
         state,
+        terms: t,
         line: answer_words::unit_line(clock, answer),
     }
 }
 
-// A command with its numbers, where the console holds the set x and the state s.
-pub fn after(x: Set, s: State, k: StateCommand, n: [u32; NUMBERS]) -> StateAfter
-    ensures { λ r. ⌜ r ≡ record { state = stateAfter k n x s; line = holding (stateLine k n x s) } ⌝ }
+// A command with its numbers, where the console holds the set x, the state s and the terms t.
+pub fn after(x: Set, s: State, t: Terms, k: StateCommand, n: [u32; NUMBERS]) -> StateAfter
+    ensures { λ r. ⌜ r ≡ record { state = stateAfter k n x t s; terms = termsAfter k n t; line = holding (stateLine k n x t s) } ⌝ }
 {
     let i = n[0] as usize;
     let j = n[1] as usize;
     match k {
-        StateCommand::Start => start(x),
-        StateCommand::Clock => put(put_clock(s, n[0])),
-        StateCommand::Pending => put(put_pending(s, i)),
-        StateCommand::Message => put(put_message(s, i, j, n[2], n[3])),
-        StateCommand::Post => post(s, n[0]),
-        StateCommand::Unit => unit(s, false),
-        StateCommand::Done => unit(s, true),
-        StateCommand::Staged => put(put_staged(s, i, j)),
-        StateCommand::Door => put(put_door(s, i, n[1])),
+        StateCommand::Start => start(x, t),
+        StateCommand::Clock => put(put_clock(s, n[0]), t),
+        StateCommand::Pending => put(put_pending(s, i), t),
+        StateCommand::Message => put(put_message(s, i, j, n[2], n[3]), t),
+        StateCommand::Post => post(s, t, n[0]),
+        StateCommand::Unit => unit(s, t, false),
+        StateCommand::Done => unit(s, t, true),
+        StateCommand::Staged => put(put_staged(s, i, j), t),
+        StateCommand::Door => put(put_door(s, i, n[1]), t),
+        StateCommand::Owner => put(s, put_owner(t, i, n[1])),
+        StateCommand::Places => put(s, put_places(t, n[0], n[1])),
+        StateCommand::Owns => put(put_owns(s, i, n[1]), t),
+        StateCommand::Room => put(put_room(s, n[0], n[1]), t),
     }
 }

@@ -3,9 +3,12 @@ use Rattle.rules.specs.Runs.{Demand3}
 use Rattle.rules.specs.Sheet.{readOf}
 use Rattle.sheet_write.specs.Answers.{ReadPlaced}
 use Rattle.sheet_write.proofs.Rounds.{read-placed}
-use Rattle.promise_demand3.proofs.Promise.{demand-3}
-use Rattle.promise_code.specs.Promised.{Demand3OfSheet}
+use Rattle.promise_demand3.proofs.Promise.{accepted-valid, demand-3}
+use Rattle.promise_code.specs.Promised.{sheetStart, Demand3OfSheet}
 
 pub demand-3-of-sheet : Demand3OfSheet
 unfolding Demand3OfSheet Demand3 ReadPlaced
-demand-3-of-sheet sheet = demand-3 (readOf sheet .set) (read-placed sheet)
+demand-3-of-sheet sheet owners places long few v calls keeps =
+    demand-3 (sheetStart sheet owners places)
+    (record { boxed = record { set = read-placed sheet; owners = long }; valid-set = accepted-valid (readOf sheet .set) v; few = few })
+    v calls keeps

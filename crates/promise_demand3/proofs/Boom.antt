@@ -3,7 +3,7 @@
 -- Assumes nothing.
 use Prim.Native.Nat.{ℕ, zero, suc, _+_, _-_, _/_, _≤_, _<_}
 use mathlib.Core.Bool.{Bool, true, false, cond}
-use mathlib.Core.Path.{_≡_, refl, subst}
+use mathlib.Core.Path.{_≡_, refl, subst, _∙_}
 use native.Mathlib.Omega.{arith}
 use lib.Dec.{leb, le→leb}
 use lib.ListN.{length}
@@ -14,11 +14,12 @@ use Rattle.rules.specs.declared.Verdict.the-variants.{Accept}
 use Rattle.rules.specs.Streams.{Placed, FourPlaces, noStream, streamAt, events, limit}
 use Rattle.rules.specs.Load.{VerdictOf}
 use Rattle.rules.specs.Numbers.{accept}
-use Rattle.rules.specs.Runs.{Run, accepted, acceptedOf, inWindow, KeepsLimit, KeepsLimits, KeepsOpenLimits, AllLeave, Demand3}
+use Rattle.rules.specs.Runs.{alone, Run, accepted, acceptedOf, inWindow, KeepsLimit, KeepsLimits, KeepsOpenLimits, AllLeave, Demand3}
 use Rattle.rules.proofs.Yard.{Judges}
 use Rattle.rules.proofs.Staged.{boom, boomCalls, boomRun, boom-run, stagings-true}
 use Rattle.promise_steps.proofs.Runs.{all-same}
-use Rattle.promise_demand3.proofs.Promise.{limits-open, demand-3}
+use Rattle.rules.proofs.Parties.{run-alone, starts-alone}
+use Rattle.promise_demand3.proofs.Promise.{accepted-valid, limits-open, demand-3}
 use Rattle.promise_demand3.proofs.SetB.{accept-is, places}
 
 verdict-boom : VerdictOf boom Accept
@@ -55,4 +56,4 @@ pub boom-in-time : AllLeave boom boomRun
 unfolding Demand3
 boom-in-time =
     subst (λ (r : Run). KeepsOpenLimits boom (accepted r) → AllLeave boom r)
-    boom-run (demand-3 boom placed-boom verdict-boom boomCalls) (limits-open boom (accepted boomRun) keeps-boom)
+    (run-alone boom boomCalls ∙ boom-run) (demand-3 (alone boom) (starts-alone boom placed-boom (accepted-valid boom verdict-boom)) verdict-boom boomCalls) (limits-open boom (accepted boomRun) keeps-boom)

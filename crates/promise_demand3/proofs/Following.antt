@@ -12,10 +12,12 @@ use Rattle.rules.specs.declared.StartResult.{StartResult}
 use Rattle.rules.specs.declared.StartAnswer.the-variants.{Started}
 use Rattle.rules.specs.declared.UnitResult.{UnitResult}
 use Rattle.rules.specs.Streams.{Placed, valid}
-use Rattle.rules.specs.Steps.{fresh, startOf, postOf, unitOf, ticked}
+use Rattle.rules.specs.Parties.{ownersFor}
+use borrow.Author.Tests.{le-leb}
+use Rattle.rules.specs.Steps.{freshFor, startFor, postOf, unitOf, ticked}
 use Rattle.rules.specs.declared.Call.{Call}
 use Rattle.rules.specs.declared.Call.the-variants.{Posts, Units}
-use Rattle.rules.specs.Runs.{finished, cut, Run, accepted, departures, afterMoving, afterUnit, stepOf, begin, acceptedOf, departuresOf}
+use Rattle.rules.specs.Runs.{finished, cut, Run, accepted, departures, afterMoving, afterUnit, stepOf, Start, Starts, beginFor, acceptedOf, departuresOf}
 use Rattle.promise_deadlines.specs.Model.{idle, Reaches}
 use Rattle.promise_deadlines.specs.Machine.{Moment, outset, Reached, Following, Lawful}
 use Rattle.promise_steps.specs.Formed.{Formed, StartGives, PostKeeps, UnitKeeps}
@@ -56,24 +58,11 @@ module _ (S : Set) (placed : Placed S) (ok : valid S ≡ true) where
   call-step r (Posts k) g run = post-step S placed ok r k g run (postOf (r .state) k) (post-keeps (r .state) k (g .formed)) (post-case (r .state) k)
   call-step r (Units done) g run = unit-step r done g run (unitOf (r .state) done) (unit-keeps (r .state) done (g .formed)) (unit-case (r .state) done)
 
-  -- ---- the start
-
-  start-is : startOf S ≡ record { answer = Started; state = fresh S }
-  unfolding startOf
-  start-is = rw ok
-
   -- ---- the machine
 
   pub record Shows (r : Run) (m : Moment (base S placed ok)) : Type 0 where
     pub good : Good S placed ok r
     pub seen : m ≡ momentOf S placed ok r
-
-  pub begin-shows : Shows (begin S) (outset (base S placed ok))
-  unfolding paired begin StartGives acceptedOf departuresOf
-  begin-shows = record {
-    good = record { set-is = ap (λ (q : StartResult). q .state .set) start-is; formed = start-gives S placed; numbered = ap (λ (q : StartResult). q .state .count) (sym start-is); timed = begin-time S };
-    seen = ap (λ (q : StartResult). momentOf S placed ok (record { state = q .state; time = 0; names = []; events = [] })) (sym start-is);
-  }
 
   pub follow : (r : Run) (c : Call) (m : Moment (base S placed ok)) → Reached (base S placed ok) m → Shows r m → Following (base S placed ok) Shows m (stepOf r c)
   follow r c m run shown =
@@ -88,5 +77,19 @@ module _ (S : Set) (placed : Placed S) (ok : valid S ≡ true) where
         };
       }
 
-  unfoldable pub lawful : Lawful (base S placed ok) (begin S) stepOf
-  lawful = record { Shows = Shows; begins = begin-shows; follows = follow }
+-- ---- the start
+
+module _ (z : Start) (starts : Starts z) where
+  start-is : startFor (z .set) (z .owners) (z .places) ≡ record { answer = Started; state = freshFor (z .set) (ownersFor (z .set .count) (z .owners)) (z .places) }
+  unfolding startFor
+  start-is = rw (starts .valid-set, le-leb _ _ (starts .few))
+
+  pub begin-shows : Shows (z .set) (starts .boxed .set) (starts .valid-set) (beginFor z) (outset (base (z .set) (starts .boxed .set) (starts .valid-set)))
+  unfolding paired beginFor StartGives acceptedOf departuresOf
+  begin-shows = record {
+    good = record { set-is = ap (λ (q : StartResult). q .state .set) start-is; formed = start-gives z (starts .boxed); numbered = ap (λ (q : StartResult). q .state .count) (sym start-is); timed = begin-time z };
+    seen = ap (λ (q : StartResult). momentOf (z .set) (starts .boxed .set) (starts .valid-set) (record { state = q .state; time = 0; names = []; events = [] })) (sym start-is);
+  }
+
+  unfoldable pub lawful : Lawful (base (z .set) (starts .boxed .set) (starts .valid-set)) (beginFor z) stepOf
+  lawful = record { Shows = Shows (z .set) (starts .boxed .set) (starts .valid-set); begins = begin-shows; follows = follow (z .set) (starts .boxed .set) (starts .valid-set) }

@@ -8,3 +8,4 @@ pub mod Following
 pub mod Promise
 pub mod SetB
 pub mod Boom
+pub mod Alone

@@ -15,6 +15,8 @@ use Rattle.rules.proofs.Events.{accepted-more, departures-same}
 use Rattle.promise_deadlines.specs.Model.{New, post}
 use Rattle.promise_steps.specs.Formed.{Formed}
 use Rattle.promise_steps.proofs.Valid.{stream-valid, stage-cost}
+use Rattle.rules.specs.States.{partyOf}
+use Rattle.state_formed.proofs.WellFormed.{well-formed, place-room}
 use Rattle.promise_steps.proofs.Cases.{PostCase, refuses, accepts, pending-added}
 use Rattle.promise_demand3.specs.Kind.{Named, paired, pendingOf}
 use Rattle.promise_demand3.proofs.Pairing.{name, paired-last}
@@ -53,7 +55,7 @@ module _ (S : Set) (placed : Placed S) (ok : valid S ≡ true) (r : Run) (k : �
   post-step run p f (refuses why) = no-post S placed ok r r refl g run
   post-step run p f (accepts inside room free) = record {
     good = record { set-is = g .set-is; formed = f; numbered = omega (arith, length-append (r .names) (length (accepted r) ∷ []), g .numbered); timed = g .timed };
-    reachable = rw (accepted-more (r .events) (newPost r k), departures-same (r .events) (newPost r k), goes-last room)
+    reachable = rw (accepted-more (r .events) (newPost r k), departures-same (r .events) (newPost r k), goes-last (place-room (r .state) (well-formed (r .state) (g .formed .formed)) (g .formed .housed .places) (partyOf (r .state) k) room))
         (post run (newPost r k) (message r k) (new inside));
     more = newPost r k ∷ [];
     grown = accepted-more (r .events) (newPost r k);

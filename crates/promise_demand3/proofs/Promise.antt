@@ -24,7 +24,7 @@ use Rattle.rules.specs.States.{noMessage, pending}
 use Rattle.rules.specs.Steps.{placeOf, laxityOf, unitOf}
 use Rattle.rules.specs.Load.{demand, VerdictIf, VerdictOf}
 use Rattle.rules.specs.declared.Call.{Call}
-use Rattle.rules.specs.Runs.{Accepted, Departure, Run, accepted, departures, stepOf, begin, runFrom, runOf, KeepsLimits, KeepsOpenLimits, EachHasDoor, LeftInTime, AllLeave, Demand3, AcceptIsEnough, DoorKeeps, overdue, missedNow, missedFrom, missedIn}
+use Rattle.rules.specs.Runs.{Accepted, Departure, Run, accepted, departures, stepOf, Start, Starts, beginFor, runFrom, runFor, KeepsLimits, KeepsOpenLimits, EachHasDoor, LeftInTime, AllLeave, Demand3, AcceptIsEnough, DoorKeeps, overdue, missedNow, missedFrom}
 use Rattle.promise_deadlines.specs.Model.{Keeps, Fits, Left}
 use Rattle.promise_deadlines.specs.Machine.{Moment, outset, Reached, NoneDue, AllLeft, runs, Following}
 use Rattle.promise_deadlines.proofs.Identity.{once, named, gone}
@@ -49,7 +49,7 @@ verdict-fits : (b : Bool) (ss : List Stream) → VerdictIf b ss Accept → (i : 
 verdict-fits true ss v = v .judged .fits
 verdict-fits false ss v = absurd (let z : _≡_ {A = ℕ} 0 1 = cc in omega arith)
 
-accepted-valid : (S : Set) → VerdictOf S Accept → valid S ≡ true
+pub accepted-valid : (S : Set) → VerdictOf S Accept → valid S ≡ true
 unfolding VerdictOf
 accepted-valid S v = verdict-valid (valid S) (streamsOf S) v
 
@@ -69,54 +69,54 @@ unfolding runFrom
 from-append r [] ds = refl
 from-append r (c ∷ cs) ds = from-append (stepOf r c) cs ds
 
-module _ (S : Set) (placed : Placed S) (ok : valid S ≡ true) where
+module _ (z : Start) (starts : Starts z) where
   -- the moment that the deadline argument has after these calls is that of the run
-  abbrev reaches : (calls : List Call) → Following (base S placed ok) (lawful S placed ok .Shows) (outset (base S placed ok)) (runs stepOf (begin S) calls)
-  reaches calls = moment (base S placed ok) (begin S) stepOf (lawful S placed ok) calls
+  abbrev reaches : (calls : List Call) → Following (base (z .set) (starts .boxed .set) (starts .valid-set)) (lawful z starts .Shows) (outset (base (z .set) (starts .boxed .set) (starts .valid-set))) (runs stepOf (beginFor z) calls)
+  reaches calls = moment (base (z .set) (starts .boxed .set) (starts .valid-set)) (beginFor z) stepOf (lawful z starts) calls
 
-  seen : (calls : List Call) → reaches calls .to ≡ momentOf S placed ok (runOf S calls)
-  unfolding runOf lawful
-  seen calls = reaches calls .shown .seen ∙ ap (momentOf S placed ok) (runs-from (begin S) calls)
+  seen : (calls : List Call) → reaches calls .to ≡ momentOf (z .set) (starts .boxed .set) (starts .valid-set) (runFor z calls)
+  unfolding runFor lawful
+  seen calls = reaches calls .shown .seen ∙ ap (momentOf (z .set) (starts .boxed .set) (starts .valid-set)) (runs-from (beginFor z) calls)
 
-  kept : (calls : List Call) → Good S placed ok (runOf S calls)
-  unfolding runOf lawful
-  kept calls = subst (Good S placed ok) (runs-from (begin S) calls) (reaches calls .shown .good)
+  kept : (calls : List Call) → Good (z .set) (starts .boxed .set) (starts .valid-set) (runFor z calls)
+  unfolding runFor lawful
+  kept calls = subst (Good (z .set) (starts .boxed .set) (starts .valid-set)) (runs-from (beginFor z) calls) (reaches calls .shown .good)
 
-  reached : (calls : List Call) → Reached (base S placed ok) (momentOf S placed ok (runOf S calls))
-  reached calls = subst (λ (q : Moment (base S placed ok)). Reached (base S placed ok) q) (seen calls) (reaches calls .next .reached)
+  reached : (calls : List Call) → Reached (base (z .set) (starts .boxed .set) (starts .valid-set)) (momentOf (z .set) (starts .boxed .set) (starts .valid-set) (runFor z calls))
+  reached calls = subst (λ (q : Moment (base (z .set) (starts .boxed .set) (starts .valid-set))). Reached (base (z .set) (starts .boxed .set) (starts .valid-set)) q) (seen calls) (reaches calls .next .reached)
 
   -- the same after more calls
-  abbrev further : (before more : List Call) → Following (base S placed ok) (lawful S placed ok .Shows) (reaches before .to) (runs stepOf (runs stepOf (begin S) before) more)
-  further before more = later (base S placed ok) (begin S) stepOf (lawful S placed ok) before more
+  abbrev further : (before more : List Call) → Following (base (z .set) (starts .boxed .set) (starts .valid-set)) (lawful z starts .Shows) (reaches before .to) (runs stepOf (runs stepOf (beginFor z) before) more)
+  further before more = later (base (z .set) (starts .boxed .set) (starts .valid-set)) (beginFor z) stepOf (lawful z starts) before more
 
-  seen-further : (before more : List Call) → further before more .to ≡ momentOf S placed ok (runOf S (before ++ more))
-  unfolding runOf lawful
+  seen-further : (before more : List Call) → further before more .to ≡ momentOf (z .set) (starts .boxed .set) (starts .valid-set) (runFor z (before ++ more))
+  unfolding runFor lawful
   seen-further before more =
       further before more .shown .seen
-      ∙ ap (momentOf S placed ok) (ap (λ (r : Run). runs stepOf r more) (runs-from (begin S) before) ∙ runs-from (runFrom (begin S) before) more ∙ sym (from-append (begin S) before more))
+      ∙ ap (momentOf (z .set) (starts .boxed .set) (starts .valid-set)) (ap (λ (r : Run). runs stepOf r more) (runs-from (beginFor z) before) ∙ runs-from (runFrom (beginFor z) before) more ∙ sym (from-append (beginFor z) before more))
 
   -- demand 3 of the run, in the words of the deadline argument
-  run-left : Fits (base S placed ok) → (calls : List Call) → Keeps (base S placed ok) (accepted (runOf S calls)) → AllLeft (base S placed ok) (momentOf S placed ok (runOf S calls))
-  run-left fits calls = subst (λ (q : Moment (base S placed ok)). Keeps (base S placed ok) (q .posts) → AllLeft (base S placed ok) q) (seen calls)
-      (all-left (base S placed ok) (begin S) stepOf (lawful S placed ok) fits calls)
+  run-left : Fits (base (z .set) (starts .boxed .set) (starts .valid-set)) → (calls : List Call) → Keeps (base (z .set) (starts .boxed .set) (starts .valid-set)) (accepted (runFor z calls)) → AllLeft (base (z .set) (starts .boxed .set) (starts .valid-set)) (momentOf (z .set) (starts .boxed .set) (starts .valid-set) (runFor z calls))
+  run-left fits calls = subst (λ (q : Moment (base (z .set) (starts .boxed .set) (starts .valid-set))). Keeps (base (z .set) (starts .boxed .set) (starts .valid-set)) (q .posts) → AllLeft (base (z .set) (starts .boxed .set) (starts .valid-set)) q) (seen calls)
+      (all-left (base (z .set) (starts .boxed .set) (starts .valid-set)) (beginFor z) stepOf (lawful z starts) fits calls)
 
-  run-none-due : Fits (base S placed ok) → (before more : List Call) → Keeps (base S placed ok) (accepted (runOf S (before ++ more))) → NoneDue (base S placed ok) (momentOf S placed ok (runOf S before))
-  run-none-due fits before more keeps = subst (λ (q : Moment (base S placed ok)). NoneDue (base S placed ok) q) (seen before)
-      (never-due-at (base S placed ok) (begin S) stepOf (lawful S placed ok) fits before more (subst (λ (q : Moment (base S placed ok)). Keeps (base S placed ok) (q .posts)) (sym (seen-further before more)) keeps))
+  run-none-due : Fits (base (z .set) (starts .boxed .set) (starts .valid-set)) → (before more : List Call) → Keeps (base (z .set) (starts .boxed .set) (starts .valid-set)) (accepted (runFor z (before ++ more))) → NoneDue (base (z .set) (starts .boxed .set) (starts .valid-set)) (momentOf (z .set) (starts .boxed .set) (starts .valid-set) (runFor z before))
+  run-none-due fits before more keeps = subst (λ (q : Moment (base (z .set) (starts .boxed .set) (starts .valid-set))). NoneDue (base (z .set) (starts .boxed .set) (starts .valid-set)) q) (seen before)
+      (never-due-at (base (z .set) (starts .boxed .set) (starts .valid-set)) (beginFor z) stepOf (lawful z starts) fits before more (subst (λ (q : Moment (base (z .set) (starts .boxed .set) (starts .valid-set))). Keeps (base (z .set) (starts .boxed .set) (starts .valid-set)) (q .posts)) (sym (seen-further before more)) keeps))
 
   -- and of its messages without their numbers
-  not-due : Fits (base S placed ok) → (before more : List Call) → Keeps (base S placed ok) (accepted (runOf S (before ++ more))) → Each (λ m. runOf S before .state .clock < m .deadline) (pending (runOf S before .state))
+  not-due : Fits (base (z .set) (starts .boxed .set) (starts .valid-set)) → (before more : List Call) → Keeps (base (z .set) (starts .boxed .set) (starts .valid-set)) (accepted (runFor z (before ++ more))) → Each (λ m. runFor z before .state .clock < m .deadline) (pending (runFor z before .state))
   not-due fits before more keeps m i =
-      let h : Has (pendingOf (runOf S before)) m = pair-in (runOf S before .names) (pending (runOf S before .state)) (all-numbered S placed ok (runOf S before) (kept before)) i in
+      let h : Has (pendingOf (runFor z before)) m = pair-in (runFor z before .names) (pending (runFor z before .state)) (all-numbered (z .set) (starts .boxed .set) (starts .valid-set) (runFor z before) (kept before)) i in
       omega (arith, run-none-due fits before more keeps (name (h .number) m) (h .here), kept before .timed)
 
 -- ---- DEMAND 3. A late message already started by a task that an urgent one also needs is covered by the blocking that demand counts:
 -- `account-blocked` of promise_deadlines/proofs/Account.antt charges its units to the task.
 
 -- the streams with a door keep their limits by themselves
-all-keep : (S : Set) → Placed S → valid S ≡ true → (calls : List Call) → KeepsOpenLimits S (accepted (runOf S calls)) → KeepsLimits S (accepted (runOf S calls))
+all-keep : (z : Start) → Starts z → (calls : List Call) → KeepsOpenLimits (z .set) (accepted (runFor z calls)) → KeepsLimits (z .set) (accepted (runFor z calls))
 unfolding KeepsOpenLimits KeepsLimits DoorKeeps
-all-keep S placed ok calls keeps k h = by-test (hasDoor (streamAt S k)) (λ d. door-keeps S placed ok calls k h d) (λ d. keeps k h d)
+all-keep z starts calls keeps k h = by-test (hasDoor (streamAt (z .set) k)) (λ d. door-keeps z starts calls k h d) (λ d. keeps k h d)
 
 -- a run that keeps every limit keeps those of the streams without a door
 pub limits-open : (S : Set) (ps : List Accepted) → KeepsLimits S ps → KeepsOpenLimits S ps
@@ -125,7 +125,7 @@ limits-open S ps keeps k h d = keeps k h
 
 pub demand-3 : Demand3
 unfolding Demand3 AllLeave
-demand-3 S placed v calls keeps p i reached = (
+demand-3 z starts v calls keeps p i reached = (
   out .departure,
   out .departure-in,
   record {
@@ -136,11 +136,8 @@ demand-3 S placed v calls keeps p i reached = (
   },
 )
   where
-    ok : valid S ≡ true
-    ok = accepted-valid S v
-
-    out : Left (base S placed ok) (departures (runOf S calls)) p
-    out = run-left S placed ok (base-fits S placed ok (accepted-fits S v)) calls (base-keeps S placed ok (accepted (runOf S calls)) (all-keep S placed ok calls keeps)) p i reached
+    out : Left (base (z .set) (starts .boxed .set) (starts .valid-set)) (departures (runFor z calls)) p
+    out = run-left z starts (base-fits (z .set) (starts .boxed .set) (starts .valid-set) (accepted-fits (z .set) v)) calls (base-keeps (z .set) (starts .boxed .set) (starts .valid-set) (accepted (runFor z calls)) (all-keep z starts calls keeps)) p i reached
 
 -- "the yard's acceptance": where every stream has a door, it speaks of all calls
 no-condition : (S : Set) (ps : List Accepted) → EachHasDoor S → KeepsOpenLimits S ps
@@ -149,42 +146,40 @@ no-condition S ps doors k h d = absurd (false≢true (sym d ∙ doors k h))
 
 pub accept-is-enough : AcceptIsEnough
 unfolding AcceptIsEnough Demand3
-accept-is-enough S placed v doors calls = demand-3 S placed v calls (no-condition S (accepted (runOf S calls)) doors)
+accept-is-enough z starts v doors calls = demand-3 z starts v calls (no-condition (z .set) (accepted (runFor z calls)) doors)
 
 -- ---- what follows
 
 pub never-due : NeverDue
 unfolding NeverDue
-never-due S placed v before more keeps = not-due S placed ok (base-fits S placed ok (accepted-fits S v)) before more (base-keeps S placed ok (accepted (runOf S (before ++ more))) (all-keep S placed ok (before ++ more) keeps))
-  where
-    ok : valid S ≡ true
-    ok = accepted-valid S v
+never-due z starts v before more keeps =
+    not-due z starts (base-fits (z .set) (starts .boxed .set) (starts .valid-set) (accepted-fits (z .set) v)) before more (base-keeps (z .set) (starts .boxed .set) (starts .valid-set) (accepted (runFor z (before ++ more))) (all-keep z starts (before ++ more) keeps))
 
 -- a run's moments, one after the other
 
-step-last : (S : Set) (calls : List Call) (c : Call) → runOf S (calls ++ (c ∷ [])) ≡ stepOf (runOf S calls) c
-unfolding runOf runFrom
-step-last S calls c = from-append (begin S) calls (c ∷ [])
+step-last : (z : Start) (calls : List Call) (c : Call) → runFor z (calls ++ (c ∷ [])) ≡ stepOf (runFor z calls) c
+unfolding runFor runFrom
+step-last z calls c = from-append (beginFor z) calls (c ∷ [])
 
 none-overdue : (clock : ℕ) (l : List Message) → Each (λ m. clock < m .deadline) l → any (overdue clock) l ≡ false
 unfolding any
 none-overdue clock [] h = refl
 none-overdue clock (m ∷ l) h = rw (lt-ltb clock (m .deadline) (h m (List·Memᴰ·head refl))) (none-overdue clock l (λ x i. h x (List·Memᴰ·tail i)))
 
-not-missed : (S : Set) → Placed S → VerdictOf S Accept → (before more : List Call) → KeepsOpenLimits S (accepted (runOf S (before ++ more))) → missedFrom (runOf S before) more ≡ false
+not-missed : (z : Start) → Starts z → VerdictOf (z .set) Accept → (before more : List Call) → KeepsOpenLimits (z .set) (accepted (runFor z (before ++ more))) → missedFrom (runFor z before) more ≡ false
 unfolding missedFrom missedNow NeverDue
-not-missed S placed v before [] keeps = none-overdue (runOf S before .state .clock) (pending (runOf S before .state)) (never-due S placed v before [] keeps)
-not-missed S placed v before (c ∷ more) keeps =
-    rw (none-overdue (runOf S before .state .clock) (pending (runOf S before .state)) (never-due S placed v before (c ∷ more) keeps))
-    (subst (λ (r : Run). missedFrom r more ≡ false) (step-last S before c) (not-missed S placed v (before ++ (c ∷ [])) more (rw append-assoc keeps)))
+not-missed z starts v before [] keeps = none-overdue (runFor z before .state .clock) (pending (runFor z before .state)) (never-due z starts v before [] keeps)
+not-missed z starts v before (c ∷ more) keeps =
+    rw (none-overdue (runFor z before .state .clock) (pending (runFor z before .state)) (never-due z starts v before (c ∷ more) keeps))
+    (subst (λ (r : Run). missedFrom r more ≡ false) (step-last z before c) (not-missed z starts v (before ++ (c ∷ [])) more (rw append-assoc keeps)))
 
 pub never-missed : NeverMissed
-unfolding NeverMissed missedIn runOf runFrom
-never-missed S placed v calls keeps = not-missed S placed v [] calls keeps
+unfolding NeverMissed runFor runFrom
+never-missed z starts v calls keeps = not-missed z starts v [] calls keeps
 
 pub never-missed-behind-doors : NeverMissedBehindDoors
 unfolding NeverMissedBehindDoors NeverMissed
-never-missed-behind-doors S placed v doors calls = never-missed S placed v calls (no-condition S (accepted (runOf S calls)) doors)
+never-missed-behind-doors z starts v doors calls = never-missed z starts v calls (no-condition (z .set) (accepted (runFor z calls)) doors)
 
 -- the laxity is what is left until the deadline, where that is not past
 laxity-left : (deadline clock : ℕ) → clock ≤ deadline → pos 0 ≤ℤ laxityOf deadline clock
@@ -206,24 +201,21 @@ not-late s done h u (stays v e) = tt
 
 pub no-late-answer : NoLateAnswer
 unfolding NoLateAnswer NeverDue
-no-late-answer S placed v calls keeps done = not-late (r .state) done early (unitOf (r .state) done) (unit-case (r .state) done)
+no-late-answer z starts v calls keeps done = not-late (r .state) done early (unitOf (r .state) done) (unit-case (r .state) done)
   where
-    ok : valid S ≡ true
-    ok = accepted-valid S v
-
     r : Run
-    r = runOf S calls
+    r = runFor z calls
 
-    keeps-still : KeepsOpenLimits S (accepted (runOf S (calls ++ [])))
+    keeps-still : KeepsOpenLimits (z .set) (accepted (runFor z (calls ++ [])))
     keeps-still = rw append-nil keeps
 
     early : Serving (r .state) → r .state .clock + 1 ≤ chosenOf (r .state) .deadline
     early w = omega (
       arith,
-      never-due S placed v calls [] keeps-still
+      never-due z starts v calls [] keeps-still
           (getD (pending (r .state)) (placeOf (r .state)) noMessage)
-          (mem-getD (pending (r .state)) (placeOf (r .state)) noMessage (words S placed ok r (kept S placed ok calls) (reached S placed ok calls) w .inside)),
-      ap (λ (m : Message). m .deadline) (chosen-is S placed ok r (kept S placed ok calls) (reached S placed ok calls) w),
+          (mem-getD (pending (r .state)) (placeOf (r .state)) noMessage (words (z .set) (starts .boxed .set) (starts .valid-set) r (kept z starts calls) (reached z starts calls) w .inside)),
+      ap (λ (m : Message). m .deadline) (chosen-is (z .set) (starts .boxed .set) (starts .valid-set) r (kept z starts calls) (reached z starts calls) w),
     )
 
 -- ---- each number once
@@ -240,9 +232,9 @@ leaving S placed ok n ds = refl
 
 pub each-once : EachOnce
 unfolding EachOnce ifle
-each-once S placed ok calls n = omega (
+each-once z starts calls n = omega (
   arith,
-  once (base S placed ok) (reached S placed ok calls) n,
-  waiting S placed ok n (runOf S calls .names) (pending (runOf S calls .state)) (all-numbered S placed ok (runOf S calls) (kept S placed ok calls)),
-  leaving S placed ok n (departures (runOf S calls)),
+  once (base (z .set) (starts .boxed .set) (starts .valid-set)) (reached z starts calls) n,
+  waiting (z .set) (starts .boxed .set) (starts .valid-set) n (runFor z calls .names) (pending (runFor z calls .state)) (all-numbered (z .set) (starts .boxed .set) (starts .valid-set) (runFor z calls) (kept z starts calls)),
+  leaving (z .set) (starts .boxed .set) (starts .valid-set) n (departures (runFor z calls)),
 )

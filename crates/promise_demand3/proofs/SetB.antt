@@ -3,7 +3,7 @@
 -- Assumes nothing.
 use Prim.Native.Nat.{ℕ, zero, suc}
 use mathlib.Core.Bool.{true}
-use mathlib.Core.Path.{_≡_, refl, subst}
+use mathlib.Core.Path.{_≡_, refl, subst, _∙_}
 use native.Mathlib.Omega.{arith}
 use lib.ListN.{length}
 use Rattle.rules.specs.declared.Stream.{Stream}
@@ -12,12 +12,13 @@ use Rattle.rules.specs.declared.Verdict.the-variants.{Accept, Late, Overload, R
 use Rattle.rules.specs.Streams.{Placed, FourPlaces, noStream}
 use Rattle.rules.specs.Load.{VerdictOf}
 use Rattle.rules.specs.Numbers.{verdictSays, accept}
-use Rattle.rules.specs.Runs.{EachHasDoor, AllLeave, AcceptIsEnough}
+use Rattle.rules.specs.Runs.{alone, EachHasDoor, AllLeave, AcceptIsEnough}
 use Rattle.rules.proofs.Examples.{setB, computed}
 use Rattle.rules.proofs.Yard.{Judges, yard-true}
 use Rattle.rules.proofs.Runs.{longB, runB, set-B-long}
 use Rattle.promise_steps.proofs.Runs.{all-same}
-use Rattle.promise_demand3.proofs.Promise.{accept-is-enough}
+use Rattle.promise_demand3.proofs.Promise.{accepted-valid, accept-is-enough}
+use Rattle.rules.proofs.Parties.{run-alone, starts-alone}
 
 -- set B is accepted, by the yard's table
 pub accept-is : (v : Verdict) → verdictSays v ≡ accept → v ≡ Accept
@@ -46,4 +47,4 @@ doors-B (suc (suc (suc k))) h = absurd (omega arith)
 -- what demand 3 says of it at clock 20, when all three deadlines are reached
 pub set-B-in-time : AllLeave setB (runB 20)
 unfolding AcceptIsEnough
-set-B-in-time = subst (AllLeave setB) set-B-long (accept-is-enough setB placed-B verdict-B doors-B longB)
+set-B-in-time = subst (AllLeave setB) (run-alone setB longB ∙ set-B-long) (accept-is-enough (alone setB) (starts-alone setB placed-B (accepted-valid setB verdict-B)) verdict-B doors-B longB)

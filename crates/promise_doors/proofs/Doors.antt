@@ -22,8 +22,10 @@ use Rattle.rules.specs.declared.PostResult.{PostResult}
 use Rattle.rules.specs.declared.UnitResult.{UnitResult}
 use Rattle.rules.specs.Streams.{Placed, FourPlaces, noStream, streamAt, limit, valid}
 use Rattle.rules.specs.Doors.{doorOf, guarded, hasDoor, shut, waitAfter, waitLater, waitsLater}
-use Rattle.rules.specs.Steps.{fresh, startOf, postOf, unitOf, doorAt, waitAt}
-use Rattle.rules.specs.Runs.{Accepted, Run, accepted, acceptedOf, newPost, afterPost, afterUnit, stepOf, begin, runFrom, runOf, KeepsLimit, Breaks, ComesEarly, DoorExact, DoorKeeps}
+use Rattle.rules.specs.Parties.{ownersFor}
+use borrow.Author.Tests.{le-leb}
+use Rattle.rules.specs.Steps.{freshFor, startFor, postOf, unitOf, doorAt, waitAt}
+use Rattle.rules.specs.Runs.{Accepted, Run, accepted, acceptedOf, newPost, afterPost, afterUnit, stepOf, Start, Starts, beginFor, runFrom, runFor, KeepsLimit, Breaks, ComesEarly, DoorExact, DoorKeeps}
 use Rattle.rules.proofs.Events.{accepted-more, accepted-same}
 use Rattle.rules.proofs.Valid.{valid-set}
 use Rattle.rules.proofs.Waits.{ValidDoor, later-at, door-valid}
@@ -37,7 +39,16 @@ use Rattle.promise_steps.proofs.Runs.{start-gives}
 use Rattle.promise_doors.proofs.Limits.{Allows, allows}
 use Rattle.promise_doors.proofs.Held.{Seen, seen-start, seen-later, seen-other, seen-own, Over, Held, held-start, held-later, held-other, held-own, held-keeps, held-exact}
 
-module _ (S : Set) (placed : Placed S) (ok : valid S ≡ true) where
+module _ (z : Start) (starts : Starts z) where
+  abbrev S : Set
+  S = z .set
+
+  placed : Placed (z .set)
+  placed = starts .boxed .set
+
+  ok : valid (z .set) ≡ true
+  ok = starts .valid-set
+
   -- ---- a stream of the set, by its number
 
   module _ (k : ℕ) (h : k < S .count) where
@@ -128,32 +139,32 @@ module _ (S : Set) (placed : Placed S) (ok : valid S ≡ true) where
   from-guards r [] g = g
   from-guards r (c ∷ cs) g = from-guards (stepOf r c) cs (call-guards r c g)
 
-  start-is : startOf S ≡ record { answer = Started; state = fresh S }
-  unfolding startOf
-  start-is = rw ok
+  start-is : startFor (z .set) (z .owners) (z .places) ≡ record { answer = Started; state = freshFor (z .set) (ownersFor (z .set .count) (z .owners)) (z .places) }
+  unfolding startFor
+  start-is = rw (starts .valid-set, le-leb _ _ (starts .few))
 
-  begin-guards : Guarding (begin S)
-  unfolding begin StartGives acceptedOf
+  begin-guards : Guarding (beginFor z)
+  unfolding beginFor StartGives acceptedOf
   begin-guards = record {
     set-is = ap (λ (q : StartResult). q .state .set) start-is;
-    formed = start-gives S placed;
+    formed = start-gives z (starts .boxed);
     guards = λ k h. rw (start-is, getD-replicate {A = ℕ} 16 k 0 0 (k-in k h)) (record {
       seen = seen-start k;
       held = held-start k (limit (streamAt S k)) (door k h) (fine k h) (permits k h);
     });
   }
 
-  run-guards : (calls : List Call) → Guarding (runOf S calls)
-  unfolding runOf
-  run-guards calls = from-guards (begin S) calls begin-guards
+  run-guards : (calls : List Call) → Guarding (runFor z calls)
+  unfolding runFor
+  run-guards calls = from-guards (beginFor z) calls begin-guards
 
 -- ---- the promises
 
 pub door-keeps : DoorKeeps
 unfolding DoorKeeps KeepsLimit
-door-keeps S placed ok calls k h d x i =
-    let g = run-guards S placed ok calls .guards k h in
-    held-keeps k (limit (streamAt S k)) (door S placed ok k h) (fine S placed ok k h) (permits S placed ok k h) (runOf S calls .time) (waitAt (runOf S calls .state) k) (accepted (runOf S calls)) d (g .held) x i
+door-keeps z starts calls k h d x i =
+    let g = run-guards z starts calls .guards k h in
+    held-keeps k (limit (streamAt (z .set) k)) (door z starts k h) (fine z starts k h) (permits z starts k h) (runFor z calls .time) (waitAt (runFor z calls .state) k) (accepted (runFor z calls)) d (g .held) x i
 
 -- no door, never shut
 unguarded-open : (d : Door) (w : ℕ) → guarded d ≡ false → shut d w ≡ false
@@ -162,32 +173,32 @@ unguarded-open Unguarded w e = refl
 unguarded-open Single w e = absurd (false≢true (sym e))
 unguarded-open (Spaced z a) w e = absurd (false≢true (sym e))
 
-module _ (S : Set) (placed : Placed S) (ok : valid S ≡ true) (calls : List Call) (k : ℕ) where
+module _ (z : Start) (starts : Starts z) (calls : List Call) (k : ℕ) where
   abbrev r : Run
-  r = runOf S calls
+  r = runFor z calls
 
-  all-guarded : Guarding S placed ok r
-  all-guarded = run-guards S placed ok calls
+  all-guarded : Guarding z starts r
+  all-guarded = run-guards z starts calls
 
   -- the door of a run's state is that of the set
-  set-door : doorAt (r .state) k ≡ doorOf (streamAt S k)
+  set-door : doorAt (r .state) k ≡ doorOf (streamAt (z .set) k)
   set-door = ap (λ (x : Set). doorOf (streamAt x k)) (all-guarded .set-is)
 
-  exact : (h : k < S .count) → hasDoor (streamAt S k) ≡ true
-      → (shut (doorOf (streamAt S k)) (waitAt (r .state) k) ≡ true) ↔ Over k (limit (streamAt S k)) (accepted r ++ (newPost r k ∷ []))
+  exact : (h : k < z .set .count) → hasDoor (streamAt (z .set) k) ≡ true
+      → (shut (doorOf (streamAt (z .set) k)) (waitAt (r .state) k) ≡ true) ↔ Over k (limit (streamAt (z .set) k)) (accepted r ++ (newPost r k ∷ []))
   exact h d =
       let g = all-guarded .guards k h in
-      held-exact k (limit (streamAt S k)) (r .time) (waitAt (r .state) k) (accepted r) (g .seen) (length (accepted r)) (door S placed ok k h) (fine S placed ok k h) (permits S placed ok k h) d (g .held)
+      held-exact k (limit (streamAt (z .set) k)) (r .time) (waitAt (r .state) k) (accepted r) (g .seen) (length (accepted r)) (door z starts k h) (fine z starts k h) (permits z starts k h) d (g .held)
 
-  early : DoorShut (r .state) k → ComesEarly S k r
+  early : DoorShut (r .state) k → ComesEarly (z .set) k r
   early q =
-      let h : k < S .count = subst (λ (x : Set). k < x .count) (all-guarded .set-is) (q .in-set) in
-      let c : shut (doorOf (streamAt S k)) (waitAt (r .state) k) ≡ true = ap (λ (d : Door). shut d (waitAt (r .state) k)) (sym set-door) ∙ q .is-shut in
-      let d : hasDoor (streamAt S k) ≡ true = by-test (hasDoor (streamAt S k)) (λ y. y) (λ y. absurd (false≢true (sym (unguarded-open (doorOf (streamAt S k)) (waitAt (r .state) k) y) ∙ c))) in
-      let o : Over k (limit (streamAt S k)) (accepted r ++ (newPost r k ∷ [])) = exact h d .0 c in
+      let h : k < z .set .count = subst (λ (x : Set). k < x .count) (all-guarded .set-is) (q .in-set) in
+      let c : shut (doorOf (streamAt (z .set) k)) (waitAt (r .state) k) ≡ true = ap (λ (d : Door). shut d (waitAt (r .state) k)) (sym set-door) ∙ q .is-shut in
+      let d : hasDoor (streamAt (z .set) k) ≡ true = by-test (hasDoor (streamAt (z .set) k)) (λ y. y) (λ y. absurd (false≢true (sym (unguarded-open (doorOf (streamAt (z .set) k)) (waitAt (r .state) k) y) ∙ c))) in
+      let o : Over k (limit (streamAt (z .set) k)) (accepted r ++ (newPost r k ∷ [])) = exact h d .0 c in
       record { in-set = h; door = d; breaks = record { from = o .from; span = o .span; over = o .over } }
 
-  at-shut-door : ComesEarly S k r → DoorShut (r .state) k
+  at-shut-door : ComesEarly (z .set) k r → DoorShut (r .state) k
   at-shut-door q = record {
     formed = all-guarded .formed .formed;
     in-set = subst (λ (x : Set). k < x .count) (sym (all-guarded .set-is)) (q .in-set);
@@ -196,5 +207,5 @@ module _ (S : Set) (placed : Placed S) (ok : valid S ≡ true) (calls : List Cal
 
 pub door-exact : DoorExact
 unfolding DoorExact Fifteen
-door-exact S placed ok calls k =
-    (λ e. early S placed ok calls k (fifteen (runOf S calls .state) k .0 e), λ q. fifteen (runOf S calls .state) k .1 (at-shut-door S placed ok calls k q))
+door-exact z starts calls k =
+    (λ e. early z starts calls k (fifteen (runFor z calls .state) k .0 e), λ q. fifteen (runFor z calls .state) k .1 (at-shut-door z starts calls k q))

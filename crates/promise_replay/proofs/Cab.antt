@@ -15,24 +15,24 @@ use Rattle.laws.proofs.Fields.{bits-length}
 use Rattle.rules.specs.declared.Call.{Call}
 use Rattle.rules.specs.declared.Mark.{Mark}
 use Rattle.rules.specs.declared.Mark.the-variants.{Makes, Ends}
-use Rattle.rules.specs.declared.Set.{Set}
+use Rattle.rules.specs.declared.ReadAnswer.{ReadAnswer}
+use Rattle.rules.specs.declared.ReadAnswer.the-variants.{Read, Refused}
 use Rattle.rules.specs.declared.State.{State}
 use Rattle.rules.specs.declared.ReadResult.{ReadResult}
 use Rattle.rules.specs.declared.ReplayResult.{ReplayResult}
-use Rattle.rules.specs.Streams.{Placed, valid}
 use Rattle.rules.specs.States.{wellFormed}
-use Rattle.rules.specs.Steps.{startOf, callOf}
-use Rattle.rules.specs.Sheet.{sheetOf, readOf}
+use Rattle.rules.specs.Steps.{startFor, callOf}
+use Rattle.rules.specs.Sheet.{readOf}
 use Rattle.rules.specs.Numbers.{Says, ended, replaySays}
-use Rattle.rules.specs.Runs.{Run, Step, saidAt, stepTo, stepOf, begin, runFrom, runOf, stepsFrom, stepsOf, answersOf}
-use Rattle.rules.specs.Recordings.{Place, callBits, recordable, recordingOf, placeIn, bitAt, placeAfter, markOf, replayBy, replayStep, replayStart, firstPlace, placeOfResult, replayAnswers, replayState, Stop, ends, refused, tapeOf}
+use Rattle.rules.specs.Runs.{Run, Step, saidAt, stepTo, stepOf, Start, Starts, Boxed, startAt, beginFor, runFrom, runFor, stepsFrom, stepsFor, answersFor}
+use Rattle.rules.specs.Recordings.{Place, callBits, recordable, recordingOf, placeIn, bitAt, placeAfter, markOf, replayBy, replayStep, begunBy, replayStart, firstPlace, placeOfResult, replayAnswers, replayState, Stop, ends, refused, tapeOf}
 use Rattle.rules.proofs.Events.{step-state}
 use Rattle.sheet_write.specs.Answers.{ReadPlaced}
 use Rattle.sheet_write.proofs.Back.{read-back}
 use Rattle.sheet_write.proofs.Rounds.{read-placed}
 use Rattle.promise_steps.specs.Formed.{Formed, StartGives}
-use Rattle.promise_steps.proofs.Runs.{start-gives, step-keeps}
-use Rattle.promise_replay.specs.Replays.{IsTheCabs, ReplayIsTheCabs, AllStepsStand, markBy, stopSays, StepsAre, AnyRecording}
+use Rattle.promise_steps.proofs.Runs.{empty-formed, start-gives, step-keeps}
+use Rattle.promise_replay.specs.Replays.{cabStart, IsTheCabs, ReplayIsTheCabs, ReplayBegins, AllStepsStand, markBy, stopSays, StepsAre, AnyRecording}
 use Rattle.promise_replay.proofs.Tapes.{all-steps-stand}
 use Rattle.promise_replay.proofs.Reading.{mark-call, mark-end, padding, padding-few, recording-bits}
 
@@ -142,26 +142,35 @@ module _ (recording last : List ℕ) (stop : Stop) (is-stop : markOf last ≡ ma
 
 -- ---- from the sheet
 
-sheet-start : (S : Set) → Placed S → valid S ≡ true → replayStart (sheetOf S) .state ≡ startOf S .state
+sheet-start : (z : Start) → Starts z → cabStart z ≡ startFor (z .set) (z .owners) (z .places) .state
 unfolding replayStart
-sheet-start S placed ok = ap (λ (r : ReadResult). startOf (r .set) .state) (read-back S ok placed)
+sheet-start z starts = ap (λ (r : ReadResult). begunBy (r .answer) (startFor (r .set) (z .owners) (z .places)) .state) (read-back (z .set) (starts .valid-set) (starts .boxed .set))
 
 pub replay-is-the-cabs : ReplayIsTheCabs
-unfolding ReplayIsTheCabs answersOf stepsOf runOf begin StartGives
-replay-is-the-cabs S placed ok calls can =
-    let g = gives (recordingOf calls) (toBits 2 3 ++ zeros (padding calls)) ends (mark-end (padding calls) (padding-few calls)) (begin S) firstPlace [] calls (record { formed = start-gives S placed; small = omega arith; at = refl; split = recording-bits calls; can = can }) in
+unfolding ReplayIsTheCabs answersFor stepsFor runFor beginFor StartGives
+replay-is-the-cabs z starts calls can =
+    let g = gives (recordingOf calls) (toBits 2 3 ++ zeros (padding calls)) ends (mark-end (padding calls) (padding-few calls)) (beginFor z) firstPlace [] calls (record { formed = start-gives z (starts .boxed); small = omega arith; at = refl; split = recording-bits calls; can = can }) in
     record {
-      answers = rw (sheet-start S placed ok) (g .answers);
-      state = rw (sheet-start S placed ok) (g .state);
+      answers = rw (sheet-start z starts) (g .answers);
+      state = rw (sheet-start z starts) (g .state);
     }
 
 -- ---- any recording, from any sheet
 
+replay-formed : (a : ReadAnswer) (z : Start) → Boxed z → Formed (begunBy a (startFor (z .set) (z .owners) (z .places)) .state)
+unfolding StartGives
+replay-formed Read z b = start-gives z b
+replay-formed (Refused why) z b = empty-formed
+
 pub any-recording : AnyRecording
-unfolding AnyRecording AllStepsStand ReadPlaced answersOf stepsOf runOf begin StartGives replayStart
-any-recording sheet recording =
+unfolding AnyRecording AllStepsStand ReadPlaced replayStart
+any-recording sheet owners places recording long =
     let l = all-steps-stand recording in
-    let x : Set = readOf sheet .set in
-    let g = gives recording (l .rest) (tapeOf recording .stop) (l .stop) (begin x) firstPlace [] (tapeOf recording .calls)
-    (record { formed = start-gives x (read-placed sheet); small = omega arith; at = refl; split = l .whole; can = l .can }) in
+    let z : Start = record { set = readOf sheet .set; owners = owners; places = places } in
+    let g = gives recording (l .rest) (tapeOf recording .stop) (l .stop) (startAt (begunBy (readOf sheet .answer) (startFor (z .set) owners places) .state)) firstPlace [] (tapeOf recording .calls)
+    (record { formed = replay-formed (readOf sheet .answer) z (record { set = read-placed sheet; owners = long }); small = omega arith; at = refl; split = l .whole; can = l .can }) in
     record { answers = g .answers; state = g .state }
+
+pub replay-begins : ReplayBegins
+unfolding ReplayBegins replayStart beginFor
+replay-begins sheet owners places e = rw e

@@ -31,8 +31,8 @@ use Rattle.replay_lines.specs.Replaying.{Begun, replayingFrom, behindStep, repl
 use Rattle.replay_lines.specs.Replay.{stopLine, replayPrinted}
 use Rattle.replay_lines.specs.Printed.{PagesWritten, ReplayMade}
 use Rattle.replay_lines.proofs.Pages.{line-bytes, dead-stays, dead-lines, Stops, pages-stop, pages-some}
-use Rattle.promise_steps.specs.Formed.{Formed, StartGives}
-use Rattle.promise_steps.proofs.Runs.{start-gives}
+use Rattle.promise_steps.specs.Formed.{Formed}
+use Rattle.promise_steps.proofs.Runs.{alone-gives}
 use Rattle.promise_replay.specs.Replays.{markBy, Stopped, AllStepsStand}
 use Rattle.promise_replay.specs.Prints.{ReplayPrints, ReplayStops}
 use Rattle.promise_replay.proofs.Tapes.{all-steps-stand}
@@ -119,8 +119,8 @@ module _ (sheet recording : List ℕ) where
   l = all-steps-stand recording
 
   from-start : From recording (l .rest) (tapeOf recording .stop) (l .stop) (begin x) firstPlace [] (tapeOf recording .calls)
-  unfolding begin StartGives ReadPlaced
-  from-start = record { formed = start-gives x (read-placed sheet); small = omega arith; at = refl; split = l .whole; can = l .can }
+  unfolding begin ReadPlaced
+  from-start = record { formed = alone-gives x (read-placed sheet); small = omega arith; at = refl; split = l .whole; can = l .can }
 
   -- what follows the first line
   behind : (a : ReadAnswer) (n : ℕ) → replayingOn n recording (replayingFrom x (wasRead a)) .live ≡ false

@@ -20,21 +20,22 @@ use Rattle.rules.specs.declared.PostResult.{PostResult}
 use Rattle.rules.specs.declared.PostAnswer.the-variants.{Posted}
 use Rattle.rules.specs.declared.UnitResult.{UnitResult}
 use Rattle.rules.specs.declared.UnitAnswer.the-variants.{Ran, Passed, Finished, Cut, Idle, Refused as UnitRefused}
-use Rattle.rules.specs.States.{noMessage, pending, stagesIn, taskOf, costOf, lastClock, wellFormed}
+use Rattle.rules.specs.Parties.{placesOf}
+use Rattle.rules.specs.States.{noMessage, pending, partyOf, heldBy, stagesIn, taskOf, costOf, lastClock, wellFormed}
 use Rattle.rules.specs.Doors.{shut}
-use Rattle.rules.specs.Steps.{doorAt, waitAt, newMessage, added, postRefused, postOf, placeOf, messageAt, ticked, gained, stayed, passedOn, departed, laxityOf, answered, servedOf, emptyUnit, unitOf}
+use Rattle.rules.specs.Steps.{doorAt, waitAt, hasPlace, newMessage, added, postRefused, postOf, placeOf, messageAt, ticked, gained, stayed, passedOn, departed, laxityOf, answered, servedOf, emptyUnit, unitOf}
 
 -- ---- the cases
 
 pub data PostCase (s : State) (k : ℕ) : PostResult → Type 0 where
   refuses : (why : Refusal) → PostCase s k (postRefused s why)
-  accepts : k < s .set .count → s .count < 64 → shut (doorAt s k) (waitAt s k) ≡ false → PostCase s k (record { answer = Posted k (newMessage s k .deadline); state = added s (newMessage s k) })
+  accepts : k < s .set .count → heldBy s (partyOf s k) < placesOf (s .places) (partyOf s k) → shut (doorAt s k) (waitAt s k) ≡ false → PostCase s k (record { answer = Posted k (newMessage s k .deadline); state = added s (newMessage s k) })
 
 pub post-case : (s : State) (k : ℕ) → PostCase s k (postOf s k)
 unfolding postOf
-post-case s k = go (wellFormed s) (ltb k (s .set .count)) (shut (doorAt s k) (waitAt s k)) (ltb (s .count) 64) (ltb→lt k (s .set .count)) refl (ltb→lt (s .count) 64)
+post-case s k = go (wellFormed s) (ltb k (s .set .count)) (shut (doorAt s k) (waitAt s k)) (hasPlace s k) (ltb→lt k (s .set .count)) refl (ltb→lt (heldBy s (partyOf s k)) (placesOf (s .places) (partyOf s k)))
   where
-    go : (a b d c : Bool) → (T b → k < s .set .count) → shut (doorAt s k) (waitAt s k) ≡ d → (T c → s .count < 64) → PostCase s k (
+    go : (a b d c : Bool) → (T b → k < s .set .count) → shut (doorAt s k) (waitAt s k) ≡ d → (T c → heldBy s (partyOf s k) < placesOf (s .places) (partyOf s k)) → PostCase s k (
         cond a
         (cond b
         (cond d

@@ -17,18 +17,25 @@ use Rattle.rules.specs.declared.State.{State}
 use Rattle.rules.specs.declared.PostResult.{PostResult}
 use Rattle.rules.specs.declared.UnitResult.{UnitResult}
 use Rattle.rules.specs.Streams.{Placed}
-use Rattle.rules.specs.States.{noMessage, pending, stagesIn, taskOf, costOf, messageUnused, waitOk, lastClock, Housed}
+use Rattle.rules.specs.States.{noMessage, pending, partyOf, heldBy, stagesIn, taskOf, costOf, messageUnused, waitOk, lastClock, Housed}
 use Rattle.rules.specs.Doors.{shut, waitsLater}
 use Rattle.rules.specs.Steps.{doorAt, waitAt, newMessage, added, postOf, placeOf, messageAt, turnOf, ticked, gained, passedOn, stayed, departed, unitOf}
 use Rattle.rules.proofs.Valid.{valid-set}
 use Rattle.rules.proofs.Waits.{later-length}
+use Rattle.rules.proofs.Parties.{same-is}
+use Rattle.laws.proofs.Sums.{by-test}
+use Rattle.rules.specs.declared.Owner.{Owner}
+use Rattle.rules.specs.declared.Party.{Party}
+use Rattle.rules.specs.declared.Party.the-variants.{Ours, Theirs}
+use Rattle.rules.specs.Parties.{owns, placesOf}
 use Rattle.state_formed.proofs.Standing.{Standing}
-use Rattle.state_formed.proofs.WellFormed.{WellFormed, well-formed, well-formed-back}
+use Rattle.state_formed.proofs.WellFormed.{WellFormed, well-formed, well-formed-back, place-room}
 use Rattle.state_choosing.specs.Words.{at, Served}
 use Rattle.state_choosing.proofs.Choice.{choice, place-in}
 use Rattle.promise_steps.specs.Formed.{Formed, PostKeeps, UnitKeeps}
 use Rattle.promise_steps.proofs.Valid.{stream-valid, stage-cost}
 use Rattle.promise_steps.proofs.Cases.{PostCase, refuses, accepts, post-case, Serving, chosenOf, UnitCase, stops, idles, finishes, passes, cuts, runs, unit-case, pending-added, message-is, pending-stayed, pending-departed}
+use Rattle.promise_steps.proofs.Pending.{one, held-added, held-stayed, held-departed}
 use Rattle.promise_steps.proofs.Rows.{Rows, rows, rows-ok, rows-last, rows-later, Instead, rows-put, rows-leave, row-at}
 use Rattle.promise_steps.proofs.Waits.{waits, waits-ok, waits-after, waits-later}
 use Rattle.promise_steps.proofs.Started.{Once, once, once-ok, once-last, once-unstarted, once-gain, once-leave}
@@ -37,8 +44,8 @@ module _ (s : State) (f : Formed s) where
   w : WellFormed s
   w = well-formed s (f .formed)
 
-  housed-as : (n : State) → n .set ≡ s .set → length (n .messages) ≡ 64 → length (n .waits) ≡ 16 → Housed n
-  housed-as n e h g = record { set = subst Placed (sym e) (f .housed .set); places = h; waits = g }
+  housed-as : (n : State) → n .set ≡ s .set → n .owners ≡ s .owners → length (n .messages) ≡ 64 → length (n .waits) ≡ 16 → Housed n
+  housed-as n e o h g = record { set = subst Placed (sym e) (f .housed .set); places = h; waits = g; owners = ap (λ (l : List Owner). length l) o ∙ f .housed .owners }
 
   -- a unit leaves as many waits, which keep their rules
   still-sixteen : length (waitsLater (s .set .streams) (s .waits)) ≡ 16
@@ -46,6 +53,11 @@ module _ (s : State) (f : Formed s) where
 
   still-waits : all (waitOk (s .set) (waitsLater (s .set .streams) (s .waits))) (below 16) ≡ true
   still-waits = waits-ok (s .set) _ (waits-later (s .set) (s .waits) (waits (s .set) (s .waits) (w .waits)))
+
+  -- what each party may have pending
+  pub fit : (p : Party) → heldBy s p ≤ placesOf (s .places) p
+  fit Ours = w .ours-fit
+  fit Theirs = w .theirs-fit
 
   -- ---- a post
 
@@ -59,8 +71,20 @@ module _ (s : State) (f : Formed s) where
     order = omega arith;
   }
 
-  post-formed : (k : ℕ) → k < s .set .count → s .count < 64 → shut (doorAt s k) (waitAt s k) ≡ false → Formed (added s (newMessage s k))
-  post-formed k h room free = record {
+  -- the new message is its owner's, who has a place for it
+  post-fits : (k : ℕ) → s .count < 64 → heldBy s (partyOf s k) < placesOf (s .places) (partyOf s k) → (p : Party) → heldBy (added s (newMessage s k)) p ≤ placesOf (s .places) p
+  post-fits k room left p =
+      let e : heldBy (added s (newMessage s k)) p ≡ heldBy s p + one (owns (s .owners) p) k = held-added (owns (s .owners) p) s (f .housed .places) k room in
+      by-test (owns (s .owners) p k)
+      (λ t.
+      let q : partyOf s k ≡ p = same-is (partyOf s k) p t in
+      let z : one (owns (s .owners) p) k ≡ 1 = rw t in
+      let l : heldBy s p < placesOf (s .places) p = subst (λ (x : Party). heldBy s x < placesOf (s .places) x) q left in
+      omega (arith, e, z, l))
+      (λ t. let z : one (owns (s .owners) p) k ≡ 0 = rw t in omega (arith, e, z, fit p))
+
+  post-formed : (k : ℕ) → k < s .set .count → heldBy s (partyOf s k) < placesOf (s .places) (partyOf s k) → shut (doorAt s k) (waitAt s k) ≡ false → Formed (added s (newMessage s k))
+  post-formed k h left free = let room = place-room s w (f .housed .places) (partyOf s k) left in record {
     formed = well-formed-back (added s (newMessage s k)) (record {
       set = w .set;
       few = omega arith;
@@ -71,8 +95,12 @@ module _ (s : State) (f : Formed s) where
           (once-last (s .set) (pending s) (newMessage s k) refl (once (s .set) (pending s) (w .once))));
       unused = rw (add-one, drop-set-lt (suc (s .count)) (s .messages) (s .count) (newMessage s k) (omega arith)) (all-drop messageUnused (s .count) (s .messages) (w .unused));
       waits = waits-ok (s .set) _ (waits-after (s .set) (s .waits) k (f .housed .waits) (omega (arith, valid-set (s .set) (w .set) .count)) free (waits (s .set) (s .waits) (w .waits)));
+      together-fit = w .together-fit;
+      rest-ours = w .rest-ours;
+      ours-fit = post-fits k room left Ours;
+      theirs-fit = post-fits k room left Theirs;
     });
-    housed = housed-as (added s (newMessage s k)) refl (length-set (s .messages) (s .count) (newMessage s k) ∙ f .housed .places) (length-set (s .waits) k _ ∙ f .housed .waits);
+    housed = housed-as (added s (newMessage s k)) refl refl (length-set (s .messages) (s .count) (newMessage s k) ∙ f .housed .places) (length-set (s .waits) k _ ∙ f .housed .waits);
   }
 
   -- ---- an idle unit
@@ -87,8 +115,12 @@ module _ (s : State) (f : Formed s) where
       once = w .once;
       unused = w .unused;
       waits = still-waits;
+      together-fit = w .together-fit;
+      rest-ours = w .rest-ours;
+      ours-fit = w .ours-fit;
+      theirs-fit = w .theirs-fit;
     });
-    housed = housed-as (ticked s) refl (f .housed .places) still-sixteen;
+    housed = housed-as (ticked s) refl refl (f .housed .places) still-sixteen;
   }
 
   -- ---- a unit that serves the chosen message
@@ -140,6 +172,13 @@ module _ (s : State) (f : Formed s) where
     x-stands : (c : ℕ) × Standing (s .set) (s .clock + 1) c x
     x-stands = row-at (s .set) (s .clock + 1) 0 front x rear rows-now
 
+    -- a message that stays is the same party's, and one that leaves is one less of its party's
+    stay-fits : (n : Message) → n .stream ≡ x .stream → (p : Party) → heldBy (stayed s (placeOf s) n) p ≤ placesOf (s .places) p
+    stay-fits n e p = omega (arith, fit p, held-stayed (owns (s .owners) p) s (f .housed .places) (placeOf s) (w .few) low n (e ∙ ap (λ (m : Message). m .stream) (sym chosen-is)))
+
+    leave-fits : (p : Party) → heldBy (departed s (placeOf s)) p ≤ placesOf (s .places) p
+    leave-fits p = omega (arith, fit p, held-departed (owns (s .owners) p) s (f .housed .places) (placeOf s) (w .few) low)
+
     -- what stays in its place, of the same stream and deadline
     stay-formed : (n : Message) → Instead (s .set) x n → Once (s .set) (front ++ (n ∷ rear)) → Formed (stayed s (placeOf s) n)
     unfolding front rear
@@ -153,8 +192,12 @@ module _ (s : State) (f : Formed s) where
         once = rw (pending-stayed s (f .housed .places) (placeOf s) n (w .few) low) (once-ok (s .set) (front ++ (n ∷ rear)) o);
         unused = rw (drop-set-lt (s .count) (s .messages) (placeOf s) n low) (w .unused);
         waits = still-waits;
+        together-fit = w .together-fit;
+        rest-ours = w .rest-ours;
+        ours-fit = stay-fits n (h .stream) Ours;
+        theirs-fit = stay-fits n (h .stream) Theirs;
       });
-      housed = housed-as (stayed s (placeOf s) n) refl (length-set (s .messages) (placeOf s) n ∙ f .housed .places) still-sixteen;
+      housed = housed-as (stayed s (placeOf s) n) refl refl (length-set (s .messages) (placeOf s) n ∙ f .housed .places) still-sixteen;
     }
 
     -- with a unit more, and less than its cost used
@@ -197,8 +240,12 @@ module _ (s : State) (f : Formed s) where
         once = rw (pending-departed s (f .housed .places) (placeOf s) (w .few) low) (once-ok (s .set) (front ++ rear) (once-leave (s .set) front x rear once-now));
         unused = unused-left;
         waits = still-waits;
+        together-fit = w .together-fit;
+        rest-ours = w .rest-ours;
+        ours-fit = leave-fits Ours;
+        theirs-fit = leave-fits Theirs;
       });
-      housed = housed-as (departed s (placeOf s)) refl (length-remove noMessage (placeOf s) (s .messages) ∙ f .housed .places) still-sixteen;
+      housed = housed-as (departed s (placeOf s)) refl refl (length-remove noMessage (placeOf s) (s .messages) ∙ f .housed .places) still-sixteen;
     }
 
 -- ---- the steps

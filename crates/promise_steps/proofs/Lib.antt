@@ -1,9 +1,11 @@
 pub mod Valid
 pub mod Cases
+pub mod Pending
 pub mod Rows
 pub mod Started
 pub mod Waits
 pub mod Kept
 pub mod Runs
 pub mod Refusals
+pub mod Starts
 pub mod Steps

@@ -11,14 +11,15 @@ use Rattle.rules.specs.declared.State.{State}
 use Rattle.rules.specs.declared.Call.{Call}
 use Rattle.rules.specs.declared.Call.the-variants.{Posts, Units}
 use Rattle.rules.specs.declared.PostAnswer.the-variants.{Posted}
-use Rattle.rules.specs.States.{wellFormed, stagesIn, taskOf, costOf, mostPending, lastClock}
+use Rattle.rules.specs.States.{partyOf, heldBy, wellFormed, stagesIn, taskOf, costOf, lastClock}
+use Rattle.rules.specs.Parties.{placesOf}
 use Rattle.rules.specs.Doors.{shut}
-use Rattle.rules.specs.Steps.{doorAt, waitAt, newMessage, added, postOf, messageAt, placeOf, chooseOf, laxityOf, servedOf, emptyUnit, unitOf, callOf}
+use Rattle.rules.specs.Steps.{doorAt, waitAt, hasPlace, newMessage, added, postOf, messageAt, placeOf, chooseOf, laxityOf, servedOf, emptyUnit, unitOf, callOf}
 use Rattle.rules.specs.Numbers.{Says, refused, refused-with-0, started, posted, none, runs, ran, passed, done as finishes, cut, idle, gives, tuples, accept, late, overload, read, fed, wrote, ended, recorded, opened, tested, tested-accept, tested-late, postSays, chooseSays, unitSays, callSays}
 use Rattle.promise_steps.specs.Refusals.{saysToPost, saysToUnit, Twelve, One, NotInSet, Fifteen, DoorShut, Two, AllPlacesTaken, Three, AtLastClock, Four, DoneWithNothing, RefusedSame}
 
 -- the number of a refusal, 0 of any other answer: two that say the same have the same
-no-of : Says → ℕ
+unfoldable pub no-of : Says → ℕ
 no-of (refused n) = n
 no-of (refused-with-0 n) = n
 no-of started = 0
@@ -60,14 +61,14 @@ module _ (s : State) (k : ℕ) where
   unfolding postOf
   post-early e h d = rw (e, lt-ltb k (s .set .count) h, d)
 
-  post-full : wellFormed s ≡ true → k < s .set .count → shut (doorAt s k) (waitAt s k) ≡ false → mostPending ≤ s .count → saysToPost s k ≡ refused 2
+  post-full : wellFormed s ≡ true → k < s .set .count → shut (doorAt s k) (waitAt s k) ≡ false → placesOf (s .places) (partyOf s k) ≤ heldBy s (partyOf s k) → saysToPost s k ≡ refused 2
   unfolding postOf
-  post-full e h d g = rw (e, lt-ltb k (s .set .count) h, d, le-ltb (s .count) mostPending g)
+  post-full e h d g = rw (e, lt-ltb k (s .set .count) h, d, le-ltb _ _ g)
 
   -- any other is accepted, at the last clock too
-  pub post-accepted : wellFormed s ≡ true → k < s .set .count → shut (doorAt s k) (waitAt s k) ≡ false → s .count < mostPending → postOf s k ≡ record { answer = Posted k (newMessage s k .deadline); state = added s (newMessage s k) }
+  pub post-accepted : wellFormed s ≡ true → k < s .set .count → shut (doorAt s k) (waitAt s k) ≡ false → heldBy s (partyOf s k) < placesOf (s .places) (partyOf s k) → postOf s k ≡ record { answer = Posted k (newMessage s k .deadline); state = added s (newMessage s k) }
   unfolding postOf
-  post-accepted e h d g = rw (e, lt-ltb k (s .set .count) h, d, lt-ltb (s .count) mostPending g)
+  post-accepted e h d g = rw (e, lt-ltb k (s .set .count) h, d, lt-ltb _ _ g)
 
   -- the five cases, told by what is said
   module _ {A : Type 0} (n : ℕ) (e : no-of (saysToPost s k) ≡ n) where
@@ -78,9 +79,9 @@ module _ (s : State) (k : ℕ) where
         (λ w. by-test (ltb k (s .set .count))
         (λ x. by-test (shut (doorAt s k) (waitAt s k))
         (λ d. b (record { formed = w; in-set = ltb-true k (s .set .count) x; is-shut = d }) (sym (ap no-of (post-early w (ltb-true k (s .set .count) x) d)) ∙ e))
-        (λ d. by-test (ltb (s .count) mostPending)
-        (λ y. a (sym (ap (λ r. no-of (postSays (r .answer))) (post-accepted w (ltb-true k (s .set .count) x) d (ltb-true (s .count) mostPending y))) ∙ e))
-        (λ y. let q : AllPlacesTaken s k = record { formed = w; in-set = ltb-true k (s .set .count) x; is-open = d; full = ltb-false (s .count) mostPending y } in
+        (λ d. by-test (hasPlace s k)
+        (λ y. a (sym (ap (λ r. no-of (postSays (r .answer))) (post-accepted w (ltb-true k (s .set .count) x) d (ltb-true _ _ y))) ∙ e))
+        (λ y. let q : AllPlacesTaken s k = record { formed = w; in-set = ltb-true k (s .set .count) x; is-open = d; full = ltb-false _ _ y } in
         h q (sym (ap no-of (post-full w (q .in-set) (q .is-open) (q .full))) ∙ e))))
         (λ x. let q : NotInSet s k = record { formed = w; beyond = ltb-false k (s .set .count) x } in g q (sym (ap no-of (post-no-stream w (q .beyond))) ∙ e)))
         (λ w. f w (sym (ap no-of (post-ill w)) ∙ e))
@@ -108,7 +109,7 @@ module _ (s : State) (k : ℕ) where
       (λ w. by-test (ltb k (s .set .count))
       (λ h. by-test (shut (doorAt s k) (waitAt s k))
       (λ d. rw (w, h, d))
-      (λ d. by-test (ltb (s .count) mostPending)
+      (λ d. by-test (hasPlace s k)
       (λ g. let q : posted k (newMessage s k .deadline) ≡ refused number = rw (w, h, d, g) at e in absurd (let z : _≡_ {A = ℕ} 0 1 = cc in omega arith))
       (λ g. rw (w, h, d, g))))
       (λ h. rw (w, h)))

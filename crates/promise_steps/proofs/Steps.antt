@@ -15,7 +15,7 @@ use Rattle.laws.proofs.Sums.{by-test}
 use Rattle.laws.proofs.Parts.{count-two}
 use Rattle.rules.specs.declared.State.{State}
 use Rattle.rules.specs.declared.PostAnswer.the-variants.{Posted}
-use Rattle.rules.specs.States.{noMessage, pending, taskOf, startedOf, wellFormed}
+use Rattle.rules.specs.States.{noMessage, pending, partyOf, heldBy, taskOf, startedOf, wellFormed}
 use Rattle.rules.specs.Doors.{shut}
 use Rattle.rules.specs.Steps.{doorAt, waitAt, newMessage, added, postOf, messageAt, placeOf, departed, laxityOf, unitOf}
 use Rattle.state_formed.proofs.WellFormed.{well-formed, in-range, task-in}
@@ -23,7 +23,10 @@ use Rattle.state_choosing.specs.Words.{at, Served}
 use Rattle.state_choosing.proofs.Choice.{choice, place-in, all-pending, pending-at}
 use Rattle.promise_steps.proofs.Started.{once}
 use Rattle.promise_steps.specs.Formed.{Formed, UnitKeeps}
-use Rattle.promise_steps.proofs.Kept.{unit-keeps}
+use Rattle.promise_steps.proofs.Kept.{fit, unit-keeps}
+use Rattle.promise_steps.proofs.Pending.{one as oneOf, held-departed}
+use Rattle.rules.proofs.Parties.{same-self}
+use Rattle.rules.specs.Parties.{owns}
 use Rattle.promise_steps.proofs.Refusals.{post-accepted}
 
 -- "A started message put back when a more urgent one comes. It runs on": while a task has a started message, it serves no other
@@ -68,13 +71,18 @@ module _ (s : State) (h : Formed s) (some : s .count ≡ 0 → ⊥) (j : ℕ) (q
       (λ f. absurd (apart j (placeOf s) (ltb-true j (placeOf s) f) k-in (passes j q refl begun) (passes (placeOf s) k-in (sym same) k-begun)))
       (λ f. omega (arith, ltb-false (placeOf s) j e, ltb-false j (placeOf s) f)))
 
--- "A place freed by a leaving message takes the next post", one that does not come early
-pub freed-place : (s : State) (done : Bool) (i k : ℕ) → Formed s → unitOf s done .state ≡ departed s i → 0 < s .count → k < s .set .count → shut (doorAt (departed s i) k) (waitAt (departed s i) k) ≡ false
+-- "A place freed by a leaving message takes the next post", one of the same party that does not come early
+pub freed-place : (s : State) (done : Bool) (i k : ℕ) → Formed s → unitOf s done .state ≡ departed s i → i < s .count → partyOf s (messageAt s i .stream) ≡ partyOf s k
+    → k < s .set .count → shut (doorAt (departed s i) k) (waitAt (departed s i) k) ≡ false
     → postOf (unitOf s done .state) k ≡ record { answer = Posted k (newMessage (departed s i) k .deadline); state = added (departed s i) (newMessage (departed s i) k) }
 unfolding UnitKeeps
-freed-place s done i k h e c q d =
+freed-place s done i k h e c o q d =
     let p : Formed (unitOf s done .state) = unit-keeps s done h in
-    rw e (post-accepted (departed s i) k (rw e at (p .formed)) q d (omega (arith, well-formed s (h .formed) .few)))
+    let w = well-formed s (h .formed) in
+    let one-less : heldBy s (partyOf s k) ≡ heldBy (departed s i) (partyOf s k) + oneOf (owns (s .owners) (partyOf s k)) (messageAt s i .stream) =
+    held-departed (owns (s .owners) (partyOf s k)) s (h .housed .places) i (w .few) c in
+    let its : oneOf (owns (s .owners) (partyOf s k)) (messageAt s i .stream) ≡ 1 = rw (o, same-self (partyOf s k)) in
+    rw e (post-accepted (departed s i) k (rw e at (p .formed)) q d (omega (arith, one-less, its, fit s h (partyOf s k))))
 
 -- the laxity, exact above, at and below zero
 

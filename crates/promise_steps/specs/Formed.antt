@@ -4,13 +4,11 @@ use Prim.Native.Nat.{ℕ}
 use mathlib.Core.Bool.{Bool, true}
 use mathlib.Core.List.{List}
 use mathlib.Core.Path.{_≡_}
-use Rattle.rules.specs.declared.Set.{Set}
 use Rattle.rules.specs.declared.State.{State}
-use Rattle.rules.specs.Streams.{Placed}
 use Rattle.rules.specs.States.{wellFormed, Housed}
-use Rattle.rules.specs.Steps.{startOf, postOf, unitOf}
+use Rattle.rules.specs.Steps.{startFor, postOf, unitOf}
 use Rattle.rules.specs.declared.Call.{Call}
-use Rattle.rules.specs.Runs.{runOf}
+use Rattle.rules.specs.Runs.{Start, Boxed, runFor}
 
 -- a well formed state, with the places that its type gives it
 pub record Formed (s : State) : Type 0 where
@@ -18,7 +16,7 @@ pub record Formed (s : State) : Type 0 where
   pub housed : Housed s
 
 unfoldable pub StartGives : Type 0
-StartGives = (S : Set) → Placed S → Formed (startOf S .state)
+StartGives = (z : Start) → Boxed z → Formed (startFor (z .set) (z .owners) (z .places) .state)
 
 unfoldable pub PostKeeps : Type 0
 PostKeeps = (s : State) (k : ℕ) → Formed s → Formed (postOf s k .state)
@@ -28,8 +26,8 @@ UnitKeeps = (s : State) (done : Bool) → Formed s → Formed (unitOf s done .st
 
 -- every state that calls from a start can leave
 unfoldable pub RunKeeps : Type 0
-RunKeeps = (S : Set) → Placed S → (calls : List Call) → Formed (runOf S calls .state)
+RunKeeps = (z : Start) → Boxed z → (calls : List Call) → Formed (runFor z calls .state)
 
 -- the time of a run is the state's clock
 unfoldable pub TimeIsClock : Type 0
-TimeIsClock = (S : Set) (calls : List Call) → runOf S calls .time ≡ runOf S calls .state .clock
+TimeIsClock = (z : Start) (calls : List Call) → runFor z calls .time ≡ runFor z calls .state .clock

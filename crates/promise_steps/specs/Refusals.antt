@@ -7,10 +7,13 @@ use mathlib.Core.Logic.{_↔_}
 use mathlib.Core.Path.{_≡_}
 use Rattle.rules.specs.declared.State.{State}
 use Rattle.rules.specs.declared.Call.{Call}
-use Rattle.rules.specs.States.{mostPending, lastClock, wellFormed}
+use Rattle.rules.specs.Streams.{emptySet, valid}
+use Rattle.rules.specs.Parties.{placesOf, together}
+use Rattle.rules.specs.States.{partyOf, heldBy, mostPending, lastClock, wellFormed}
+use Rattle.rules.specs.Runs.{Start}
 use Rattle.rules.specs.Doors.{shut}
-use Rattle.rules.specs.Steps.{doorAt, waitAt, postOf, chooseOf, unitOf, callOf}
-use Rattle.rules.specs.Numbers.{Says, refused, postSays, chooseSays, unitSays, callSays}
+use Rattle.rules.specs.Steps.{fresh, startFor, doorAt, waitAt, postOf, chooseOf, unitOf, callOf}
+use Rattle.rules.specs.Numbers.{Says, refused, startSays, postSays, chooseSays, unitSays, callSays}
 
 abbrev pub saysToPost : State → ℕ → Says
 saysToPost s k = postSays (postOf s k .answer)
@@ -44,12 +47,12 @@ pub record DoorShut (s : State) (k : ℕ) : Type 0 where
 unfoldable pub Fifteen : Type 0
 Fifteen = (s : State) (k : ℕ) → (saysToPost s k ≡ refused 15) ↔ DoorShut s k
 
--- "2: post with 64 pending"
+-- request 8: "A post is refused as full exactly when its own party has its number pending."
 pub record AllPlacesTaken (s : State) (k : ℕ) : Type 0 where
   pub formed : wellFormed s ≡ true
   pub in-set : k < s .set .count
   pub is-open : shut (doorAt s k) (waitAt s k) ≡ false
-  pub full : mostPending ≤ s .count
+  pub full : placesOf (s .places) (partyOf s k) ≤ heldBy s (partyOf s k)
 
 unfoldable pub Two : Type 0
 Two = (s : State) (k : ℕ) → (saysToPost s k ≡ refused 2) ↔ AllPlacesTaken s k
@@ -75,3 +78,24 @@ Four = (s : State) (done : Bool) → (saysToUnit s done ≡ refused 4) ↔ DoneW
 -- "state unchanged": whatever the number
 unfoldable pub RefusedSame : Type 0
 RefusedSame = (s : State) (c : Call) (no : ℕ) → callSays (callOf s c .answer) ≡ refused no → callOf s c .state ≡ s
+
+-- ---- the start, from a set, whose its streams are, and the parties' places
+
+abbrev pub saysToStart : Start → Says
+saysToStart z = startSays (startFor (z .set) (z .owners) (z .places) .answer)
+
+-- "7: value or set out of rule"
+unfoldable pub Seven : Type 0
+Seven = (z : Start) → (saysToStart z ≡ refused 7) ↔ (valid (z .set) ≡ false)
+
+-- request 8: "16 at start, after 7, when the places exceed 64"
+pub record TooManyPlaces (z : Start) : Type 0 where
+  pub valid-set : valid (z .set) ≡ true
+  pub over : mostPending < together (z .places)
+
+unfoldable pub Sixteen : Type 0
+Sixteen = (z : Start) → (saysToStart z ≡ refused 16) ↔ TooManyPlaces z
+
+-- "with the start of the empty set": whatever the number
+unfoldable pub RefusedStart : Type 0
+RefusedStart = (z : Start) (no : ℕ) → saysToStart z ≡ refused no → startFor (z .set) (z .owners) (z .places) .state ≡ fresh emptySet

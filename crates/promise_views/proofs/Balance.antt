@@ -8,24 +8,25 @@ use Rattle.laws.specs.Lists.{sum, count}
 use Rattle.laws.proofs.Gates.{sum-last}
 use Rattle.laws.proofs.Sums.{by-test}
 use Rattle.rules.specs.declared.Message.{Message}
-use Rattle.rules.specs.declared.Set.{Set}
 use Rattle.rules.specs.declared.State.{State}
 use Rattle.rules.specs.declared.Call.{Call}
 use Rattle.rules.specs.declared.Call.the-variants.{Posts, Units}
 use Rattle.rules.specs.declared.PostResult.{PostResult}
 use Rattle.rules.specs.declared.UnitResult.{UnitResult}
-use Rattle.rules.specs.Streams.{Placed, valid}
-use Rattle.rules.specs.States.{pending}
-use Rattle.rules.specs.Steps.{startOf, postOf, unitOf, callOf, placeOf, messageAt, stayed, departed}
-use Rattle.rules.specs.Runs.{Accepted, Departure, leaves, Run, acceptedOf, departuresOf, accepted, departures, newPost, newDeparture, afterPost, afterUnit, stepOf, begin, runFrom, runOf}
+use Rattle.rules.specs.Streams.{valid}
+use lib.Dec.{leb}
+use Rattle.rules.specs.Parties.{together}
+use Rattle.rules.specs.States.{pending, partyOf, mostPending}
+use Rattle.rules.specs.Steps.{startFor, postOf, unitOf, callOf, placeOf, messageAt, stayed, departed}
+use Rattle.rules.specs.Runs.{Accepted, Departure, leaves, Run, acceptedOf, departuresOf, accepted, departures, newPost, newDeparture, afterPost, afterUnit, stepOf, Start, Boxed, beginFor, runFrom, runFor}
 use Rattle.rules.proofs.Events.{accepted-more, accepted-same, departures-more, departures-same, step-state}
-use Rattle.state_formed.proofs.WellFormed.{well-formed}
+use Rattle.state_formed.proofs.WellFormed.{well-formed, place-room}
 use Rattle.state_choosing.proofs.Choice.{place-in}
 use Rattle.promise_steps.specs.Formed.{Formed, StartGives}
 use Rattle.promise_steps.proofs.Cases.{PostCase, refuses, accepts, post-case, Serving, UnitCase, stops, idles, finishes, passes, cuts, runs, unit-case}
 use Rattle.promise_steps.proofs.Runs.{start-gives, step-keeps}
 use Rattle.promise_views.specs.Views.{Kind, Balanced, postOfKind, departureOfKind}
-use Rattle.promise_views.proofs.Pending.{one, held, held-added, held-stayed, held-departed}
+use Rattle.promise_steps.proofs.Pending.{one, held, held-added, held-stayed, held-departed}
 
 -- where the chosen message stands
 pub place-low : (s : State) → Formed s → Serving s → placeOf s < s .count
@@ -54,7 +55,8 @@ module _ (mine : Kind) where
 
   post-same : (r : Run) (k : ℕ) → Balance r → (p : PostResult) → PostCase (r .state) k p → came (afterPost r k (p .state) (p .answer)) ≡ gone (afterPost r k (p .state) (p .answer)) + held mine (p .state)
   post-same r k b p (refuses why) = b .same
-  post-same r k b p (accepts inside room free) =
+  post-same r k b p (accepts inside left free) =
+      let room = place-room (r .state) (well-formed (r .state) (b .formed .formed)) (b .formed .housed .places) (partyOf (r .state) k) left in
       rw (accepted-more (r .events) (newPost r k), departures-same (r .events) (newPost r k))
       (omega (arith, b .same, came-more r k, held-added mine (r .state) (b .formed .housed .places) k room))
 
@@ -100,10 +102,13 @@ module _ (mine : Kind) where
   from-balance r [] b = b
   from-balance r (c ∷ cs) b = from-balance (stepOf r c) cs (step-balance r c b)
 
-  begin-balance : (S : Set) → Placed S → Balance (begin S)
-  unfolding begin startOf StartGives acceptedOf departuresOf count sum
-  begin-balance S placed = record { formed = start-gives S placed; same = by-test (valid S) (λ e. rw e) (λ e. rw e) }
+  begin-balance : (z : Start) → Boxed z → Balance (beginFor z)
+  unfolding beginFor startFor StartGives acceptedOf departuresOf count sum
+  begin-balance z b = record {
+    formed = start-gives z b;
+    same = by-test (valid (z .set)) (λ e. by-test (leb (together (z .places)) mostPending) (λ g. rw (e, g)) (λ g. rw (e, g))) (λ e. rw e);
+  }
 
 pub balanced : Balanced
-unfolding Balanced runOf
-balanced S placed calls mine = from-balance mine (begin S) calls (begin-balance mine S placed) .same
+unfolding Balanced runFor
+balanced z b calls mine = from-balance mine (beginFor z) calls (begin-balance mine z b) .same

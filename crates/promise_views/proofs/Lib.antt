@@ -1,4 +1,3 @@
-pub mod Pending
 pub mod Balance
 pub mod Ledger
 pub mod Views

@@ -1,5 +1,4 @@
--- The answers to posts follow from what is seen of a run: in every run they are those that the ledger tells. Of any kind of streams that has a number of places
--- to itself. Assumes nothing.
+-- The answers to a party's posts follow from what it sees of a run: in every run they are those that its ledger tells. Assumes nothing.
 use Prim.Native.Nat.{ℕ, _+_, _≤_, _<_}
 use mathlib.Core.Bool.{Bool, true, false, cond, false≢true}
 use mathlib.Core.List.{List, [], _∷_, _++_}
@@ -17,40 +16,41 @@ use Rattle.rules.specs.declared.State.{State}
 use Rattle.rules.specs.declared.Call.{Call}
 use Rattle.rules.specs.declared.Call.the-variants.{Posts, Units}
 use Rattle.rules.specs.declared.PostResult.{PostResult}
-use Rattle.rules.specs.declared.PostAnswer.the-variants.{Posted}
 use Rattle.rules.specs.declared.UnitResult.{UnitResult}
-use Rattle.rules.specs.Streams.{Placed, streamAt, limit, valid}
-use Rattle.rules.specs.States.{pending, mostPending}
+use Rattle.rules.specs.Streams.{streamAt, limit}
+use Rattle.rules.specs.States.{pending, partyOf, heldBy}
+use Rattle.rules.specs.declared.Owner.{Owner}
+use Rattle.rules.specs.declared.Party.{Party}
+use Rattle.rules.specs.declared.Places.{Places}
+use Rattle.rules.specs.declared.StartResult.{StartResult}
+use Rattle.rules.specs.declared.StartAnswer.the-variants.{Started}
+use Rattle.rules.specs.Parties.{owns, belongs, placesOf, ownersFor}
+use Rattle.rules.proofs.Parties.{same-is}
+use borrow.Author.Tests.{le-leb}
 use Rattle.rules.specs.Doors.{shut}
-use Rattle.rules.specs.Steps.{doorAt, waitAt, newMessage, added, startOf, postOf, unitOf, placeOf, messageAt, stayed, departed}
+use Rattle.rules.specs.Steps.{doorAt, waitAt, newMessage, freshFor, startFor, postOf, unitOf, placeOf, messageAt, stayed, departed}
 use Rattle.rules.specs.Numbers.{Says, refused, posted, postSays}
-use Rattle.rules.specs.Runs.{Accepted, leaves, Run, acceptedOf, accepted, inWindow, newPost, ComesEarly, DoorExact, afterPost, afterUnit, stepOf, begin, runFrom, runOf}
+use Rattle.rules.specs.Runs.{Accepted, leaves, Run, acceptedOf, accepted, inWindow, newPost, ComesEarly, DoorExact, afterPost, afterUnit, stepOf, Start, Starts, beginFor, runFrom, runFor}
 use Rattle.rules.proofs.Events.{accepted-more, accepted-same}
-use Rattle.state_formed.proofs.WellFormed.{well-formed}
+use Rattle.state_formed.proofs.WellFormed.{well-formed, place-room}
 use Rattle.promise_steps.specs.Formed.{Formed, RunKeeps, TimeIsClock}
 use Rattle.promise_steps.specs.Refusals.{saysToPost, One, Two, Fifteen}
-use Rattle.promise_steps.proofs.Cases.{PostCase, refuses, accepts, post-case, pending-length, Serving, UnitCase, stops, idles, finishes, passes, cuts, runs, unit-case}
+use Rattle.promise_steps.proofs.Cases.{PostCase, refuses, accepts, post-case, Serving, UnitCase, stops, idles, finishes, passes, cuts, runs, unit-case}
 use Rattle.promise_steps.proofs.Refusals.{one, two, fifteen, post-accepted}
 use Rattle.promise_steps.proofs.Runs.{run-keeps, time-is-clock}
 use Rattle.promise_doors.proofs.Doors.{door-exact}
-use Rattle.promise_views.specs.Views.{Kind, Sight, asks, loses, lossOf, sightOf, viewFrom, viewOf, replyOf, repliesFrom, repliesOf, FollowFromView, everyone, messageOfKind}
-use Rattle.promise_views.proofs.Pending.{one as oneOf, held, held-added, held-stayed, held-departed}
+use Rattle.promise_views.specs.Views.{Kind, Sight, asks, loses, lossOf, sightOf, viewFrom, viewOf, replyOf, repliesFrom, repliesOf, ownedBy, Isolated}
+use Rattle.promise_steps.proofs.Pending.{one as oneOf, held, held-added, held-stayed, held-departed}
 use Rattle.promise_views.proofs.Balance.{place-low}
 use Rattle.promise_views.proofs.Ledger.{Known, known, knownIn, Ledger, empty, noted, lost, TooSoon, Tells, unknown, early, full, taken, Reply, Told, told-same}
 
--- a post that is not refused at its stream's number or door
-pub record Comes (S : Set) (s : State) (k : ℕ) : Type 0 where
-  pub formed : Formed s
-  pub set-is : s .set ≡ S
-  pub in-set : k < s .set .count
-  pub is-open : shut (doorAt s k) (waitAt s k) ≡ false
+module _ (z : Start) (starts : Starts z) (p : Party) where
+  abbrev mine : Kind
+  mine = ownedBy z p
 
--- the kind has so many places to itself
-pub record HasRoom (S : Set) (mine : Kind) (room : ℕ) : Type 0 where
-  pub fills : (s : State) (k : ℕ) → mine k ≡ true → Comes S s k → room ≤ held mine s → saysToPost s k ≡ refused 2
-  pub takes : (s : State) (k : ℕ) → mine k ≡ true → Comes S s k → held mine s < room → postOf s k ≡ record { answer = Posted k (newMessage s k .deadline); state = added s (newMessage s k) }
+  abbrev room : ℕ
+  room = placesOf (z .places) p
 
-module _ (S : Set) (placed : Placed S) (ok : valid S ≡ true) (mine : Kind) (room : ℕ) (has : HasRoom S mine room) where
   -- ---- a run, and the ledger of what was seen of it
 
   record Explains (r : Run) (l : Ledger) : Type 0 where
@@ -67,64 +67,97 @@ module _ (S : Set) (placed : Placed S) (ok : valid S ≡ true) (mine : Kind) (ro
   -- a run from the set's start
   record Reached (r : Run) : Type 0 where
     pub calls : List Call
-    pub is : runOf S calls ≡ r
+    pub is : runFor z calls ≡ r
 
   reached-more : (r : Run) (c : Call) → Reached r → Reached (stepOf r c)
-  unfolding runOf
-  reached-more r c h = record { calls = h .calls ++ (c ∷ []); is = run-last (begin S) (h .calls) c ∙ ap (λ (q : Run). stepOf q c) (h .is) }
+  unfolding runFor
+  reached-more r c h = record { calls = h .calls ++ (c ∷ []); is = run-last (beginFor z) (h .calls) c ∙ ap (λ (q : Run). stepOf q c) (h .is) }
 
-  post-set : (r : Run) (k : ℕ) (p : PostResult) → PostCase (r .state) k p → afterPost r k (p .state) (p .answer) .state .set ≡ r .state .set
-  post-set r k p (refuses why) = refl
-  post-set r k p (accepts inside free clear) = refl
+  -- ---- set, owners and places stay
 
-  unit-set : (r : Run) (done : Bool) (u : UnitResult) → UnitCase (r .state) done u → afterUnit r (u .state) (u .answer) .state .set ≡ r .state .set
-  unit-set r done u (stops why) = refl
-  unit-set r done u (idles e h) = refl
-  unit-set r done u (finishes v e) = refl
-  unit-set r done u (passes v e) = refl
-  unit-set r done u (cuts v e) = refl
-  unit-set r done u (runs v e) = refl
+  record Stays (r next : Run) : Type 0 where
+    pub set : next .state .set ≡ r .state .set
+    pub owners : next .state .owners ≡ r .state .owners
+    pub places : next .state .places ≡ r .state .places
 
-  step-set : (r : Run) (c : Call) → stepOf r c .state .set ≡ r .state .set
+  post-stays : (r : Run) (k : ℕ) (q : PostResult) → PostCase (r .state) k q → Stays r (afterPost r k (q .state) (q .answer))
+  post-stays r k q (refuses why) = record { set = refl; owners = refl; places = refl }
+  post-stays r k q (accepts inside left clear) = record { set = refl; owners = refl; places = refl }
+
+  unit-stays : (r : Run) (done : Bool) (u : UnitResult) → UnitCase (r .state) done u → Stays r (afterUnit r (u .state) (u .answer))
+  unit-stays r done u (stops why) = record { set = refl; owners = refl; places = refl }
+  unit-stays r done u (idles e h) = record { set = refl; owners = refl; places = refl }
+  unit-stays r done u (finishes v e) = record { set = refl; owners = refl; places = refl }
+  unit-stays r done u (passes v e) = record { set = refl; owners = refl; places = refl }
+  unit-stays r done u (cuts v e) = record { set = refl; owners = refl; places = refl }
+  unit-stays r done u (runs v e) = record { set = refl; owners = refl; places = refl }
+
+  step-stays : (r : Run) (c : Call) → Stays r (stepOf r c)
   unfolding stepOf
-  step-set r (Posts k) = post-set r k (postOf (r .state) k) (post-case (r .state) k)
-  step-set r (Units done) = unit-set r done (unitOf (r .state) done) (unit-case (r .state) done)
+  step-stays r (Posts k) = post-stays r k (postOf (r .state) k) (post-case (r .state) k)
+  step-stays r (Units done) = unit-stays r done (unitOf (r .state) done) (unit-case (r .state) done)
 
-  from-set : (r : Run) (cs : List Call) → runFrom r cs .state .set ≡ r .state .set
+  from-stays : (r : Run) (cs : List Call) → Stays r (runFrom r cs)
   unfolding runFrom
-  from-set r [] = refl
-  from-set r (c ∷ cs) = from-set (stepOf r c) cs ∙ step-set r c
+  from-stays r [] = record { set = refl; owners = refl; places = refl }
+  from-stays r (c ∷ cs) =
+      let a = from-stays (stepOf r c) cs in
+      let b = step-stays r c in
+      record { set = a .set ∙ b .set; owners = a .owners ∙ b .owners; places = a .places ∙ b .places }
 
-  begin-set : begin S .state .set ≡ S
-  unfolding begin startOf
-  begin-set = rw ok
+  start-is : startFor (z .set) (z .owners) (z .places) ≡ record { answer = Started; state = freshFor (z .set) (ownersFor (z .set .count) (z .owners)) (z .places) }
+  unfolding startFor
+  start-is = rw (starts .valid-set, le-leb _ _ (starts .few))
 
   -- ---- what holds of such a run
 
   module _ (r : Run) (h : Reached r) where
     formed : Formed (r .state)
     unfolding RunKeeps
-    formed = subst (λ (q : Run). Formed (q .state)) (h .is) (run-keeps S placed (h .calls))
+    formed = subst (λ (q : Run). Formed (q .state)) (h .is) (run-keeps z (starts .boxed) (h .calls))
 
     timed : r .time ≡ r .state .clock
     unfolding TimeIsClock
-    timed = subst (λ (q : Run). q .time ≡ q .state .clock) (h .is) (time-is-clock S (h .calls))
+    timed = subst (λ (q : Run). q .time ≡ q .state .clock) (h .is) (time-is-clock z (h .calls))
 
-    set-is : r .state .set ≡ S
-    unfolding runOf
-    set-is = ap (λ (q : Run). q .state .set) (sym (h .is)) ∙ from-set (begin S) (h .calls) ∙ begin-set
+    stays-as : Stays (beginFor z) r
+    unfolding runFor
+    stays-as = subst (Stays (beginFor z)) (h .is) (from-stays (beginFor z) (h .calls))
+
+    set-is : r .state .set ≡ z .set
+    unfolding beginFor
+    set-is = stays-as .set ∙ ap (λ (q : StartResult). q .state .set) start-is
+
+    owners-are : r .state .owners ≡ ownersFor (z .set .count) (z .owners)
+    unfolding beginFor
+    owners-are = stays-as .owners ∙ ap (λ (q : StartResult). q .state .owners) start-is
+
+    places-are : r .state .places ≡ z .places
+    unfolding beginFor
+    places-are = stays-as .places ∙ ap (λ (q : StartResult). q .state .places) start-is
+
+    -- what the party has pending, and its places
+    held-is : held mine (r .state) ≡ heldBy (r .state) p
+    held-is = ap (λ (os : List Owner). count (belongs os p) (pending (r .state))) (sym owners-are)
+
+    room-is : room ≡ placesOf (r .state .places) p
+    room-is = ap (λ (x : Places). placesOf x p) (sym places-are)
+
+    -- the owner of a stream of the party
+    its : (k : ℕ) → mine k ≡ true → partyOf (r .state) k ≡ p
+    its k g = same-is (partyOf (r .state) k) p (ap (λ (os : List Owner). owns os p k) owners-are ∙ g)
 
     few : r .state .count ≤ 64
     few = well-formed (r .state) (formed .formed) .few
 
     -- 15 exactly if the post would break its stream's limit
-    breaks : (k : ℕ) → saysToPost (r .state) k ≡ refused 15 → ComesEarly S k r
+    breaks : (k : ℕ) → saysToPost (r .state) k ≡ refused 15 → ComesEarly (z .set) k r
     unfolding DoorExact
-    breaks k = subst (λ (q : Run). saysToPost (q .state) k ≡ refused 15 → ComesEarly S k q) (h .is) (door-exact S placed ok (h .calls) k .0)
+    breaks k = subst (λ (q : Run). saysToPost (q .state) k ≡ refused 15 → ComesEarly (z .set) k q) (h .is) (door-exact z starts (h .calls) k .0)
 
-    broken : (k : ℕ) → ComesEarly S k r → saysToPost (r .state) k ≡ refused 15
+    broken : (k : ℕ) → ComesEarly (z .set) k r → saysToPost (r .state) k ≡ refused 15
     unfolding DoorExact
-    broken k = subst (λ (q : Run). ComesEarly S k q → saysToPost (q .state) k ≡ refused 15) (h .is) (door-exact S placed ok (h .calls) k .1)
+    broken k = subst (λ (q : Run). ComesEarly (z .set) k q → saysToPost (q .state) k ≡ refused 15) (h .is) (door-exact z starts (h .calls) k .1)
 
     -- ---- the ledger, one post more
 
@@ -151,68 +184,68 @@ module _ (S : Set) (placed : Placed S) (ok : valid S ≡ true) (mine : Kind) (ro
           missed = rw (ne-eqb k j apart)
 
       -- would it break the limit?
-      too-soon : (k : ℕ) → mine k ≡ true → ComesEarly S k r → TooSoon S room l k (r .time)
+      too-soon : (k : ℕ) → mine k ≡ true → ComesEarly (z .set) k r → TooSoon (z .set) room l k (r .time)
       too-soon k g q = record {
         door = q .door;
         from = q .breaks .from;
         span = q .breaks .span;
-        over = subst (λ (n : ℕ). limit (streamAt S k) (q .breaks .span) < n) (windows-more k k (q .breaks .from) (q .breaks .span) g) (q .breaks .over);
+        over = subst (λ (n : ℕ). limit (streamAt (z .set) k) (q .breaks .span) < n) (windows-more k k (q .breaks .from) (q .breaks .span) g) (q .breaks .over);
       }
 
-      comes-early : (k : ℕ) → mine k ≡ true → k < S .count → TooSoon S room l k (r .time) → ComesEarly S k r
+      comes-early : (k : ℕ) → mine k ≡ true → k < z .set .count → TooSoon (z .set) room l k (r .time) → ComesEarly (z .set) k r
       comes-early k g i q = record {
         in-set = i;
         door = q .door;
         breaks = record {
           from = q .from;
           span = q .span;
-          over = subst (λ (n : ℕ). limit (streamAt S k) (q .span) < n) (sym (windows-more k k (q .from) (q .span) g)) (q .over);
+          over = subst (λ (n : ℕ). limit (streamAt (z .set) k) (q .span) < n) (sym (windows-more k k (q .from) (q .span) g)) (q .over);
         };
       }
 
       -- ---- a post
 
-      post-refused : (k n : ℕ) (p : PostResult) → PostCase (r .state) k p → postSays (p .answer) ≡ refused n → Explains (afterPost r k (p .state) (p .answer)) l
-      post-refused k n p (refuses why) q = record { windows = e .windows; rest = e .rest }
-      post-refused k n p (accepts inside free clear) q = absurd (let z : _≡_ {A = ℕ} 0 1 = cc in omega arith)
+      post-refused : (k n : ℕ) (o : PostResult) → PostCase (r .state) k o → postSays (o .answer) ≡ refused n → Explains (afterPost r k (o .state) (o .answer)) l
+      post-refused k n o (refuses why) q = record { windows = e .windows; rest = e .rest }
+      post-refused k n o (accepts inside free clear) q = absurd (let z : _≡_ {A = ℕ} 0 1 = cc in omega arith)
 
-      post-taken : (k d : ℕ) → mine k ≡ true → (p : PostResult) → PostCase (r .state) k p → postSays (p .answer) ≡ posted k d → Explains (afterPost r k (p .state) (p .answer)) (noted l k (r .time))
-      post-taken k d g p (refuses why) q = absurd (let z : _≡_ {A = ℕ} 0 1 = cc in omega arith)
-      post-taken k d g p (accepts inside free clear) q = record {
+      post-taken : (k d : ℕ) → mine k ≡ true → (o : PostResult) → PostCase (r .state) k o → postSays (o .answer) ≡ posted k d → Explains (afterPost r k (o .state) (o .answer)) (noted l k (r .time))
+      post-taken k d g o (refuses why) q = absurd (let z : _≡_ {A = ℕ} 0 1 = cc in omega arith)
+      post-taken k d g o (accepts inside free clear) q = record {
         windows = λ j x i c. ap (count (inWindow j x i)) (accepted-more (r .events) (newPost r k)) ∙ windows-more k j x i c;
         rest = omega (
           arith,
           e .rest,
-          held-added mine (r .state) (formed .housed .places) k free,
+          held-added mine (r .state) (formed .housed .places) k (place-room (r .state) (well-formed (r .state) (formed .formed)) (formed .housed .places) (partyOf (r .state) k) free),
           let z : oneOf mine k ≡ 1 = rw g in z,
           length-append (l .posts) (known k (r .time) ∷ []),
         );
       }
 
-      post-other : (k : ℕ) → mine k ≡ false → (p : PostResult) → PostCase (r .state) k p → Explains (afterPost r k (p .state) (p .answer)) l
-      post-other k f p (refuses why) = record { windows = e .windows; rest = e .rest }
-      post-other k f p (accepts inside free clear) = record {
+      post-other : (k : ℕ) → mine k ≡ false → (o : PostResult) → PostCase (r .state) k o → Explains (afterPost r k (o .state) (o .answer)) l
+      post-other k f o (refuses why) = record { windows = e .windows; rest = e .rest }
+      post-other k f o (accepts inside free clear) = record {
         windows = λ j x i c. ap (count (inWindow j x i)) (accepted-more (r .events) (newPost r k)) ∙ windows-other k j x i f c;
-        rest = omega (arith, e .rest, held-added mine (r .state) (formed .housed .places) k free, let z : oneOf mine k ≡ 0 = rw f in z);
+        rest = omega (arith, e .rest, held-added mine (r .state) (formed .housed .places) k (place-room (r .state) (well-formed (r .state) (formed .formed)) (formed .housed .places) (partyOf (r .state) k) free), let z : oneOf mine k ≡ 0 = rw f in z);
       }
 
       -- what a post of the kind is answered, by the ledger
       record Answered (k : ℕ) : Type 0 where
         pub behind : Ledger
-        pub tells : Tells S room l k (r .time) (saysToPost (r .state) k) behind
+        pub tells : Tells (z .set) room l k (r .time) (saysToPost (r .state) k) behind
         pub explains : Explains (stepOf r (Posts k)) behind
 
       -- refused with a number that the ledger tells
-      told-refused : (k n : ℕ) → saysToPost (r .state) k ≡ refused n → Tells S room l k (r .time) (refused n) l → Answered k
+      told-refused : (k n : ℕ) → saysToPost (r .state) k ≡ refused n → Tells (z .set) room l k (r .time) (refused n) l → Answered k
       unfolding stepOf
       told-refused k n q t = record {
         behind = l;
-        tells = subst (λ (a : Says). Tells S room l k (r .time) a l) (sym q) t;
+        tells = subst (λ (a : Says). Tells (z .set) room l k (r .time) a l) (sym q) t;
         explains = post-refused k n (postOf (r .state) k) (post-case (r .state) k) q;
       }
 
       module _ (k : ℕ) (g : mine k ≡ true) (i : k < r .state .set .count) where
-        inside : k < S .count
+        inside : k < z .set .count
         inside = subst (λ (x : Set). k < x .count) set-is i
 
         at-door : shut (doorAt (r .state) k) (waitAt (r .state) k) ≡ true → Answered k
@@ -222,27 +255,32 @@ module _ (S : Set) (placed : Placed S) (ok : valid S ≡ true) (mine : Kind) (ro
             told-refused k 15 q (early inside (too-soon k g (breaks k q)))
 
         module _ (d : shut (doorAt (r .state) k) (waitAt (r .state) k) ≡ false) where
-          in-time : TooSoon S room l k (r .time) → ⊥
+          in-time : TooSoon (z .set) room l k (r .time) → ⊥
           unfolding Fifteen
           in-time q = false≢true (sym d ∙ fifteen (r .state) k .0 (broken k (comes-early k g inside q)) .is-shut)
 
-          comes : Comes S (r .state) k
-          comes = record { formed = formed; set-is = set-is; in-set = i; is-open = d }
+          full-here : room ≤ held mine (r .state) → placesOf (r .state .places) (partyOf (r .state) k) ≤ heldBy (r .state) (partyOf (r .state) k)
+          full-here f = rw (its k g) (omega (arith, f, held-is, room-is))
+
+          free-here : held mine (r .state) < room → heldBy (r .state) (partyOf (r .state) k) < placesOf (r .state .places) (partyOf (r .state) k)
+          free-here f = rw (its k g) (omega (arith, f, held-is, room-is))
 
           no-place : room ≤ held mine (r .state) → Answered k
-          no-place f = told-refused k 2 (has .fills (r .state) k g comes f) (full inside in-time (omega (arith, e .rest)))
+          unfolding Two
+          no-place f =
+              told-refused k 2 (two (r .state) k .1 (record { formed = formed .formed; in-set = i; is-open = d; full = full-here f })) (full inside in-time (omega (arith, e .rest)))
 
           a-place : held mine (r .state) < room → Answered k
           unfolding stepOf
           a-place f =
-              let q : saysToPost (r .state) k ≡ posted k (r .time + streamAt S k .deadline) = ap (λ (p : PostResult). postSays (p .answer)) (has .takes (r .state) k g comes f) ∙ due in
+              let q : saysToPost (r .state) k ≡ posted k (r .time + streamAt (z .set) k .deadline) = ap (λ (o : PostResult). postSays (o .answer)) (post-accepted (r .state) k (formed .formed) i d (free-here f)) ∙ due in
               record {
                 behind = noted l k (r .time);
-                tells = subst (λ (a : Says). Tells S room l k (r .time) a (noted l k (r .time))) (sym q) (taken inside in-time (omega (arith, e .rest)));
+                tells = subst (λ (a : Says). Tells (z .set) room l k (r .time) a (noted l k (r .time))) (sym q) (taken inside in-time (omega (arith, e .rest)));
                 explains = post-taken k _ g (postOf (r .state) k) (post-case (r .state) k) q;
               }
             where
-              due : posted k (newMessage (r .state) k .deadline) ≡ posted k (r .time + streamAt S k .deadline)
+              due : posted k (newMessage (r .state) k .deadline) ≡ posted k (r .time + streamAt (z .set) k .deadline)
               due = cc (timed, set-is)
 
       post-answered : (k : ℕ) → mine k ≡ true → Answered k
@@ -257,8 +295,8 @@ module _ (S : Set) (placed : Placed S) (ok : valid S ≡ true) (mine : Kind) (ro
 
       -- ---- a unit
 
-      unit-stays : (s : State) (n : ℕ) → held mine s ≡ held mine (r .state) → Explains (record { state = s; time = n; names = r .names; events = r .events }) l
-      unit-stays s n q = record { windows = e .windows; rest = omega (arith, e .rest, q) }
+      unit-same : (s : State) (n : ℕ) → held mine s ≡ held mine (r .state) → Explains (record { state = s; time = n; names = r .names; events = r .events }) l
+      unit-same s n q = record { windows = e .windows; rest = omega (arith, e .rest, q) }
 
       module _ (v : Serving (r .state)) where
         low : placeOf (r .state) < r .state .count
@@ -281,24 +319,24 @@ module _ (S : Set) (placed : Placed S) (ok : valid S ≡ true) (mine : Kind) (ro
         }
 
         left-told : (next : Run) → next .state ≡ departed (r .state) (placeOf (r .state)) → accepted next ≡ accepted r → (w : List Sight) (says : List Says)
-            → ((m : Ledger) → Explains next m → Told S room w m says) → Told S room (cond (mine gone) (loses ∷ []) [] ++ w) l says
+            → ((m : Ledger) → Explains next m → Told (z .set) room w m says) → Told (z .set) room (cond (mine gone) (loses ∷ []) [] ++ w) l says
         unfolding Told
         left-told next s a w says go = by-test (mine gone)
             (λ y. rw y (go (lost l) (left next s a (lost l) refl (let z : oneOf mine gone ≡ 1 = rw y in omega (arith, z)))))
             (λ y. rw y (go l (left next s a l refl (let z : oneOf mine gone ≡ 0 = rw y in omega (arith, z)))))
 
       unit-told : (done : Bool) (u : UnitResult) → UnitCase (r .state) done u → (w : List Sight) (says : List Says)
-          → ((m : Ledger) → Explains (afterUnit r (u .state) (u .answer)) m → Told S room w m says) → Told S room (lossOf mine (u .answer) ++ w) l says
-      unit-told done u (stops why) w says go = go l (unit-stays _ _ refl)
-      unit-told done u (idles z h) w says go = go l (unit-stays _ _ refl)
+          → ((m : Ledger) → Explains (afterUnit r (u .state) (u .answer)) m → Told (z .set) room w m says) → Told (z .set) room (lossOf mine (u .answer) ++ w) l says
+      unit-told done u (stops why) w says go = go l (unit-same _ _ refl)
+      unit-told done u (idles z h) w says go = go l (unit-same _ _ refl)
       unit-told done u (finishes v z) w says go = left-told v _ refl (accepted-same (r .events) _) w says go
-      unit-told done u (passes v z) w says go = go l (unit-stays _ _ (stays v _ refl))
+      unit-told done u (passes v z) w says go = go l (unit-same _ _ (stays v _ refl))
       unit-told done u (cuts v z) w says go = left-told v _ refl (accepted-same (r .events) _) w says go
-      unit-told done u (runs v z) w says go = go l (unit-stays _ _ (stays v _ refl))
+      unit-told done u (runs v z) w says go = go l (unit-same _ _ (stays v _ refl))
 
   -- ---- a run
 
-  told : (cs : List Call) (r : Run) (l : Ledger) → Reached r → Explains r l → Told S room (viewFrom mine r cs) l (repliesFrom mine r cs)
+  told : (cs : List Call) (r : Run) (l : Ledger) → Reached r → Explains r l → Told (z .set) room (viewFrom mine r cs) l (repliesFrom mine r cs)
   unfolding Told viewFrom repliesFrom sightOf replyOf stepOf
   told [] r l h e = refl
   told (Posts k ∷ cs) r l h e = by-test (mine k)
@@ -315,37 +353,20 @@ module _ (S : Set) (placed : Placed S) (ok : valid S ≡ true) (mine : Kind) (ro
       unit-told r h l e done (unitOf (r .state) done) (unit-case (r .state) done) (viewFrom mine (stepOf r (Units done)) cs) (repliesFrom mine (stepOf r (Units done)) cs)
       (λ m q. told cs (stepOf r (Units done)) m (reached-more r (Units done) h) q)
 
-  begin-explains : Explains (begin S) empty
-  unfolding begin startOf acceptedOf count sum
-  begin-explains = rw ok (record { windows = λ k x i g. refl; rest = refl })
+  begin-explains : Explains (beginFor z) empty
+  unfolding beginFor acceptedOf count sum
+  begin-explains = rw start-is (record { windows = λ k x i g. refl; rest = refl })
 
-  pub told-run : (calls : List Call) → Told S room (viewOf mine S calls) empty (repliesOf mine S calls)
-  unfolding viewOf repliesOf runOf runFrom
-  told-run calls = told calls (begin S) empty (record { calls = []; is = refl }) begin-explains
+  pub told-run : (calls : List Call) → Told (z .set) room (viewOf mine z calls) empty (repliesOf mine z calls)
+  unfolding viewOf repliesOf runFor runFrom
+  told-run calls = told calls (beginFor z) empty (record { calls = []; is = refl }) begin-explains
 
-  pub follow : (calls others : List Call) → viewOf mine S calls ≡ viewOf mine S others → repliesOf mine S calls ≡ repliesOf mine S others
+  pub follow : (calls others : List Call) → viewOf mine z calls ≡ viewOf mine z others → repliesOf mine z calls ≡ repliesOf mine z others
   follow calls others q =
-      told-same S room (viewOf mine S others) empty (repliesOf mine S calls) (repliesOf mine S others)
-      (subst (λ (w : List Sight). Told S room w empty (repliesOf mine S calls)) q (told-run calls))
+      told-same (z .set) room (viewOf mine z others) empty (repliesOf mine z calls) (repliesOf mine z others)
+      (subst (λ (w : List Sight). Told (z .set) room w empty (repliesOf mine z calls)) q (told-run calls))
       (told-run others)
 
--- ---- all streams together have 64 places
-
-all-held : (l : List Message) → count (messageOfKind everyone) l ≡ length l
-unfolding count sum
-all-held [] = refl
-all-held (m ∷ l) = omega (arith, all-held l)
-
-held-all : (s : State) → Formed s → held everyone s ≡ s .count
-held-all s f = all-held (pending s) ∙ pending-length s (f .housed .places) (well-formed s (f .formed) .few)
-
-all-room : (S : Set) → HasRoom S everyone mostPending
-unfolding Two
-all-room S = record {
-  fills = λ s k g c h. two s k .1 (record { formed = c .formed .formed; in-set = c .in-set; is-open = c .is-open; full = omega (arith, held-all s (c .formed)) });
-  takes = λ s k g c h. post-accepted s k (c .formed .formed) (c .in-set) (c .is-open) (omega (arith, held-all s (c .formed)));
-}
-
-pub follow-from-view : FollowFromView everyone
-unfolding FollowFromView
-follow-from-view S placed ok = follow S placed ok everyone mostPending (all-room S)
+pub isolated : Isolated
+unfolding Isolated
+isolated z starts p calls others q = follow z starts p calls others q

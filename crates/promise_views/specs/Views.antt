@@ -1,22 +1,22 @@
--- Of any kind of streams, in every run from a start: the accepted messages are those that left and those that are pending; and what is seen of a run by whoever posts to
--- these streams: its posts, with the time at each, and where among them its messages leave. The time is the units that moved the clock since the start.
+-- Document 02, request 8: what a party sees of a run, and that the answers to its posts follow from it. Beside it: of any kind of streams, the accepted messages are those that
+-- left and those that are pending. The time is the units that moved the clock since the start.
 -- Assumes nothing.
 use Prim.Native.Nat.{ℕ, _+_}
-use mathlib.Core.Bool.{Bool, true, cond}
+use mathlib.Core.Bool.{Bool, cond}
 use mathlib.Core.List.{List, [], _∷_, _++_}
 use mathlib.Core.Path.{_≡_}
 use Rattle.laws.specs.Lists.{count}
 use Rattle.rules.specs.declared.Message.{Message}
-use Rattle.rules.specs.declared.Set.{Set}
+use Rattle.rules.specs.declared.Party.{Party}
 use Rattle.rules.specs.declared.Call.{Call}
 use Rattle.rules.specs.declared.Call.the-variants.{Posts, Units}
 use Rattle.rules.specs.declared.UnitAnswer.{UnitAnswer}
 use Rattle.rules.specs.declared.UnitAnswer.the-variants.{Ran, Passed, Finished, Cut, Idle, Refused as UnitRefused}
-use Rattle.rules.specs.Streams.{Placed, valid}
+use Rattle.rules.specs.Parties.{owns, ownersFor}
 use Rattle.rules.specs.States.{pending}
 use Rattle.rules.specs.Steps.{postOf, unitOf}
 use Rattle.rules.specs.Numbers.{Says, postSays}
-use Rattle.rules.specs.Runs.{Accepted, Departure, Run, accepted, departures, stepOf, begin, runOf}
+use Rattle.rules.specs.Runs.{Accepted, Departure, Run, Start, Boxed, Starts, accepted, departures, stepOf, beginFor, runFor}
 
 -- a kind of streams, by their numbers
 abbrev pub Kind : Type 0
@@ -36,8 +36,8 @@ messageOfKind mine m = mine (m .stream)
 -- the accepted ones are those that left, finished or cut, and those that are pending
 unfoldable pub Balanced : Type 0
 Balanced =
-    (S : Set) → Placed S → (calls : List Call) (mine : Kind)
-    → count (postOfKind mine) (accepted (runOf S calls)) ≡ count (departureOfKind mine) (departures (runOf S calls)) + count (messageOfKind mine) (pending (runOf S calls .state))
+    (z : Start) → Boxed z → (calls : List Call) (mine : Kind)
+    → count (postOfKind mine) (accepted (runFor z calls)) ≡ count (departureOfKind mine) (departures (runFor z calls)) + count (messageOfKind mine) (pending (runFor z calls .state))
 
 -- ---- what is seen
 
@@ -63,8 +63,8 @@ unfoldable pub viewFrom : Kind → Run → List Call → List Sight
 viewFrom mine r [] = []
 viewFrom mine r (c ∷ cs) = sightOf mine r c ++ viewFrom mine (stepOf r c) cs
 
-unfoldable pub viewOf : Kind → Set → List Call → List Sight
-viewOf mine S calls = viewFrom mine (begin S) calls
+unfoldable pub viewOf : Kind → Start → List Call → List Sight
+viewOf mine z calls = viewFrom mine (beginFor z) calls
 
 -- ---- what is answered to its posts, in order
 
@@ -76,13 +76,17 @@ unfoldable pub repliesFrom : Kind → Run → List Call → List Says
 repliesFrom mine r [] = []
 repliesFrom mine r (c ∷ cs) = replyOf mine r c ++ repliesFrom mine (stepOf r c) cs
 
-unfoldable pub repliesOf : Kind → Set → List Call → List Says
-repliesOf mine S calls = repliesFrom mine (begin S) calls
+unfoldable pub repliesOf : Kind → Start → List Call → List Says
+repliesOf mine z calls = repliesFrom mine (beginFor z) calls
 
--- two runs from one start that agree on the posts, the times at them and where among them messages leave give the posts the same answers
-unfoldable pub FollowFromView : Kind → Type 0
-FollowFromView mine =
-    (S : Set) → Placed S → valid S ≡ true → (calls others : List Call) → viewOf mine S calls ≡ viewOf mine S others → repliesOf mine S calls ≡ repliesOf mine S others
+-- ---- the parties
 
-abbrev pub everyone : Kind
-everyone k = true
+-- the streams of a party, by the owners that a start gives its set; a number that no stream has counts as ours
+abbrev pub ownedBy : Start → Party → Kind
+ownedBy z p k = owns (ownersFor (z .set .count) (z .owners)) p k
+
+-- "Two runs from one start that agree on a party's posts, their clocks and where among them its messages leave give its posts the same answers."
+unfoldable pub Isolated : Type 0
+Isolated =
+    (z : Start) → Starts z → (p : Party) (calls others : List Call)
+    → viewOf (ownedBy z p) z calls ≡ viewOf (ownedBy z p) z others → repliesOf (ownedBy z p) z calls ≡ repliesOf (ownedBy z p) z others

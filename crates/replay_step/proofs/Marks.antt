@@ -9,7 +9,7 @@ use borrow.Author.Tests.{leb-true, leb-false, le-leb, lt-leb, lt-ltb, le-ltb, lt
 use lib.ListN.{length, take, drop, length-drop, length-append}
 use lib.Seq.{take-all, drop-drop}
 use lib.Dec.{ltb, leb, eqb}
-use Rattle.laws.specs.Lists.{all}
+use Rattle.laws.specs.Lists.{all, all}
 use Rattle.laws.specs.Bits.{toBits, onto, value, bits}
 use Rattle.laws.proofs.Sums.{by-test, and-parts}
 use Rattle.laws.proofs.Fields.{bits-length, toBits-length}
@@ -24,12 +24,16 @@ use Rattle.rules.specs.declared.Refusal.the-variants.{StopsEarly, Trailing, Ill
 use Rattle.rules.specs.declared.ReplayAnswer.the-variants.{Called, Ended, Refused as NoStep}
 use Rattle.rules.specs.declared.ReplayResult.{ReplayResult}
 use Rattle.rules.specs.declared.ReplayStart.{ReplayStart}
+use Rattle.rules.specs.declared.Owner.{Owner}
+use Rattle.rules.specs.declared.Set.{Set}
+use Rattle.rules.specs.Streams.{emptySet, valid, streamUnused, stageUnused, tupleUnused, versionOk}
+use Rattle.rules.specs.declared.Places.{Places}
 use Rattle.rules.specs.declared.ReadResult.{ReadResult}
 use Rattle.rules.specs.declared.StartResult.{StartResult}
 use Rattle.rules.specs.Sheet.{isZero, readOf}
 use Rattle.rules.specs.States.{wellFormed}
-use Rattle.rules.specs.Steps.{startOf, callOf}
-use Rattle.rules.specs.Recordings.{Place, callBits, placeIn, bitAt, placeAfter, endMark, postMark, kindMark, markOf, replayBy, replayStep, replayStart}
+use Rattle.rules.specs.Steps.{fresh, startOf, startFor, callOf}
+use Rattle.rules.specs.Recordings.{Place, callBits, placeIn, bitAt, placeAfter, endMark, postMark, kindMark, markOf, replayBy, replayStep, replayStart, begunBy}
 use Rattle.bits.specs.declared.Gathered.{Gathered}
 use Rattle.bits.specs.declared.Taken.{Taken}
 use Rattle.bits.specs.declared.Taken.the-variants.{Field, Missing, TooWide}
@@ -185,7 +189,12 @@ module _ (s : State) (recording : List ℕ) (byte bit : ℕ) where
     unfolding replayStep
     a-step r q = rw (← e, ← f, g, ← h) q
 
-pub begins : (sheet : List ℕ) (r : ReadResult) (b : StartResult) → r ≡ readOf sheet → b ≡ startOf (r .set)
-    → _≡_ {A = ReplayStart} (record { answer = r .answer; state = b .state }) (replayStart sheet)
+pub begins : (sheet : List ℕ) (owners : List Owner) (places : Places) (r : ReadResult) (b : StartResult) (q : ReplayStart) → r ≡ readOf sheet → b ≡ startFor (r .set) owners places → q ≡ begunBy (r .answer) b
+    → q ≡ replayStart sheet owners places
 unfolding replayStart
-begins sheet r b e f = rw (f, e)
+begins sheet owners places r b q e f g = g ∙ rw (f, e)
+
+-- the start of the empty set
+pub empty-start : (r : StartResult) (x : Set) → x ≡ emptySet → r ≡ startOf x → r .state ≡ fresh emptySet
+unfolding startOf valid all streamUnused stageUnused tupleUnused versionOk
+empty-start r x e f = rw (f, e)

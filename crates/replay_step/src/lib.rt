@@ -4,17 +4,21 @@ ghost use mathlib.Core.List.{_++_};
 ghost use Prim.Native.Nat.{_+_, _≤_, _<_, _^_};
 ghost use lib.ListN.{length, drop};
 ghost use Rattle.laws.specs.Bits.{bits};
-ghost use Rattle.rules.specs.Recordings.{Place, bitAt, placeAfter, endMark, postMark, kindMark, markOf, replayStep, replayStart};
+ghost use Rattle.rules.specs.Recordings.{Place, bitAt, placeAfter, endMark, postMark, kindMark, markOf, replayStep, begunAs, begunBy, replayStart};
 ghost use Rattle.record_call.specs.Places.{place};
 ghost use Rattle.replay_step.specs.Steps.{Behind};
 use bits::Taken;
 use rules::Call;
 use rules::Mark;
+use rules::Owner;
+use rules::Places;
 use rules::ReadAnswer;
 use rules::Refusal;
 use rules::ReplayAnswer;
 use rules::ReplayResult;
 use rules::ReplayStart;
+use rules::StartAnswer;
+use rules::StartResult;
 use rules::State;
 
 // ---- what the bits at a place say
@@ -120,14 +124,42 @@ pub fn step(recording: &[u8], byte: usize, bit: u32, s: State) -> ReplayResult
 
 // ---- the start
 
-// The start of the set that a sheet reads as; a refused sheet's is that of the empty set.
-pub fn start(sheet: &[u8]) -> ReplayStart
-    ensures { λ r. ⌜ r ≡ replayStart (now (sheet .entry)) ⌝ }
+fn begun_as(a: StartAnswer) -> ReadAnswer
+    ensures { λ r. ⌜ r ≡ begunAs a ⌝ }
+{
+    match a {
+        StartAnswer::Started => ReadAnswer::Read,
+        StartAnswer::Refused(why) => ReadAnswer::Refused(why),
+    }
+}
+
+// What reading answers, and behind it the start.
+fn begun(a: ReadAnswer, r: StartResult) -> ReplayStart
+    ensures { λ q. ⌜ q ≡ begunBy a r ⌝ }
+{
+    match a {
+        ReadAnswer::Read => {
+            let said = r.answer;
+            let answer = begun_as(said);
+            let state = r.state;
+            ReplayStart { answer, state }
+        }
+        ReadAnswer::Refused(why) => {
+            let empty = scheduler::start(stream_valid::empty_set());
+            let answer = ReadAnswer::Refused(why);
+            let state = empty.state;
+            ReplayStart { answer, state }
+        }
+    }
+}
+
+// The start of the set that a sheet reads as, with the cab's owners and places; where either is refused, that of the empty set.
+pub fn start(sheet: &[u8], owners: [Owner; 16], places: Places) -> ReplayStart
+    ensures { λ r. ⌜ r ≡ replayStart (now (sheet .entry)) owners places ⌝ }
 {
     let r = sheet_read::read(sheet);
     let answer = r.answer;
     let set = r.set;
-    let begun = scheduler::start(set);
-    let state = begun.state;
-    ReplayStart { answer, state }
+    let started = scheduler::start_for(set, owners, places);
+    begun(answer, started)
 }

@@ -13,12 +13,13 @@ use Rattle.laws.specs.Lists.{all, any, sum, top, count, find, remove, flat, sca
 use Rattle.laws.specs.Bits.{toBits, onto, bits, bytes, pack}
 use Rattle.rules.specs.Streams.{tupleOk, tuplesOk, tupleUnused, stageOk, stageUnused, streamOk, streamUnused, versionOk, valid, events, limit, limitOf, jitterOk, jitterOf}
 use Rattle.rules.specs.Doors.{doorOf, guarded, shut, waitAfter, waitLater, waitsLater, mostWait}
+use Rattle.rules.specs.Parties.{same, ownerUnused}
 use Rattle.rules.specs.States.{messageOk, messagesOk, startedOnce, messageUnused, waitOk, wellFormed}
-use Rattle.rules.specs.Steps.{startOf, postOf, taskDeadline, ahead, runningTask, startedAt, urgentAt, servedAt, placeOf, chooseOf, laxityOf, servedOf, emptyUnit, unitOf, callOf}
+use Rattle.rules.specs.Steps.{startFor, startOf, postOf, taskDeadline, ahead, runningTask, startedAt, urgentAt, servedAt, placeOf, chooseOf, laxityOf, servedOf, emptyUnit, unitOf, callOf}
 use Rattle.rules.specs.Load.{costIn, due, has, blocksFor, blocking, demand, demandOf, streamLoad, load}
 use Rattle.rules.specs.Sheet.{streamOf, setOf, headBits, streamBits, sheetBits, sheetOf, readEnd, readStages, readDeadline, readHead, readTuples, readStream, readStreams, readBits, readOf, writeOf, bufferOf}
 use Rattle.rules.specs.Recordings.{callBits, recordingOf, placeIn, placeAfter, markOf, replayStep, replayStart, tapeFrom, tapeOf, written, appendOf, appendedTo, finishOf, finishedTo, recordOf, recordedTo}
-use Rattle.rules.specs.Runs.{acceptedOf, departuresOf, stepOf, begin, runFrom, runOf, stepsFrom, stepsOf, answersOf, missedNow, missedFrom, missedIn}
+use Rattle.rules.specs.Runs.{beginFor, runFor, acceptedOf, departuresOf, stepOf, begin, runFrom, runOf, stepsFrom, stepsOf, answersOf, missedNow, missedFrom, missedIn}
 
 -- a stage: a task and a cost
 abbrev pub stage : ℕ → ℕ → Stage
@@ -41,5 +42,5 @@ setB = setOf 1 (stream 0 2 5 (each 20) ∷ stream 0 4 20 (each 20) ∷ stream 1 
 
 -- An example is computed: to unfold `computed` is to unfold every definition that it goes through.
 unfoldable pub computed : ℕ
-unfolding all any sum top count find remove flat scan firstBy toBits onto bits bytes pack tupleOk tuplesOk tupleUnused stageOk stageUnused streamOk streamUnused versionOk valid events limit limitOf jitterOk jitterOf messageOk messagesOk startedOnce messageUnused doorOf guarded shut waitAfter waitLater waitsLater mostWait waitOk wellFormed startOf postOf taskDeadline ahead runningTask startedAt urgentAt servedAt placeOf chooseOf laxityOf servedOf emptyUnit unitOf callOf costIn due has blocksFor blocking demand demandOf streamLoad load headBits streamBits sheetBits sheetOf readEnd readStages readDeadline readHead readTuples readStream readStreams readBits readOf writeOf bufferOf acceptedOf departuresOf stepOf begin runFrom runOf stepsFrom stepsOf answersOf missedNow missedFrom missedIn callBits recordingOf placeIn placeAfter markOf replayStep replayStart tapeFrom tapeOf written appendOf appendedTo finishOf finishedTo recordOf recordedTo
+unfolding all any sum top count find remove flat scan firstBy toBits onto bits bytes pack tupleOk tuplesOk tupleUnused stageOk stageUnused streamOk streamUnused versionOk valid events limit limitOf jitterOk jitterOf messageOk messagesOk startedOnce messageUnused doorOf guarded shut waitAfter waitLater waitsLater mostWait waitOk same ownerUnused wellFormed startFor startOf postOf taskDeadline ahead runningTask startedAt urgentAt servedAt placeOf chooseOf laxityOf servedOf emptyUnit unitOf callOf costIn due has blocksFor blocking demand demandOf streamLoad load headBits streamBits sheetBits sheetOf readEnd readStages readDeadline readHead readTuples readStream readStreams readBits readOf writeOf bufferOf acceptedOf departuresOf stepOf beginFor runFor begin runFrom runOf stepsFrom stepsOf answersOf missedNow missedFrom missedIn callBits recordingOf placeIn placeAfter markOf replayStep replayStart tapeFrom tapeOf written appendOf appendedTo finishOf finishedTo recordOf recordedTo
 computed = 0

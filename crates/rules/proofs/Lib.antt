@@ -1,5 +1,6 @@
 -- Theorems about the definitions. Assumes nothing.
 pub mod Examples
+pub mod Joint
 pub mod Valid
 pub mod Stages
 pub mod Ahead
@@ -11,6 +12,7 @@ pub mod Yard
 pub mod Staged
 pub mod Doors
 pub mod Waits
+pub mod Parties
 pub mod Events
 pub mod Runs
 pub mod Refusals

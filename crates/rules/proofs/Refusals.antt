@@ -10,6 +10,7 @@ use Rattle.rules.specs.declared.Tuple.the-variants.{Once}
 use Rattle.rules.specs.declared.Set.{Set}
 use Rattle.rules.specs.declared.State.{State}
 use Rattle.rules.specs.Streams.{emptySet, limitOf, jitterOf}
+use Rattle.rules.specs.Parties.{allOurs, allPlaces}
 use Rattle.rules.specs.States.{noMessage}
 use Rattle.rules.specs.Steps.{fresh, newMessage, startOf, postOf, chooseOf, unitOf}
 use Rattle.rules.specs.Load.{demandOf}
@@ -19,11 +20,11 @@ use Rattle.rules.proofs.Examples.{setB, stream, computed}
 
 -- set B at the last clock; one unit after it, which is no state that calls leave
 abbrev at : ℕ → State
-at clock = record { set = setB; clock = clock; count = 0; messages = replicate 64 noMessage; waits = replicate 16 0 }
+at clock = record { set = setB; clock = clock; count = 0; messages = replicate 64 noMessage; waits = replicate 16 0; owners = allOurs; places = allPlaces }
 
 -- 64 messages of stream 0, posted at 0, and nobody waits
 abbrev full : State
-full = record { set = setB; clock = 0; count = 64; messages = replicate 64 (newMessage (fresh setB) 0); waits = replicate 16 0 }
+full = record { set = setB; clock = 0; count = 64; messages = replicate 64 (newMessage (fresh setB) 0); waits = replicate 16 0; owners = allOurs; places = allPlaces }
 
 -- a cost of 0
 abbrev badSet : Set

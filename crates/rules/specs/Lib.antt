@@ -1,6 +1,7 @@
 pub mod Streams
 pub mod Valid
 pub mod Doors
+pub mod Parties
 pub mod States
 pub mod Steps
 pub mod Load

@@ -4,7 +4,7 @@ use Prim.Native.Nat.{ℕ}
 use lib.IntN.{ℤ}
 use Rattle.rules.specs.declared.Tuple.{Tuple}
 use Rattle.rules.specs.declared.Refusal.{Refusal}
-use Rattle.rules.specs.declared.Refusal.the-variants.{NoStream, Full, LastClock, NothingPending, BitsMissing, BadVersion, OutOfRule, LongCycles, BadByte, Leftover, ShortBuffer, IllFormed, StopsEarly, Trailing, Early}
+use Rattle.rules.specs.declared.Refusal.the-variants.{NoStream, Full, LastClock, NothingPending, BitsMissing, BadVersion, OutOfRule, LongCycles, BadByte, Leftover, ShortBuffer, IllFormed, StopsEarly, Trailing, Early, Crowded}
 use Rattle.rules.specs.declared.StartAnswer.{StartAnswer}
 use Rattle.rules.specs.declared.StartAnswer.the-variants.{Started, Refused as StartRefused}
 use Rattle.rules.specs.declared.PostAnswer.{PostAnswer}
@@ -37,7 +37,7 @@ use Rattle.rules.specs.declared.GoAnswer.{GoAnswer}
 use Rattle.rules.specs.declared.GoAnswer.the-variants.{Next, Falls, Refused as GoRefused}
 use Rattle.rules.specs.declared.GoResult.{GoResult}
 
--- "No | Given exactly when"; document 02, request 1: 13 and 14; request 6: 15
+-- "No | Given exactly when"; document 02, request 1: 13 and 14; request 6: 15; request 8: 16
 abbrev pub number : Refusal → ℕ
 number NoStream = 1
 number Full = 2
@@ -54,6 +54,7 @@ number IllFormed = 12
 number StopsEarly = 13
 number Trailing = 14
 number Early = 15
+number Crowded = 16
 
 -- what an answer says: the paper's word with its values, or a refusal's number; `refused-with-0` where 0 is given with it
 pub data Says : Type 0 where

@@ -23,7 +23,15 @@ use Rattle.rules.specs.declared.ReplayAnswer.the-variants.{Called, Ended
 use Rattle.rules.specs.declared.ReplayResult.{ReplayResult}
 use Rattle.rules.specs.declared.ReplayStart.{ReplayStart}
 use Rattle.rules.specs.States.{wellFormed}
-use Rattle.rules.specs.Steps.{startOf, callOf}
+use Rattle.rules.specs.declared.Owner.{Owner}
+use Rattle.rules.specs.declared.Places.{Places}
+use Rattle.rules.specs.declared.StartAnswer.{StartAnswer}
+use Rattle.rules.specs.declared.StartAnswer.the-variants.{Started, Refused as StartRefused}
+use Rattle.rules.specs.declared.StartResult.{StartResult}
+use Rattle.rules.specs.declared.ReadAnswer.{ReadAnswer}
+use Rattle.rules.specs.declared.ReadAnswer.the-variants.{Read, Refused as ReadRefused}
+use Rattle.rules.specs.Streams.{emptySet}
+use Rattle.rules.specs.Steps.{fresh, startFor, callOf}
 use Rattle.rules.specs.Sheet.{isZero, readOf}
 use Rattle.rules.specs.Numbers.{Says, replaySays}
 
@@ -106,9 +114,18 @@ replayStep s recording p =
     (replayBy s p (markOf (drop (bitAt p) (bits recording))))
     (at (NoStep IllFormed) s p)
 
--- "The replay starts from a sheet": reading's refusals as they are, with the start of the empty set
-unfoldable pub replayStart : List ℕ → ReplayStart
-replayStart sheet = record { answer = readOf sheet .answer; state = startOf (readOf sheet .set) .state }
+-- "The replay starts from a sheet": reading's refusals as they are, with the start of the empty set; request 8: "Replay starts with the same owners and places", and
+-- the start's refusals come behind reading's
+abbrev pub begunAs : StartAnswer → ReadAnswer
+begunAs Started = Read
+begunAs (StartRefused why) = ReadRefused why
+
+abbrev pub begunBy : ReadAnswer → StartResult → ReplayStart
+begunBy Read r = record { answer = begunAs (r .answer); state = r .state }
+begunBy (ReadRefused why) r = record { answer = ReadRefused why; state = fresh emptySet }
+
+unfoldable pub replayStart : List ℕ → List Owner → Places → ReplayStart
+replayStart sheet owners places = begunBy (readOf sheet .answer) (startFor (readOf sheet .set) owners places)
 
 abbrev pub firstPlace : Place
 firstPlace = record { byte = 0; bit = 0 }

@@ -21,8 +21,11 @@ use Rattle.rules.specs.declared.UnitAnswer.the-variants.{Ran, Passed, Fi
 use Rattle.rules.specs.declared.Verdict.the-variants.{Accept}
 use Rattle.rules.specs.Streams.{Placed, streamAt, stageAt, limit, valid}
 use Rattle.rules.specs.Doors.{hasDoor}
-use Rattle.rules.specs.States.{pending}
-use Rattle.rules.specs.Steps.{sooner, startOf, postOf, placeOf, messageAt, unitOf, callOf}
+use Rattle.rules.specs.declared.Owner.{Owner}
+use Rattle.rules.specs.declared.Places.{Places}
+use Rattle.rules.specs.Parties.{together, allOurs, allPlaces}
+use Rattle.rules.specs.States.{pending, mostPending}
+use Rattle.rules.specs.Steps.{sooner, startOf, startFor, postOf, placeOf, messageAt, unitOf, callOf}
 use Rattle.rules.specs.Load.{VerdictOf}
 use Rattle.rules.specs.Numbers.{Says, refused, postSays, callSays}
 
@@ -136,17 +139,45 @@ unfoldable pub stepOf : Run → Call → Run
 stepOf r (Posts k) = afterPost r k (postOf (r .state) k .state) (postOf (r .state) k .answer)
 stepOf r (Units done) = afterUnit r (unitOf (r .state) done .state) (unitOf (r .state) done .answer)
 
--- a run that begins at a state; a fresh start
+-- a run that begins at a state
 abbrev pub startAt : State → Run
 startAt s = record { state = s; time = 0; names = []; events = [] }
 
-unfoldable pub begin : Set → Run
-begin x = startAt (startOf x .state)
+-- what a run starts from: a set, whose its streams are, and the parties' places
+pub record Start : Type 0 where
+  pub set : Set
+  pub owners : List Owner
+  pub places : Places
+
+-- all streams ours, with all places
+abbrev pub alone : Set → Start
+alone x = record { set = x; owners = allOurs; places = allPlaces }
+
+-- its arrays have the lengths that their types say: every start that a program makes is so
+pub record Boxed (z : Start) : Type 0 where
+  pub set : Placed (z .set)
+  pub owners : length (z .owners) ≡ 16
+
+-- it is not refused: the set is valid, and "the two numbers together at most 64"
+pub record Starts (z : Start) : Type 0 where
+  pub boxed : Boxed z
+  pub valid-set : valid (z .set) ≡ true
+  pub few : together (z .places) ≤ mostPending
+
+unfoldable pub beginFor : Start → Run
+beginFor z = startAt (startFor (z .set) (z .owners) (z .places) .state)
 
 -- a list of calls made one after the other, the first first
 unfoldable pub runFrom : Run → List Call → Run
 runFrom r [] = r
 runFrom r (c ∷ cs) = runFrom (stepOf r c) cs
+
+unfoldable pub runFor : Start → List Call → Run
+runFor z calls = runFrom (beginFor z) calls
+
+-- a fresh start of a set alone
+unfoldable pub begin : Set → Run
+begin x = startAt (startOf x .state)
 
 unfoldable pub runOf : Set → List Call → Run
 runOf x calls = runFrom (begin x) calls
@@ -165,12 +196,18 @@ unfoldable pub stepsFrom : Run → List Call → List Step
 stepsFrom r [] = []
 stepsFrom r (c ∷ cs) = stepTo (r .state) c ∷ stepsFrom (stepOf r c) cs
 
+unfoldable pub stepsFor : Start → List Call → List Step
+stepsFor z calls = stepsFrom (beginFor z) calls
+
 unfoldable pub stepsOf : Set → List Call → List Step
 stepsOf x calls = stepsFrom (begin x) calls
 
 -- the answers alone, in order
 abbrev pub saidAt : Step → Says
 saidAt s = s .says
+
+unfoldable pub answersFor : Start → List Call → List Says
+answersFor z calls = map saidAt (stepsFor z calls)
 
 unfoldable pub answersOf : Set → List Call → List Says
 answersOf x calls = map saidAt (stepsOf x calls)
@@ -204,14 +241,14 @@ pub record ComesEarly (S : Set) (k : ℕ) (r : Run) : Type 0 where
 -- "Post is to refuse .. exactly when .. For other streams nothing changes": in every run, whatever was posted before
 unfoldable pub DoorExact : Type 0
 DoorExact =
-    (S : Set) → Placed S → valid S ≡ true → (calls : List Call) (k : ℕ)
-    → (postSays (postOf (runOf S calls .state) k .answer) ≡ refused 15) ↔ ComesEarly S k (runOf S calls)
+    (z : Start) → Starts z → (calls : List Call) (k : ℕ)
+    → (postSays (postOf (runFor z calls .state) k .answer) ≡ refused 15) ↔ ComesEarly (z .set) k (runFor z calls)
 
 -- the accepted posts of a stream with a door keep its limit in every run
 unfoldable pub DoorKeeps : Type 0
 DoorKeeps =
-    (S : Set) → Placed S → valid S ≡ true → (calls : List Call) (k : ℕ) → k < S .count → hasDoor (streamAt S k) ≡ true
-    → KeepsLimit S k (accepted (runOf S calls))
+    (z : Start) → Starts z → (calls : List Call) (k : ℕ) → k < z .set .count → hasDoor (streamAt (z .set) k) ≡ true
+    → KeepsLimit (z .set) k (accepted (runFor z calls))
 
 -- the event-limit condition that is left: of the streams without a door
 unfoldable pub KeepsOpenLimits : Set → List Accepted → Type 0
@@ -247,14 +284,14 @@ AllLeave S r =
 
 -- "If the check accepts a set, then from a fresh start, under any calls whose accepted posts keep every stream's event limit in every window,
 -- each accepted message has left, finished or cut at its cost, when the clock reaches its deadline."; request 6: "demand 3 keeps its event-limit condition
--- only for those", the streams without a door
+-- only for those", the streams without a door; request 8: "Demand 3 holds for both parties over the joint set"
 unfoldable pub Demand3 : Type 0
 Demand3 =
-    (S : Set) → Placed S → VerdictOf S Accept → (calls : List Call) → KeepsOpenLimits S (accepted (runOf S calls)) → AllLeave S (runOf S calls)
+    (z : Start) → Starts z → VerdictOf (z .set) Accept → (calls : List Call) → KeepsOpenLimits (z .set) (accepted (runFor z calls)) → AllLeave (z .set) (runFor z calls)
 
 -- where every stream has a door, accept alone is enough: whatever calls are made
 unfoldable pub AcceptIsEnough : Type 0
-AcceptIsEnough = (S : Set) → Placed S → VerdictOf S Accept → EachHasDoor S → (calls : List Call) → AllLeave S (runOf S calls)
+AcceptIsEnough = (z : Start) → Starts z → VerdictOf (z .set) Accept → EachHasDoor (z .set) → (calls : List Call) → AllLeave (z .set) (runFor z calls)
 
 -- ---- is a message ever pending at its deadline?
 

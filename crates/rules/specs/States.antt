@@ -1,4 +1,5 @@
--- Document 01, "State and steps": the state, and when it is well formed; document 02, request 4: the stage of a message; request 6: the waits at the doors.
+-- Document 01, "State and steps": the state, and when it is well formed; document 02, request 4: the stage of a message; request 6: the waits at the doors;
+-- request 8: the owners and the places.
 -- Assumes nothing.
 use Prim.Native.Nat.{ℕ, _+_, _-_, _≤_}
 use mathlib.Core.Bool.{Bool, true, false, cond, _&&_}
@@ -13,6 +14,9 @@ use Rattle.rules.specs.declared.Message.{Message}
 use Rattle.rules.specs.declared.State.{State}
 use Rattle.rules.specs.Streams.{Placed, streamAt, stageAt, valid}
 use Rattle.rules.specs.Doors.{doorOf, mostWait}
+use Rattle.rules.specs.declared.Party.{Party}
+use Rattle.rules.specs.declared.Party.the-variants.{Ours, Theirs}
+use Rattle.rules.specs.Parties.{partyAt, heldOf, placesOf, together, ownerUnused}
 
 abbrev pub noMessage : Message
 noMessage = record { stream = 0; deadline = 0; used = 0; stage = 0 }
@@ -23,13 +27,13 @@ pending s = take (s .count) (s .messages)
 
 -- the state with another clock, with n pending messages at the front of ms, and with other waits: what else it holds stays
 abbrev pub withClock : State → ℕ → State
-withClock s clock = record { set = s .set; clock = clock; count = s .count; messages = s .messages; waits = s .waits }
+withClock s clock = record { set = s .set; clock = clock; count = s .count; messages = s .messages; waits = s .waits; owners = s .owners; places = s .places }
 
 abbrev pub withMessages : State → ℕ → List Message → State
-withMessages s n ms = record { set = s .set; clock = s .clock; count = n; messages = ms; waits = s .waits }
+withMessages s n ms = record { set = s .set; clock = s .clock; count = n; messages = ms; waits = s .waits; owners = s .owners; places = s .places }
 
 abbrev pub withWaits : State → List ℕ → State
-withWaits s ws = record { set = s .set; clock = s .clock; count = s .count; messages = s .messages; waits = ws }
+withWaits s ws = record { set = s .set; clock = s .clock; count = s .count; messages = s .messages; waits = ws; owners = s .owners; places = s .places }
 
 -- the message with other used units
 abbrev pub withUsed : Message → ℕ → Message
@@ -88,6 +92,13 @@ messageUnused m = every (eqb (m .stream) 0 ∷ eqb (m .deadline) 0 ∷ eqb (m .u
 unfoldable pub waitOk : Set → List ℕ → ℕ → Bool
 waitOk x ws k = leb (getD ws k 0) (mostWait (doorOf (streamAt x k)))
 
+-- request 8: the party of a stream in a state, and how many pending messages a party has
+abbrev pub partyOf : State → ℕ → Party
+partyOf s k = partyAt (s .owners) k
+
+abbrev pub heldBy : State → Party → ℕ
+heldBy s p = heldOf (s .owners) p (pending s)
+
 -- "up to 64 pending messages"
 abbrev pub mostPending : ℕ
 mostPending = 64
@@ -98,6 +109,7 @@ lastClock = 4000000000
 
 -- "It is well formed if the set is valid; there are at most 64 messages; the clock is at most 4,000,000,000; each message ..;
 -- each task has at most one message with a used unit; unused places are zero." Request 6: each stream's wait keeps its rule.
+-- Request 8: "the two numbers together at most 64"; what the set does not use is ours; no party has more pending than its number.
 abbrev pub stateTests : State → List Bool
 stateTests s =
     valid (s .set)
@@ -107,13 +119,18 @@ stateTests s =
     ∷ all (startedOnce (s .set) (pending s)) (below 16)
     ∷ all messageUnused (drop (s .count) (s .messages))
     ∷ all (waitOk (s .set) (s .waits)) (below 16)
+    ∷ leb (together (s .places)) mostPending
+    ∷ all ownerUnused (drop (s .set .count) (s .owners))
+    ∷ leb (heldBy s Ours) (placesOf (s .places) Ours)
+    ∷ leb (heldBy s Theirs) (placesOf (s .places) Theirs)
     ∷ []
 
 unfoldable pub wellFormed : State → Bool
 wellFormed s = every (stateTests s)
 
--- What the types say of the arrays of a state: those of its set, 64 places for messages, and 16 waits. Every state that a program holds is so.
+-- What the types say of the arrays of a state: those of its set, 64 places for messages, 16 waits and 16 owners. Every state that a program holds is so.
 pub record Housed (s : State) : Type 0 where
   pub set : Placed (s .set)
   pub places : length (s .messages) ≡ mostPending
   pub waits : length (s .waits) ≡ 16
+  pub owners : length (s .owners) ≡ 16

@@ -1,4 +1,4 @@
--- Document 01, "State and steps": start, post, choose and unit; document 02, request 4: passing on; request 6: the door.
+-- Document 01, "State and steps": start, post, choose and unit; document 02, request 4: passing on; request 6: the door; request 8: the parties.
 -- Assumes nothing.
 use Prim.Native.Nat.{ℕ, zero, suc, _+_, _-_}
 use mathlib.Core.Bool.{Bool, true, false, cond, not, _&&_, _||_}
@@ -11,8 +11,10 @@ use Rattle.rules.specs.declared.Set.{Set}
 use Rattle.rules.specs.declared.Message.{Message}
 use Rattle.rules.specs.declared.State.{State}
 use Rattle.rules.specs.declared.Door.{Door}
+use Rattle.rules.specs.declared.Owner.{Owner}
+use Rattle.rules.specs.declared.Places.{Places}
 use Rattle.rules.specs.declared.Refusal.{Refusal}
-use Rattle.rules.specs.declared.Refusal.the-variants.{NoStream, Full, LastClock, NothingPending, OutOfRule, IllFormed, Early}
+use Rattle.rules.specs.declared.Refusal.the-variants.{NoStream, Full, LastClock, NothingPending, OutOfRule, IllFormed, Early, Crowded}
 use Rattle.rules.specs.declared.StartResult.{StartResult}
 use Rattle.rules.specs.declared.StartAnswer.the-variants.{Started, Refused as StartRefused}
 use Rattle.rules.specs.declared.PostResult.{PostResult}
@@ -28,20 +30,37 @@ use Rattle.rules.specs.declared.CallAnswer.the-variants.{ToPost, ToUnit}
 use Rattle.rules.specs.declared.CallResult.{CallResult}
 use Rattle.rules.specs.Streams.{emptySet, streamAt, valid}
 use Rattle.rules.specs.Doors.{doorOf, shut, waitAfter, waitsLater}
-use Rattle.rules.specs.States.{noMessage, pending, withClock, withMessages, withWaits, withUsed, stagesIn, taskOf, costOf, startedOf, mostPending, lastClock, wellFormed}
+use Rattle.rules.specs.Parties.{placesOf, together, ownersFor, allOurs, allPlaces}
+use Rattle.rules.specs.States.{noMessage, pending, withClock, withMessages, withWaits, withUsed, stagesIn, taskOf, costOf, startedOf, partyOf, heldBy, mostPending, lastClock, wellFormed}
 
 -- ---- Start
 
--- "the clock at 0 and no message"; nobody has to wait
-abbrev pub fresh : Set → State
-fresh x = record { set = x; clock = 0; count = 0; messages = replicate mostPending noMessage; waits = replicate 16 0 }
+-- "the clock at 0 and no message"; nobody has to wait; request 8: whose the streams are, and the parties' places
+abbrev pub freshFor : Set → List Owner → Places → State
+freshFor x owners places =
+    record { set = x; clock = 0; count = 0; messages = replicate mostPending noMessage; waits = replicate 16 0; owners = owners; places = places }
 
--- "A valid set gives the clock at 0 and no message. An invalid one gives 7 and the start of the empty set."
-unfoldable pub startOf : Set → StartResult
-startOf x =
+-- all streams ours, with all places
+abbrev pub fresh : Set → State
+fresh x = freshFor x allOurs allPlaces
+
+-- "with the start of the empty set"
+abbrev pub startRefused : Refusal → StartResult
+startRefused why = record { answer = StartRefused why; state = fresh emptySet }
+
+-- "A valid set gives the clock at 0 and no message. An invalid one gives 7 and the start of the empty set."; request 8: "16 at start, after 7, when the
+-- places exceed 64, with the start of the empty set"; the owners of streams that the set does not have are taken as ours
+unfoldable pub startFor : Set → List Owner → Places → StartResult
+startFor x owners places =
     cond (valid x)
-    (record { answer = Started; state = fresh x })
-    (record { answer = StartRefused OutOfRule; state = fresh emptySet })
+    (cond (leb (together places) mostPending)
+    (record { answer = Started; state = freshFor x (ownersFor (x .count) owners) places })
+    (startRefused Crowded))
+    (startRefused OutOfRule)
+
+-- the start with all streams ours and 64 places
+unfoldable pub startOf : Set → StartResult
+startOf x = cond (valid x) (record { answer = Started; state = fresh x }) (startRefused OutOfRule)
 
 -- ---- Post
 
@@ -68,6 +87,10 @@ added s m = withWaits (withMessages s (s .count + 1) (set (s .messages) (s .coun
 abbrev pub postRefused : State → Refusal → PostResult
 postRefused s why = record { answer = PostRefused why; state = s }
 
+-- request 8: "A post is refused as full exactly when its own party has its number pending."
+abbrev pub hasPlace : State → ℕ → Bool
+hasPlace s k = ltb (heldBy s (partyOf s k)) (placesOf (s .places) (partyOf s k))
+
 -- "Order: post 12, 1, 2."; request 6: "15, after 1 and before 2; state unchanged"
 unfoldable pub postOf : State → ℕ → PostResult
 postOf s k =
@@ -75,7 +98,7 @@ postOf s k =
     (cond (ltb k (s .set .count))
     (cond (shut (doorAt s k) (waitAt s k))
     (postRefused s Early)
-    (cond (ltb (s .count) mostPending)
+    (cond (hasPlace s k)
     (record { answer = Posted k (newMessage s k .deadline); state = added s (newMessage s k) })
     (postRefused s Full)))
     (postRefused s NoStream))

@@ -44,13 +44,33 @@ pub struct Message {
     pub stage: usize,
 }
 
-// The state: a set, the clock, how many messages are pending, and 64 places for them in posting order; what each stream has left to wait at its door.
+// The two parties that share the message table: ours, and the partner's.
+pub enum Party {
+    Ours,
+    Theirs,
+}
+
+// The owner of a stream.
+pub struct Owner {
+    pub party: Party,
+}
+
+// How many places each party has.
+pub struct Places {
+    pub ours: u32,
+    pub theirs: u32,
+}
+
+// The state: a set, the clock, how many messages are pending, and 64 places for them in posting order; what each stream has left to wait at its door;
+// each stream's owner, and the parties' numbers of places.
 pub struct State {
     pub set: Set,
     pub clock: u32,
     pub count: usize,
     pub messages: [Message; 64],
     pub waits: [u32; 16],
+    pub owners: [Owner; 16],
+    pub places: Places,
 }
 
 // The door of a stream: none, one post for ever, or posts that are spaced by a cycle and an offset.
@@ -84,6 +104,7 @@ pub enum Refusal {
     StopsEarly,
     Trailing,
     Early,
+    Crowded,
 }
 
 pub enum StartAnswer {

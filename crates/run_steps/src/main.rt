@@ -1,6 +1,7 @@
-// Runs the steps at their edges and prints what they answer: the places, states that are not well formed, ways a cab has gone wrong, stages, and doors.
+// Runs the steps at their edges and prints what they answer: the places, states that are not well formed, ways a cab has gone wrong, stages, doors, and two parties.
 mod broken;
 mod doors;
+mod parties;
 mod places;
 mod say;
 mod stages;
@@ -15,4 +16,5 @@ fn main() {
     wrongs::each();
     stages::each();
     doors::each();
+    parties::each();
 }

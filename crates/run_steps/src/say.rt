@@ -3,6 +3,7 @@ use libc::STDOUT_FILENO;
 use rules::ChooseAnswer;
 use rules::PostAnswer;
 use rules::Refusal;
+use rules::StartAnswer;
 use rules::UnitAnswer;
 
 pub fn words(b: &[u8]) {
@@ -21,6 +22,14 @@ fn value(n: u64) {
 fn refused(why: Refusal) {
     words(b"refused");
     value(answer_numbers::refusal_number(why));
+}
+
+pub fn start(a: StartAnswer) {
+    match a {
+        StartAnswer::Started => words(b"started"),
+        StartAnswer::Refused(why) => refused(why),
+    }
+    end();
 }
 
 pub fn post(a: PostAnswer) {

@@ -58,6 +58,8 @@ pub record Moving (from : State) (i : ℕ) (next : State) (k : ℕ) : Type 0 whe
   pub set : next .set ≡ from .set
   pub clock : next .clock ≡ from .clock
   pub waits : next .waits ≡ from .waits
+  pub owners : next .owners ≡ from .owners
+  pub places : next .places ≡ from .places
   pub few : from .count ≤ 64
   pub here : k < from .count
   pub long : length (next .messages) ≡ 64
@@ -65,11 +67,13 @@ pub record Moving (from : State) (i : ℕ) (next : State) (k : ℕ) : Type 0 whe
   pub rest : (j : ℕ) → from .count ≤ j → messageAt next j ≡ noMessage
 
 pub moving-go : (from : State) (i : ℕ) (next : State) (k : ℕ) → Moving from i next k → k < from .count - 1
-    → Moving from i (record { set = next .set; clock = next .clock; count = next .count; messages = set (next .messages) k (messageAt next (k + 1)); waits = next .waits }) (k + 1)
+    → Moving from i (record { set = next .set; clock = next .clock; count = next .count; messages = set (next .messages) k (messageAt next (k + 1)); waits = next .waits; owners = next .owners; places = next .places }) (k + 1)
 moving-go from i next k h q = record {
   set = h .set;
   clock = h .clock;
   waits = h .waits;
+  owners = h .owners;
+  places = h .places;
   few = h .few;
   here = omega arith;
   long = simp length-set (h .long);
@@ -79,13 +83,13 @@ moving-go from i next k h q = record {
 
 -- only zeros stand behind the last one
 pub moved-up : (from : State) (i : ℕ) (next : State) (k : ℕ) (a : UnitAnswer) → Moving from i next k → from .count - 1 ≤ k
-    → _≡_ {A = UnitResult} (record { answer = a; state = record { set = next .set; clock = next .clock; count = from .count - 1; messages = set (next .messages) (from .count - 1) noMessage; waits = next .waits } })
-    (record { answer = a; state = record { set = from .set; clock = from .clock; count = from .count - 1; messages = remove noMessage i (from .messages); waits = from .waits } })
+    → _≡_ {A = UnitResult} (record { answer = a; state = record { set = next .set; clock = next .clock; count = from .count - 1; messages = set (next .messages) (from .count - 1) noMessage; waits = next .waits; owners = next .owners; places = next .places } })
+    (record { answer = a; state = record { set = from .set; clock = from .clock; count = from .count - 1; messages = remove noMessage i (from .messages); waits = from .waits; owners = from .owners; places = from .places } })
 moved-up from i next k a h q =
     let e : k ≡ from .count - 1 = omega (arith, h .here) in
     let m : set (next .messages) (from .count - 1) noMessage ≡ remove noMessage i (from .messages) =
     rw (← e) (sym (remove-rest noMessage k (next .messages) (λ j g. h .rest j (omega arith))) ∙ h .moved) in
-    rw (h .set, h .clock, h .waits, m)
+    rw (h .set, h .clock, h .waits, h .owners, h .places, m)
 
 module _ (s : State) (i task cost : ℕ) (done last : Bool) (e : task ≡ taskOf (s .set) (messageAt s i)) (e′ : cost ≡ costOf (s .set) (messageAt s i)) (e″ : last ≡ atLast (s .set) (messageAt s i))
     (a : UnitAnswer) (q : a ≡ servedAnswer task (messageAt s i) (s .clock + 1) done (eqb (messageAt s i .used + 1) cost) last) (ws : List ℕ) (later : ws ≡ waitsLater (s .set .streams) (s .waits)) where

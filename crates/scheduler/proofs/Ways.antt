@@ -2,23 +2,30 @@
 -- Assumes nothing.
 use Prim.Native.Nat.{ℕ, _+_, _≤_, _<_}
 use mathlib.Core.Bool.{Bool, true, false}
-use mathlib.Core.Path.{_≡_, ap, sym, _∙_}
+use mathlib.Core.Path.{_≡_, refl, ap, ap₂, sym, _∙_}
 use native.Mathlib.Omega.{arith}
-use borrow.Author.Tests.{lt-ltb, le-ltb, leb-true}
+use borrow.Author.Tests.{lt-ltb, le-ltb, leb-true, ltb-true}
+use lib.Dec.{ltb}
 use lib.ListN.{length, getD, set}
 use Rattle.laws.proofs.Parts.{getD-any, below-at}
 use Rattle.rules.specs.declared.State.{State}
 use Rattle.rules.specs.declared.Door.{Door}
+use Rattle.rules.specs.declared.Owner.{Owner}
+use Rattle.rules.specs.declared.Party.{Party}
+use Rattle.rules.specs.declared.Party.the-variants.{Ours, Theirs}
+use Rattle.rules.specs.Parties.{ours, placesOf}
 use Rattle.rules.specs.declared.Refusal.the-variants.{NoStream, Full, IllFormed, Early}
 use Rattle.rules.specs.declared.PostResult.{PostResult}
 use Rattle.rules.specs.declared.PostAnswer.the-variants.{Posted}
 use Rattle.rules.specs.Streams.{streamAt, noStream}
 use Rattle.rules.specs.Doors.{doorOf, shut, waitAfter, mostWait}
-use Rattle.rules.specs.States.{waitOk, wellFormed}
-use Rattle.rules.specs.Steps.{doorAt, waitAt, added, postRefused, postOf}
+use Rattle.rules.specs.States.{pending, partyOf, heldBy, waitOk, wellFormed}
+use Rattle.rules.specs.Steps.{doorAt, waitAt, hasPlace, postRefused, postOf}
 use Rattle.rules.proofs.Valid.{valid-set}
 use Rattle.rules.proofs.Waits.{after-keeps, most-fits, door-valid}
-use Rattle.state_formed.proofs.WellFormed.{blank, well-formed, stream-valid}
+use Rattle.state_formed.proofs.WellFormed.{blank, well-formed, place-room, stream-valid}
+use Rattle.state_parties.specs.declared.Held.{Held}
+use Rattle.state_parties.specs.Shares.{heldIn, heldFor, placeLeft}
 
 module _ (s : State) (k : ℕ) where
   pub post-12 : wellFormed s ≡ false → postRefused s IllFormed ≡ postOf s k
@@ -50,9 +57,28 @@ module _ (s : State) (k : ℕ) where
           unfolding postOf
           post-15 g = rw (w, lt-ltb _ _ h, ← door, ← f, g)
 
-          pub post-2 : c ≡ false → 64 ≤ s .count → postRefused s Full ≡ postOf s k
-          unfolding postOf
-          post-2 g q = rw (w, lt-ltb _ _ h, ← door, ← f, g, le-ltb _ _ q)
+          -- the owner as the code reads it, and whether it has a place
+          module _ (o : Owner) (own : o ≡ getD (s .owners) k ours) (held : Held) (has : held ≡ heldIn (s .owners) (pending s)) (r : Bool) (t : r ≡ placeLeft (o .party) held (s .places)) where
+            free : r ≡ hasPlace s k
+            unfolding placeLeft
+            free = t ∙ ap₂ (λ (y : Owner) (n : Held). ltb (heldFor n (y .party)) (placesOf (s .places) (y .party))) own has ∙ by-side (partyOf s k)
+              where
+                by-side : (p : Party) → ltb (heldFor (heldIn (s .owners) (pending s)) p) (placesOf (s .places) p) ≡ ltb (heldBy s p) (placesOf (s .places) p)
+                by-side Ours = refl
+                by-side Theirs = refl
+
+            pub post-2 : c ≡ false → r ≡ false → postRefused s Full ≡ postOf s k
+            unfolding postOf
+            post-2 g q = rw (w, lt-ltb _ _ h, ← door, ← f, g, ← free, q)
+
+            -- one of the 64 places is left
+            pub room-left : length (s .messages) ≡ 64 → r ≡ true → s .count < 64
+            room-left l q = place-room s (well-formed s w) l (partyOf s k) (ltb-true _ _ (sym free ∙ q))
+
+            pub posted : c ≡ false → r ≡ true → (n : ℕ) → n ≡ waitAfter d (waitAt s k)
+                → _≡_ {A = PostResult} (record { answer = Posted k (s .clock + getD (s .set .streams) k blank .deadline); state = record { set = s .set; clock = s .clock; count = s .count + 1; messages = set (s .messages) (s .count) (record { stream = k; deadline = s .clock + getD (s .set .streams) k blank .deadline; used = 0; stage = 0 }); waits = set (s .waits) k n; owners = s .owners; places = s .places } }) (postOf s k)
+            unfolding postOf
+            posted g q n t = rw (t, read, w, lt-ltb _ _ h, ← door, ← f, g, ← free, q)
 
           -- the wait keeps its rule, so it has room
           pub wait-fits : c ≡ false → waitAfter d (waitAt s k) ≤ 2000000
@@ -64,8 +90,3 @@ module _ (s : State) (k : ℕ) where
                 after-keeps d (waitAt s k) (rw door most) (sym f ∙ g),
                 most-fits d (rw door (door-valid (streamAt (s .set) k) (stream-valid (s .set) k (well-formed s w .set) ss h))),
               )
-
-          pub posted : c ≡ false → s .count < 64 → (n : ℕ) → n ≡ waitAfter d (waitAt s k)
-              → _≡_ {A = PostResult} (record { answer = Posted k (s .clock + getD (s .set .streams) k blank .deadline); state = record { set = s .set; clock = s .clock; count = s .count + 1; messages = set (s .messages) (s .count) (record { stream = k; deadline = s .clock + getD (s .set .streams) k blank .deadline; used = 0; stage = 0 }); waits = set (s .waits) k n } }) (postOf s k)
-          unfolding postOf
-          posted g q n t = rw (t, read, w, lt-ltb _ _ h, ← door, ← f, g, lt-ltb _ _ q)

@@ -1,13 +1,15 @@
 // The steps of the scheduler: start, post, choose and unit.
 ghost use mathlib.Core.Path.{_≡_};
 ghost use Prim.Native.Nat.{_<_};
-ghost use Rattle.rules.specs.Steps.{fresh, startOf, postOf, chooseOf, laxityOf, unitOf, callOf};
+ghost use Rattle.rules.specs.Steps.{freshFor, startRefused, startFor, startOf, postOf, chooseOf, laxityOf, unitOf, callOf};
 ghost use Rattle.scheduler.specs.Serving.{workOf, servedAnswer, steppedOn};
 use rules::Call;
 use rules::CallAnswer;
 use rules::CallResult;
 use rules::ChooseAnswer;
 use rules::Message;
+use rules::Owner;
+use rules::Places;
 use rules::PostAnswer;
 use rules::PostResult;
 use rules::Refusal;
@@ -21,8 +23,8 @@ use state_choosing::ToServe;
 
 // ---- start
 
-fn fresh_state(x: Set) -> State
-    ensures { λ r. ⌜ r ≡ fresh x ⌝ }
+fn fresh_state(x: Set, owners: [Owner; 16], places: Places) -> State
+    ensures { λ r. ⌜ r ≡ freshFor x owners places ⌝ }
 {
     let ms = [state_formed::no_message(); 64];
     State {
@@ -31,27 +33,49 @@ fn fresh_state(x: Set) -> State
         count: 0,
         messages: ms,
         waits: [0; 16],
+        owners,
+        places,
     }
 }
 
-// A valid set's start; for any other 7 and the start of the empty set.
+// The start of the empty set, with the reason why there is no other.
+fn no_start(why: Refusal) -> StartResult
+    ensures { λ r. ⌜ r ≡ startRefused why ⌝ }
+{
+    let s = fresh_state(
+        stream_valid::empty_set(),
+        state_parties::all_ours(),
+        state_parties::all_places(),
+    );
+    StartResult {
+        answer: StartAnswer::Refused(why),
+        state: s,
+    }
+}
+
+// A valid set's start, with its streams' owners and the parties' places; 7 for any other set, 16 for more places than there are.
+pub fn start_for(x: Set, given: [Owner; 16], places: Places) -> StartResult
+    ensures { λ r. ⌜ r ≡ startFor x given places ⌝ }
+{
+    if !stream_valid::is_valid(x) {
+        return no_start(Refusal::OutOfRule);
+    }
+    if !state_parties::places_fit(places) {
+        return no_start(Refusal::Crowded);
+    }
+    let owners = state_parties::owners_for(x.count, given);
+    let s = fresh_state(x, owners, places);
+    StartResult {
+        answer: StartAnswer::Started,
+        state: s,
+    }
+}
+
+// All streams ours, with all places.
 pub fn start(x: Set) -> StartResult
     ensures { λ r. ⌜ r ≡ startOf x ⌝ }
 {
-    if stream_valid::is_valid(x) {
-        let s = fresh_state(x);
-        let a = StartAnswer::Started;
-        return StartResult {
-            answer: a,
-            state: s,
-        };
-    }
-    let s = fresh_state(stream_valid::empty_set());
-    let a = StartAnswer::Refused(Refusal::OutOfRule);
-    StartResult {
-        answer: a,
-        state: s,
-    }
+    start_for(x, state_parties::all_ours(), state_parties::all_places())
 }
 
 // ---- post
@@ -62,19 +86,22 @@ pub fn post(s: State, k: usize) -> PostResult
     ensures { λ r. ⌜ r ≡ postOf s k ⌝ }
 {
     let mut next = s;
-    let sound = state_formed::well_formed(s);
+    let tested = state_formed::inspect(s);
+    let held = tested.held;
     let mut a = PostAnswer::Refused(Refusal::IllFormed);
-    if sound {
+    if tested.sound {
         a = PostAnswer::Refused(Refusal::NoStream);
         if k < next.set.count {
             let set = next.set;
             let x = set.streams[k];
             let door = stream_doors::door_of(x);
             let wait = next.waits[k];
+            let owner = next.owners[k];
+            let places = next.places;
             let at = next.count;
             if stream_doors::is_shut(door, wait) {
                 a = PostAnswer::Refused(Refusal::Early);
-            } else if at < 64 {
+            } else if state_parties::has_place(owner, held, places) {
                 let d = next.clock + x.deadline;
                 next.messages[at] = Message {
                     stream: k,

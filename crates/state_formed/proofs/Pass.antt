@@ -18,6 +18,7 @@ use Rattle.rules.specs.declared.Stream.{Stream}
 use Rattle.rules.specs.declared.State.{State}
 use Rattle.rules.specs.Streams.{FourPlaces, Placed, noStream, streamAt, stageAt}
 use Rattle.rules.specs.States.{noMessage, pending, taskOf, postedAt, messageOk, messagesOk, startedOnce, messageUnused, waitOk}
+use Rattle.state_parties.specs.Shares.{fitsOf}
 use Rattle.state_formed.specs.InRange.{restFormed}
 use Rattle.state_formed.proofs.Standing.{message-out, message-beyond, message-past, message-by}
 use Rattle.state_formed.proofs.Counted.{Counted, counted-start, counted-past, counted-go, counted-no, counted-end}
@@ -152,8 +153,8 @@ pass-end s k before counts inv h = record {
   once = sym (counted-end (s .set) (s .messages) (s .count) k counts (inv .counted) h);
 }
 
-pub last-tests : (s : State) (r q : Bool) → Passed s → r ≡ all messageUnused (drop (s .count) (s .messages)) → q ≡ all (waitOk (s .set) (s .waits)) (below 16)
-    → (r && q) ≡ restFormed s
+pub last-tests : (s : State) (r q f : Bool) → Passed s → r ≡ all messageUnused (drop (s .count) (s .messages)) → q ≡ all (waitOk (s .set) (s .waits)) (below 16)
+    → f ≡ fitsOf (pending s) (s .owners) (s .set .count) (s .places) → (r && (q && f)) ≡ restFormed s
 unfolding restFormed
-last-tests s r q p u v =
-    rw (le-leb (s .count) 64 (p .opened .few), le-leb (s .clock) 4000000000 (p .opened .clock), p .each, p .once, ← u, ← v)
+last-tests s r q f p u v w =
+    rw (le-leb (s .count) 64 (p .opened .few), le-leb (s .clock) 4000000000 (p .opened .clock), p .each, p .once, ← u, ← v, w)

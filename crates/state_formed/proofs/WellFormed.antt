@@ -9,7 +9,7 @@ use borrow.Author.Tests.{leb-true, le-leb, eqb-true}
 use lib.Dec.{eqb}
 use lib.ListN.{length, getD, take, drop}
 use lib.Seq.{getD-take, getD-drop, length-take-le}
-use Rattle.laws.specs.Lists.{below, all}
+use Rattle.laws.specs.Lists.{below, all, every}
 use Rattle.laws.proofs.Parts.{every-at, all-any, scan-at, getD-any}
 use Rattle.laws.proofs.Sums.{all-take-at, by-test}
 use Rattle.rules.specs.declared.Set.{Set}
@@ -17,13 +17,19 @@ use Rattle.rules.specs.declared.Stream.{Stream}
 use Rattle.rules.specs.declared.Message.{Message}
 use Rattle.rules.specs.declared.State.{State}
 use Rattle.rules.specs.Streams.{noStage, noStream, streamAt, stageAt, valid}
-use Rattle.rules.specs.States.{noMessage, pending, stagesIn, stageOf, taskOf, postedAt, messageOk, messagesOk, startedOnce, messageUnused, waitOk, lastClock, stateTests, wellFormed}
+use Rattle.rules.specs.declared.Party.{Party}
+use Rattle.rules.specs.declared.Party.the-variants.{Ours, Theirs}
+use Rattle.rules.specs.Parties.{together, ownerUnused, placesOf}
+use Rattle.state_parties.specs.declared.Held.{Held}
+use Rattle.state_parties.specs.Shares.{heldIn}
+use Rattle.rules.specs.States.{heldBy, noMessage, pending, stagesIn, stageOf, taskOf, postedAt, messageOk, messagesOk, startedOnce, messageUnused, waitOk, lastClock, stateTests, wellFormed}
 use Rattle.rules.specs.Steps.{messageAt}
 use Rattle.rules.specs.Valid.{ValidStage, ValidStream, ValidSet}
 use Rattle.rules.proofs.Valid.{valid-set}
+use Rattle.rules.proofs.Parties.{held-both}
 use Rattle.rules.specs.Doors.{waitsLater}
 use Rattle.state_formed.specs.declared.Tested.{Tested}
-use Rattle.state_formed.specs.InRange.{InRange, restFormed, testedOf}
+use Rattle.state_formed.specs.InRange.{InRange, restFormed, failing, testedOf, wholeOf}
 use Rattle.state_formed.proofs.Standing.{Standing, standing, stage-room}
 
 -- the default of a place that the machine reads within an array
@@ -38,16 +44,20 @@ pub record WellFormed (s : State) : Type 0 where
   pub once : all (startedOnce (s .set) (pending s)) (below 16) ≡ true
   pub unused : all messageUnused (drop (s .count) (s .messages)) ≡ true
   pub waits : all (waitOk (s .set) (s .waits)) (below 16) ≡ true
+  pub together-fit : together (s .places) ≤ 64
+  pub rest-ours : all ownerUnused (drop (s .set .count) (s .owners)) ≡ true
+  pub ours-fit : heldBy s Ours ≤ placesOf (s .places) Ours
+  pub theirs-fit : heldBy s Theirs ≤ placesOf (s .places) Theirs
 
 pub well-formed : (s : State) → wellFormed s ≡ true → WellFormed s
 unfolding wellFormed
 well-formed s e =
     let t = every-at (stateTests s) in
-    record { set = t 0 e; few = leb-true _ _ (t 1 e); clock = leb-true _ _ (t 2 e); each = t 3 e; once = t 4 e; unused = t 5 e; waits = t 6 e }
+    record { set = t 0 e; few = leb-true _ _ (t 1 e); clock = leb-true _ _ (t 2 e); each = t 3 e; once = t 4 e; unused = t 5 e; waits = t 6 e; together-fit = leb-true _ _ (t 7 e); rest-ours = t 8 e; ours-fit = leb-true _ _ (t 9 e); theirs-fit = leb-true _ _ (t 10 e) }
 
 pub well-formed-back : (s : State) → WellFormed s → wellFormed s ≡ true
 unfolding wellFormed
-well-formed-back s h = rw (h .set, le-leb (s .count) 64 (h .few), le-leb (s .clock) 4000000000 (h .clock), h .each, h .once, h .unused, h .waits)
+well-formed-back s h = rw (h .set, le-leb (s .count) 64 (h .few), le-leb (s .clock) 4000000000 (h .clock), h .each, h .once, h .unused, h .waits, le-leb _ _ (h .together-fit), h .rest-ours, le-leb _ _ (h .ours-fit), le-leb _ _ (h .theirs-fit))
 
 pub in-range : (s : State) → wellFormed s ≡ true → InRange s
 in-range s e = let h = well-formed s e in record { set = h .set; few = h .few; each = h .each }
@@ -66,6 +76,13 @@ unused-zero s h j q =
         let all-zero : _≡_ {A = Message} (record { stream = m .stream; deadline = m .deadline; used = m .used; stage = m .stage }) noMessage =
         rw (eqb-true (m .stream) 0 (t 0 e), eqb-true (m .deadline) 0 (t 1 e), eqb-true (m .used) 0 (t 2 e), eqb-true (m .stage) 0 (t 3 e)) in
         all-zero
+
+-- a party that has a place left leaves one of the 64
+pub place-room : (s : State) → WellFormed s → length (s .messages) ≡ 64 → (p : Party) → heldBy s p < placesOf (s .places) p → s .count < 64
+place-room s h l Ours q =
+    omega (arith, h .together-fit, h .theirs-fit, held-both (s .owners) (pending s), length-take-le (s .count) (s .messages) (omega (arith, h .few)))
+place-room s h l Theirs q =
+    omega (arith, h .together-fit, h .ours-fit, held-both (s .owners) (pending s), length-take-le (s .count) (s .messages) (omega (arith, h .few)))
 
 -- a stream of a valid set
 pub stream-valid : (x : Set) (k : ℕ) → valid x ≡ true → length (x .streams) ≡ 16 → k < x .count → ValidStream (streamAt x k)
@@ -129,21 +146,39 @@ set-fails s e = rw e refl
 
 pub rest-tells : (s : State) (r : Tested) → valid (s .set) ≡ true → r ≡ testedOf s → r .sound ≡ wellFormed s
 unfolding wellFormed restFormed testedOf
-rest-tells s r e f = rw (f, e)
+rest-tells s r e f = rw (f, e) (by-test (every (drop 1 (stateTests s))) (λ t. rw t) (λ t. rw t))
 
--- what the tests give, and the waits with it
-pub fails-so : (s : State) → false ≡ restFormed s → record { sound = false; later = s .waits } ≡ testedOf s
+pub rest-whole : (s : State) (r : Tested) → valid (s .set) ≡ true → r ≡ testedOf s → r ≡ wholeOf s
+unfolding wellFormed restFormed testedOf wholeOf
+rest-whole s r e f = f ∙ rw e
+
+pub set-fails-whole : (s : State) → valid (s .set) ≡ false → failing (s .waits) ≡ wholeOf s
+unfolding wellFormed wholeOf
+set-fails-whole s e = rw e
+
+-- what all tests say of the state, and what they give
+pub whole-tells : (s : State) (r : Tested) → r ≡ wholeOf s → r .sound ≡ wellFormed s
+unfolding wholeOf
+whole-tells s r f = rw f (by-test (wellFormed s) (λ t. rw t) (λ t. rw t))
+
+pub whole-held : (s : State) (r : Tested) → r ≡ wholeOf s → r .sound ≡ true → r .held ≡ heldIn (s .owners) (pending s)
+unfolding wholeOf
+whole-held s r e f = by-test (wellFormed s) (λ t. rw (e, t)) (λ t. absurd (false≢true (let z : false ≡ true = rw (e, t) at f in z)))
+
+-- what the tests give
+pub fails-so : (s : State) → false ≡ restFormed s → failing (s .waits) ≡ testedOf s
 unfolding testedOf
 fails-so s e = rw (← e)
 
-pub sound-so : (s : State) (ws : List ℕ) → true ≡ restFormed s → ws ≡ waitsLater (s .set .streams) (s .waits) → record { sound = true; later = ws } ≡ testedOf s
+pub sound-so : (s : State) (ws : List ℕ) (h : Held) → true ≡ restFormed s → ws ≡ waitsLater (s .set .streams) (s .waits) → h ≡ heldIn (s .owners) (pending s)
+    → record { sound = true; later = ws; held = h } ≡ testedOf s
 unfolding testedOf
-sound-so s ws e f = rw (← e, f)
+sound-so s ws h e f g = rw (← e, f, g)
 
 pub sound-later : (s : State) (r : Tested) → r ≡ testedOf s → r .sound ≡ true → r .later ≡ waitsLater (s .set .streams) (s .waits)
 unfolding testedOf
-sound-later s r e f = let h : restFormed s ≡ true = sym (ap (λ (y : Tested). y .sound) e) ∙ f in rw (e, h)
+sound-later s r e f = by-test (restFormed s) (λ t. rw (e, t)) (λ t. absurd (false≢true (let z : false ≡ true = rw (e, t) at f in z)))
 
 pub fails-later : (s : State) (r : Tested) → r ≡ testedOf s → r .sound ≡ false → r .later ≡ s .waits
 unfolding testedOf
-fails-later s r e f = let h : restFormed s ≡ false = sym (ap (λ (y : Tested). y .sound) e) ∙ f in rw (e, h)
+fails-later s r e f = by-test (restFormed s) (λ t. absurd (false≢true (sym (let z : true ≡ false = rw (e, t) at f in z)))) (λ t. rw (e, t))

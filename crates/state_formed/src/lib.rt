@@ -1,10 +1,10 @@
 // Is a state well formed? And the readers that the steps use.
 ghost use mathlib.Core.Path.{_≡_};
-ghost use mathlib.Core.Bool.{false};
 ghost use Rattle.rules.specs.States.{noMessage, messageUnused, wellFormed};
-ghost use Rattle.state_formed.specs.InRange.{testedOf};
+ghost use Rattle.state_formed.specs.InRange.{failing, testedOf, wholeOf};
 use rules::Message;
 use rules::State;
+use state_parties::Held;
 
 pub fn no_message() -> Message
     ensures { λ r. ⌜ r ≡ noMessage ⌝ }
@@ -23,25 +23,29 @@ fn message_unused(m: Message) -> bool
     (m.stream == 0) & ((m.deadline == 0) & ((m.used == 0) & (m.stage == 0)))
 }
 
-// What the tests of a state but for its set's say, and what a unit that moves the clock leaves of the waits; the waits as they are where a test fails.
+// What the tests of a state but for its set's say, what a unit that moves the clock leaves of the waits, and how many pending messages each party has; the
+// waits as they are, and none, where a test fails.
 pub struct Tested {
     pub sound: bool,
     pub later: [u32; 16],
+    pub held: Held,
 }
 
 fn fails(waits: [u32; 16]) -> Tested
-    ensures { λ r. ⌜ r ≡ record { sound = false; later = waits } ⌝ }
+    ensures { λ r. ⌜ r ≡ failing waits ⌝ }
 {
+    let held = Held { ours: 0, theirs: 0 };
     Tested {
         sound: false,
         later: waits,
+        held,
     }
 }
 
 // The tests of a state but for the first, that its set is valid. A first pass over the pending messages: each names a stream of the set and one of its
 // stages, has used less than that stage's c, was posted by now and not before the one in front of it, and is that stage's task's only started one. A second
 // over the places behind: they are zero. A third over the waits: each is at most what its stream's door allows; what a unit leaves of it is reckoned in the
-// same pass, where the door is at hand. All passes stand here, since what is handed to another function is copied.
+// same pass, where the door is at hand. All passes stand here, since what is handed to another function is copied. Behind them the parties' rules.
 pub fn formed(s: State) -> Tested
     ensures { λ r. ⌜ r ≡ testedOf s ⌝ }
 {
@@ -104,10 +108,29 @@ pub fn formed(s: State) -> Tested
         later[k] = w;
         k = k + 1;
     }
-    if unused & kept {
-        return Tested { sound: true, later };
+    let owners = s.owners;
+    let places = s.places;
+    let shared = state_parties::share(messages, s.count, owners, set.count, places);
+    let held = shared.held;
+    if unused & (kept & shared.fits) {
+        return Tested {
+            sound: true,
+            later,
+            held,
+        };
     }
     fails(waits)
+}
+
+// What the tests of a state say, its set's first.
+pub fn inspect(s: State) -> Tested
+    ensures { λ r. ⌜ r ≡ wholeOf s ⌝ }
+{
+    if !stream_valid::is_valid(s.set) {
+        let waits = s.waits;
+        return fails(waits);
+    }
+    formed(s)
 }
 
 // Is the state well formed? A parameter that is not read by an index here is handed on without a copy.

@@ -13,6 +13,13 @@ pub struct Message {
     stage: usize,
 }
 
+#[allow(dead_code)] // the runs that are measured have all streams ours
+#[derive(Clone, Copy, PartialEq)]
+enum Party {
+    Ours,
+    Theirs,
+}
+
 #[derive(Clone, Copy)]
 pub struct State {
     set: Set,
@@ -20,6 +27,9 @@ pub struct State {
     pub count: usize,
     messages: [Message; 64],
     waits: [u32; 16],
+    owners: [Party; 16],
+    ours: u32,
+    theirs: u32,
 }
 
 #[allow(dead_code)] // what a caller would read
@@ -57,6 +67,9 @@ impl State {
             count: 0,
             messages: [Message::UNUSED; 64],
             waits: [0; 16],
+            owners: [Party::Ours; 16],
+            ours: 64,
+            theirs: 0,
         }
     }
 
@@ -73,38 +86,61 @@ impl State {
         self.set.streams[message.stream].stages[message.stage]
     }
 
-    fn well_formed(&self) -> bool {
+    /// How many of the pending messages are theirs, where the state is well formed.
+    fn tested(&self) -> Option<u32> {
         if !self.set.valid() || self.count > 64 || self.clock > LAST_CLOCK {
-            return false;
+            return None;
         }
         let mut before = 0;
         let mut started = [false; 16];
+        let mut theirs = 0;
         for message in self.pending() {
             if message.stream >= self.set.count {
-                return false;
+                return None;
             }
             let stream = self.stream_of(message);
             if message.stage >= stream.stage_count || message.deadline < stream.deadline {
-                return false;
+                return None;
             }
             let stage = stream.stages[message.stage];
             if message.used >= stage.cost {
-                return false;
+                return None;
             }
             let posted = message.deadline - stream.deadline;
             if posted > self.clock || posted < before {
-                return false;
+                return None;
             }
             before = posted;
+            theirs += u32::from(self.owners[message.stream] == Party::Theirs);
             if message.used > 0 {
                 if started[stage.task] {
-                    return false;
+                    return None;
                 }
                 started[stage.task] = true;
             }
         }
-        self.messages[self.count..].iter().all(Message::unused)
+        let kept = self.messages[self.count..].iter().all(Message::unused)
             && (0..16).all(|k| self.waits[k] <= self.set.streams[k].door().most())
+            && self.parties_fit(theirs);
+        kept.then_some(theirs)
+    }
+
+    /// The parties' rules, where they have so many pending.
+    fn parties_fit(&self, theirs: u32) -> bool {
+        u64::from(self.ours) + u64::from(self.theirs) <= 64
+            && self.owners[self.set.count..]
+                .iter()
+                .all(|owner| *owner == Party::Ours)
+            && self.count as u32 - theirs <= self.ours
+            && theirs <= self.theirs
+    }
+
+    /// Has the owner of a stream its number pending, where they have so many?
+    fn full(&self, stream: usize, theirs: u32) -> bool {
+        match self.owners[stream] {
+            Party::Ours => self.count as u32 - theirs >= self.ours,
+            Party::Theirs => theirs >= self.theirs,
+        }
     }
 
     /// Less is left to wait at each door.
@@ -117,9 +153,9 @@ impl State {
     }
 
     pub fn post(&mut self, stream: usize) -> Answer {
-        if !self.well_formed() {
+        let Some(theirs) = self.tested() else {
             return Answer::Refused(12);
-        }
+        };
         if stream >= self.set.count {
             return Answer::Refused(1);
         }
@@ -127,7 +163,7 @@ impl State {
         if door.shut(self.waits[stream]) {
             return Answer::Refused(15);
         }
-        if self.count == 64 {
+        if self.full(stream, theirs) {
             return Answer::Refused(2);
         }
         self.waits[stream] = door.after(self.waits[stream]);
@@ -168,7 +204,7 @@ impl State {
     }
 
     pub fn unit(&mut self, done: bool) -> Answer {
-        if !self.well_formed() {
+        if self.tested().is_none() {
             return Answer::Refused(12);
         }
         if self.clock == LAST_CLOCK {

@@ -1,5 +1,5 @@
-//! `compare console BIN LINES SEED`, `compare pieces BIN SHEETS SEED`, `compare check BIN SETS SEED`:
-//! the console program against the library, line by line.
+//! `compare console BIN LINES SEED`, `compare pieces BIN SHEETS SEED`, `compare check BIN SETS SEED`,
+//! `compare parties BIN STARTS SEED`: the console program against the library, line by line.
 
 use std::io;
 
@@ -64,6 +64,15 @@ pub const CHECK: Kind = Kind {
     counted: "sets",
     in_script: 100,
     make: scripts::divided_checks,
+};
+
+/// Scripts of starts with owners and places, and of what two parties post.
+pub const PARTIES: Kind = Kind {
+    name: "parties",
+    request: requests::PARTIES,
+    counted: "starts",
+    in_script: 60,
+    make: scripts::shared_starts,
 };
 
 impl Kind {

@@ -6,7 +6,9 @@ mod batch_mode;
 mod cable_mode;
 mod cases;
 mod console_mode;
+mod isolation_mode;
 mod ontime_mode;
+mod parties;
 mod pieces;
 mod plays;
 mod process_mode;
@@ -14,6 +16,7 @@ mod programs;
 mod random;
 mod recordings;
 mod scripts;
+mod second_runs;
 mod sets;
 mod sheets;
 mod traces;
@@ -37,11 +40,13 @@ compare record BIN CASES SEED   the record program BIN against the library
 compare pieces BIN SHEETS SEED  the console program BIN on sheets that come in pieces
 compare cable BIN CASES SEED    the cable program BIN against the library
 compare check BIN SETS SEED     the console program BIN on checks that are divided among calls
+compare parties BIN STARTS SEED the console program BIN on starts with owners and places
 compare checks BIN CASES SEED   the check program BIN against the library
 compare batch CASES SEED DIR    writes DIR/cases.bin and DIR/expected.txt
 compare answers FILE            prints what is expected of the stored cases in FILE
 compare answers-replay FILE     the same of cases with recordings
 compare ontime CASES SEED       that accepted sets run on time
+compare isolation CASES SEED    that a party's answers depend on what it sees alone
 compare in-force                prints the number up to which requests are in force
 With --requests N behind the others that number is N, for trying.";
 
@@ -81,11 +86,12 @@ fn run(arguments: &[&str], requests: u32) -> Option<io::Result<bool>> {
             let program = kind.in_force(requests).and_then(|()| Program::at(program));
             Some(program.and_then(|p| process_mode::compare(&kind, &p, requests, cases, seed)))
         }
-        [which @ ("console" | "pieces" | "check"), program, count, seed] => {
+        [which @ ("console" | "pieces" | "check" | "parties"), program, count, seed] => {
             let (count, seed) = (number(count)?, number(seed)?);
             let kind = match *which {
                 "console" => console_mode::CONSOLE,
                 "pieces" => console_mode::PIECES,
+                "parties" => console_mode::PARTIES,
                 _ => console_mode::CHECK,
             };
             let program = kind.in_force(requests).and_then(|()| Program::at(program));
@@ -122,6 +128,10 @@ fn run(arguments: &[&str], requests: u32) -> Option<io::Result<bool>> {
         }
         ["ontime", cases, seed] => {
             Some(ontime_mode::check(requests, number(cases)?, number(seed)?))
+        }
+        ["isolation", cases, seed] => {
+            let (cases, seed) = (number(cases)?, number(seed)?);
+            Some(isolation_mode::check(requests, cases, seed))
         }
         _ => None,
     }

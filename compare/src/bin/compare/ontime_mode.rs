@@ -2,15 +2,18 @@
 //! deadline. Here only the library runs.
 //!
 //! With request 6 in force also that no run at all of an accepted set whose streams all have doors
-//! misses one: the caller keeps no limit there.
+//! misses one: the caller keeps no limit there. With request 8 in force about half of the runs are
+//! those of two parties.
 
 use std::io;
 
 use second::load::{self, Verdict};
-use second::requests::DOOR;
+use second::parties::Parties;
+use second::requests::{DOOR, PARTIES};
 use second::set::Set;
 use second::sheet::VERSION_2;
 
+use crate::parties;
 use crate::plays::{Plan, Play};
 use crate::programs;
 use crate::random::Random;
@@ -38,6 +41,25 @@ struct Counts {
     late_of_version_2_that_miss: u64,
     refused_at_door: u64,
     with_doors: WithDoors,
+    shared: Shared,
+}
+
+/// Of runs of two parties.
+#[derive(Default)]
+struct Shared {
+    runs: u64,
+    posts: u64,
+    refused_as_full: u64,
+}
+
+impl Shared {
+    fn count(&mut self, parties: &Parties, play: &Play) {
+        if *parties != Parties::US_ALONE {
+            self.runs += 1;
+            self.posts += play.post_count;
+            self.refused_as_full += play.no_place_count;
+        }
+    }
 }
 
 /// Of accepted sets whose streams all have doors.
@@ -72,8 +94,7 @@ pub fn check(requests: u32, cases: u64, seed: u64) -> io::Result<bool> {
         }
         if requests >= DOOR {
             let set = accepted_set_with_doors(&mut random, version);
-            let counts_of_doors = &mut counts.with_doors;
-            if let Some(trace) = missed_with_doors(&mut random, &set, requests, counts_of_doors) {
+            if let Some(trace) = missed_with_doors(&mut random, &set, requests, &mut counts) {
                 report(seed, number, &set, &trace)?;
                 print(number + 1, requests, &counts, 1);
                 return Ok(false);
@@ -109,8 +130,10 @@ fn accepted_set_that_misses(
             0 => Plan::early(),
             _ => Plan::any(random, set),
         };
-        let mut play = Play::new(set, requests);
+        let parties = parties::to_run(random, requests);
+        let mut play = Play::shared(set, &parties, requests);
         play.follow(random, &plan, LAST_CLOCK);
+        counts.shared.count(&parties, &play);
         counts.runs += 1;
         counts.posts += play.post_count;
         counts.units += play.unit_count;
@@ -140,16 +163,19 @@ fn missed_with_doors(
     random: &mut Random,
     set: &Set,
     requests: u32,
-    counts: &mut WithDoors,
+    counts: &mut Counts,
 ) -> Option<String> {
-    counts.sets += 1;
+    counts.with_doors.sets += 1;
     for run in 0..RUNS_OF_ACCEPTED_SET {
         let plan = match run {
             0 => Plan::early(),
             _ => Plan::any(random, set),
         };
-        let mut play = Play::new(set, requests);
+        let parties = parties::to_run(random, requests);
+        let mut play = Play::shared(set, &parties, requests);
         play.follow(random, &plan, LAST_CLOCK);
+        counts.shared.count(&parties, &play);
+        let counts = &mut counts.with_doors;
         counts.runs += 1;
         counts.posts += play.post_count;
         counts.refused += play.door_count;
@@ -215,6 +241,13 @@ fn print(cases: u64, requests: u32, counts: &Counts, missed: u64) {
         println!(
             "{} posts refused at a door; of {} accepted sets whose streams all have doors {} runs, {} posts accepted, {} refused with 15, {} units, {missed} missed",
             counts.refused_at_door, doors.sets, doors.runs, doors.posts, doors.refused, doors.units
+        );
+    }
+    if requests >= PARTIES {
+        let shared = &counts.shared;
+        println!(
+            "{} of the runs of two parties, {} posts accepted, {} refused as full, {missed} missed",
+            shared.runs, shared.posts, shared.refused_as_full
         );
     }
 }

@@ -3,7 +3,12 @@
 //! With request 6 in force the caller keeps the limits of streams without a door alone: "demand 3
 //! keeps its event-limit condition only for those". The others are posted as often as the plan
 //! likes, and the door refuses what comes too early.
+//!
+//! With request 8 in force the streams may be those of two parties: "Demand 3 holds for both
+//! parties over the joint set."
 
+use second::door::keeps_limit;
+use second::parties::Parties;
 use second::refusal::Refusal;
 use second::requests::DOOR;
 use second::set::{Set, Stream, GREATEST_TASK, STAGE_PLACES, STREAM_PLACES};
@@ -11,21 +16,6 @@ use second::sheet::VERSION_2;
 use second::state::{Answer, Message, State};
 
 use crate::random::Random;
-
-/// Whether a post at a clock keeps the event limit of a stream, given the clocks of its accepted
-/// posts so far, none of them later.
-///
-/// "A run keeps the limit if, for every x and I of 0 or more, the accepted posts at clocks x to
-/// x + I, both ends counted, are at most E(I)." The new post adds to the windows that it is in. As
-/// E never falls, it is enough to look at those that end with it, and among these at those that
-/// begin with a post: a window that begins with none holds the same posts as a shorter one.
-pub fn keeps_limit(stream: &Stream, posts: &[u32], clock: u32) -> bool {
-    let with_new_post = posts.len() as u64 + 1;
-    stream.event_limit(0) >= 1
-        && posts.iter().zip(0..).all(|(&begin, earlier)| {
-            with_new_post - earlier <= stream.event_limit(u64::from(clock - begin))
-        })
-}
 
 /// When a unit is called with done.
 #[derive(Clone, Copy)]
@@ -195,6 +185,8 @@ pub struct Play<'a> {
     pub post_count: u64,
     /// How many were refused at a door.
     pub door_count: u64,
+    /// How many were refused as their party had its number pending.
+    pub no_place_count: u64,
     pub unit_count: u64,
     /// How many messages passed to their next stage.
     pub passed_count: u64,
@@ -209,7 +201,12 @@ pub struct Play<'a> {
 
 impl<'a> Play<'a> {
     pub fn new(set: &'a Set, requests: u32) -> Play<'a> {
-        let (state, _) = State::start(set, requests);
+        Play::shared(set, &Parties::US_ALONE, requests)
+    }
+
+    /// A run of two parties.
+    pub fn shared(set: &'a Set, parties: &Parties, requests: u32) -> Play<'a> {
+        let (state, _) = State::start_shared(set, parties, requests);
         Play {
             set,
             requests,
@@ -219,6 +216,7 @@ impl<'a> Play<'a> {
             trace: String::new(),
             post_count: 0,
             door_count: 0,
+            no_place_count: 0,
             unit_count: 0,
             passed_count: 0,
             full_count: 0,
@@ -329,6 +327,10 @@ impl<'a> Play<'a> {
             }
             Answer::Refused(Refusal::AtTheDoor) => {
                 self.door_count += 1;
+                false
+            }
+            Answer::Refused(Refusal::Full) => {
+                self.no_place_count += 1;
                 false
             }
             _ => false,

@@ -145,6 +145,28 @@ pub fn with_long_doors(random: &mut Random, requests: u32) -> Set {
     set
 }
 
+/// A few streams for two parties: about half of them can be posted as one likes, the others have
+/// doors that soon open again. Costs are large enough for messages to stay a while.
+pub fn to_share(random: &mut Random, requests: u32) -> Set {
+    let version = version(random, requests);
+    let count = random.pick(&[1, 2, 2, 3, 3, 4, 5, 6, 16]);
+    let longest_deadline = random.pick(&[10, 40, 150]);
+    let mut set = small_streams(random, version, count, longest_deadline);
+    for stream in &mut set.streams[..count] {
+        for stage in &mut stream.stages[..stream.stage_count as usize] {
+            stage.cost = random.pick(&[1, 3, 10, 30, 100]);
+        }
+        if random.one_in(2) {
+            let (cycle, offset) = (random.between(1, 9), random.between(0, 9));
+            put_door(random, stream, cycle, offset);
+        } else {
+            stream.tuples = [Tuple::UNUSED; TUPLE_PLACES];
+            stream.tuple_count = 2;
+        }
+    }
+    set
+}
+
 /// Streams with small numbers on few tasks. Their cycles mostly divide one number, so that H
 /// stays small.
 fn small_streams(random: &mut Random, version: u32, count: usize, longest_deadline: u32) -> Set {

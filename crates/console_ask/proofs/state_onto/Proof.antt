@@ -1,9 +1,7 @@
 -- `console_ask::state_onto` meets its contract.
 -- Assumes nothing.
-use mathlib.Core.Path.{_≡_}
-use lib.ListN.{length}
 use Rattle.laws.proofs.Parts.{sized}
-use Rattle.console_ask.proofs.States.{behind-room, state-onto}
+use Rattle.console_ask.proofs.States.{Sized, behind-room, state-onto}
 use borrow.Author.Needs.{needs}
 use Rattle.console_ask.proofs.state_onto.Statement.{statement}
 use Rattle.console_ask.proofs.state_onto.Tie as tie
@@ -44,14 +42,13 @@ same-length c = search needs
 returns : tie.Need-returns
 returns c =
     let s = c .before .before .before .before .before .before .before .before .before .before .before .before .before .before .before .before .before in
-    let all : length (s .args .s .messages) ≡ 64 = search (needs, sized) in
-    let waits : length (s .args .s .waits) ≡ 16 = search (needs, sized) in
+    let all : Sized (s .args .s) = record { messages = search (needs, sized); waits = search (needs, sized); owners = search (needs, sized) } in
     let m = c .before .before in
     let k = m .before .before .before .before in
     let l = k .before .before .before .before .before .before in
     let a = s .args in
     state-onto (a .s) (a .out .now) (a .at) (s .pre) _ _ _ _ _ _ (l .before .number-line .ensures) (l .append .ensures)
-    (k .before .number-line2 .ensures) (k .append2 .ensures) _ _ all waits (m .rest-onto .ensures)
+    (k .before .number-line2 .ensures) (k .append2 .ensures) _ _ all (m .rest-onto .ensures)
 
 pub state-onto-spec : {M : Type 1} → statement M
 state-onto-spec =

@@ -24,8 +24,9 @@ shared-slice-read-take-byte c = search needs
 take-byte-requires : tie.Need-take-byte-requires Inv-loop μ-loop
 take-byte-requires c κs = search needs
 
+-- what is known of the piece, its length among it
 add-i : tie.Need-add-i Inv-loop μ-loop
-add-i c = search needs
+add-i c = search (needs, c .before .before .before .before .before .before .before .before .before .before .before .before .before .good .1)
 
 loop-less : tie.Need-loop-less Inv-loop μ-loop
 loop-less c = search needs

@@ -20,9 +20,16 @@ cable-requires c κs = search needs
 first-requires-2 : tie.Need-first-requires-2
 first-requires-2 c κs = search needs
 
+first-requires-3 : tie.Need-first-requires-3
+first-requires-3 c κs = search needs
+
 returns : tie.Need-returns
-returns c = let b = c .before in
-    begun _ _ _ _ _ (b .before .before .before .before .empty-set .ensures) (b .before .before .before .start .ensures) (b .before .first .ensures) (b .cable .ensures) (c .first2 .ensures)
+returns c =
+    let p = c .before in
+    let b = p .before in
+    begun _ _ _ _ _ _ (b .before .before .before .before .empty-set .ensures) (b .before .before .before .start .ensures) (b .before .first .ensures) (b .cable .ensures)
+    (p .first2 .ensures) (c .first3 .ensures)
 
 pub first-spec : {M : Type 1} → statement M
-first-spec = tie.close (tie.spec empty-set-requires start-requires first-requires cable-requires first-requires-2 returns)
+first-spec =
+    tie.close (tie.spec empty-set-requires start-requires first-requires cable-requires first-requires-2 first-requires-3 returns)

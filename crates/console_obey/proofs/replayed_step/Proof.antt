@@ -16,7 +16,7 @@ same-length c = search needs
 
 returns : tie.Need-returns
 returns c =
-    let f = c .before .before .before .before .before .before .before .before .before in
+    let f = c .before .before .before .before .before .before .before .before .before .before in
     let s = f .before .before .before .before in
     let a = s .args in
     replayed-step (a .d) (a .n) (a .text .now) (a .out .now) (a .at) _ _ (a .k) (a .bytes .now) _ (s .pre) (f .after .ensures) (c .before .before .append .ensures)

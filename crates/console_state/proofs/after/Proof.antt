@@ -1,5 +1,6 @@
 -- `console_state::after` meets its contract.
 -- Assumes nothing.
+use mathlib.Core.Path.{refl}
 use Rattle.console_state.specs.StateCommands.{started, posted, ran}
 use Rattle.console_state.proofs.Steps.{put-is}
 use borrow.Author.Needs.{needs}
@@ -102,18 +103,72 @@ put-door-requires c κs = search needs
 put-requires-5 : tie.Need-put-requires-5
 put-requires-5 c κs = search needs
 
+enum-told-10 : tie.Need-enum-told-10
+enum-told-10 c = search needs
+
+array-read-put-owner : tie.Need-array-read-put-owner
+array-read-put-owner c = search needs
+
+put-owner-requires : tie.Need-put-owner-requires
+put-owner-requires c κs = search needs
+
+put-requires-6 : tie.Need-put-requires-6
+put-requires-6 c κs = search needs
+
+enum-told-11 : tie.Need-enum-told-11
+enum-told-11 c = search needs
+
+array-read-put-places : tie.Need-array-read-put-places
+array-read-put-places c = search needs
+
+array-read-put-places-2 : tie.Need-array-read-put-places-2
+array-read-put-places-2 c = search needs
+
+put-places-requires : tie.Need-put-places-requires
+put-places-requires c κs = search needs
+
+put-requires-7 : tie.Need-put-requires-7
+put-requires-7 c κs = search needs
+
+enum-told-12 : tie.Need-enum-told-12
+enum-told-12 c = search needs
+
+array-read-put-owns : tie.Need-array-read-put-owns
+array-read-put-owns c = search needs
+
+put-owns-requires : tie.Need-put-owns-requires
+put-owns-requires c κs = search needs
+
+put-requires-8 : tie.Need-put-requires-8
+put-requires-8 c κs = search needs
+
+enum-told-13 : tie.Need-enum-told-13
+enum-told-13 c = search needs
+
+array-read-put-room : tie.Need-array-read-put-room
+array-read-put-room c = search needs
+
+array-read-put-room-2 : tie.Need-array-read-put-room-2
+array-read-put-room-2 c = search needs
+
+put-room-requires : tie.Need-put-room-requires
+put-room-requires c κs = search needs
+
+put-requires-9 : tie.Need-put-requires-9
+put-requires-9 c κs = search needs
+
 returns : tie.Need-returns
 unfolding started
 returns c = rw (c .before .enum-told .given .1) (c .start .ensures)
 
 returns-2 : tie.Need-returns-2
-returns-2 c = rw (c .before .before .enum-told2 .given .1) (put-is _ _ _ (c .put .ensures) (c .before .put-clock .ensures))
+returns-2 c = rw (c .before .before .enum-told2 .given .1) (put-is _ _ _ _ _ (c .put .ensures) (c .before .put-clock .ensures) refl)
 
 returns-3 : tie.Need-returns-3
-returns-3 c = rw (c .before .before .enum-told3 .given .1) (put-is _ _ _ (c .put2 .ensures) (c .before .put-pending .ensures))
+returns-3 c = rw (c .before .before .enum-told3 .given .1) (put-is _ _ _ _ _ (c .put2 .ensures) (c .before .put-pending .ensures) refl)
 
 returns-4 : tie.Need-returns-4
-returns-4 c = rw (c .before .before .enum-told4 .given .1) (put-is _ _ _ (c .put3 .ensures) (c .before .put-message .ensures))
+returns-4 c = rw (c .before .before .enum-told4 .given .1) (put-is _ _ _ _ _ (c .put3 .ensures) (c .before .put-message .ensures) refl)
 
 returns-5 : tie.Need-returns-5
 unfolding posted
@@ -128,10 +183,22 @@ unfolding ran
 returns-7 c = rw (c .before .enum-told7 .given .1) (c .unit2 .ensures)
 
 returns-8 : tie.Need-returns-8
-returns-8 c = rw (c .before .before .enum-told8 .given .1) (put-is _ _ _ (c .put4 .ensures) (c .before .put-staged .ensures))
+returns-8 c = rw (c .before .before .enum-told8 .given .1) (put-is _ _ _ _ _ (c .put4 .ensures) (c .before .put-staged .ensures) refl)
 
 returns-9 : tie.Need-returns-9
-returns-9 c = rw (c .before .before .enum-told9 .given .1) (put-is _ _ _ (c .put5 .ensures) (c .before .put-door .ensures))
+returns-9 c = rw (c .before .before .enum-told9 .given .1) (put-is _ _ _ _ _ (c .put5 .ensures) (c .before .put-door .ensures) refl)
+
+returns-10 : tie.Need-returns-10
+returns-10 c = rw (c .before .before .enum-told10 .given .1) (put-is _ _ _ _ _ (c .put6 .ensures) refl (c .before .put-owner .ensures))
+
+returns-11 : tie.Need-returns-11
+returns-11 c = rw (c .before .before .enum-told11 .given .1) (put-is _ _ _ _ _ (c .put7 .ensures) refl (c .before .put-places .ensures))
+
+returns-12 : tie.Need-returns-12
+returns-12 c = rw (c .before .before .enum-told12 .given .1) (put-is _ _ _ _ _ (c .put8 .ensures) (c .before .put-owns .ensures) refl)
+
+returns-13 : tie.Need-returns-13
+returns-13 c = rw (c .before .before .enum-told13 .given .1) (put-is _ _ _ _ _ (c .put9 .ensures) (c .before .put-room .ensures) refl)
 
 pub after-spec : {M : Type 1} → statement M
 after-spec =
@@ -169,6 +236,24 @@ after-spec =
     array-read-put-door
     put-door-requires
     put-requires-5
+    enum-told-10
+    array-read-put-owner
+    put-owner-requires
+    put-requires-6
+    enum-told-11
+    array-read-put-places
+    array-read-put-places-2
+    put-places-requires
+    put-requires-7
+    enum-told-12
+    array-read-put-owns
+    put-owns-requires
+    put-requires-8
+    enum-told-13
+    array-read-put-room
+    array-read-put-room-2
+    put-room-requires
+    put-requires-9
     returns
     returns-2
     returns-3
@@ -177,4 +262,8 @@ after-spec =
     returns-6
     returns-7
     returns-8
-    returns-9)
+    returns-9
+    returns-10
+    returns-11
+    returns-12
+    returns-13)

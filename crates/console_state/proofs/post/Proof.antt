@@ -12,7 +12,7 @@ post-line-requires : tie.Need-post-line-requires
 post-line-requires c κs = search needs
 
 returns : tie.Need-returns
-returns c = post-is _ _ _ _ (c .before .before .post .ensures) (c .post-line .ensures)
+returns c = post-is _ _ _ _ _ (c .before .before .post .ensures) (c .post-line .ensures)
 
 pub post-spec : {M : Type 1} → statement M
 post-spec = tie.close (tie.spec post-requires post-line-requires returns)

@@ -12,7 +12,7 @@ unit-line-requires : tie.Need-unit-line-requires
 unit-line-requires c κs = search needs
 
 returns : tie.Need-returns
-returns c = unit-is _ _ _ _ (c .before .before .unit .ensures) (c .unit-line .ensures)
+returns c = unit-is _ _ _ _ _ (c .before .before .unit .ensures) (c .unit-line .ensures)
 
 pub unit-spec : {M : Type 1} → statement M
 unit-spec = tie.close (tie.spec unit-requires unit-line-requires returns)

@@ -5,8 +5,7 @@ use Rattle.laws.proofs.Parts.{sized}
 use Rattle.rules.specs.declared.Verdict.{Verdict}
 use Rattle.rules.specs.Streams.{Placed, FourPlaces}
 use Rattle.rules.specs.Load.{VerdictOf}
-use Rattle.promise_demand3.specs.Statements.{NeverMissed}
-use Rattle.promise_demand3.proofs.Promise.{never-missed}
+use Rattle.promise_demand3.proofs.Alone.{never-missed-alone}
 use Rattle.laws.proofs.Arrays.{each-all}
 use Rattle.promise_code.proofs.judged_run.Statement.{statement}
 use Rattle.promise_code.proofs.judged_run.Tie as tie
@@ -18,7 +17,6 @@ run-requires : tie.Need-run-requires
 run-requires c κs = search needs
 
 returns : tie.Need-returns
-unfolding NeverMissed
 returns c =
     let start = c .before .before .before .before in
     let placed : Placed (start .args .x) = record {
@@ -31,7 +29,7 @@ returns c =
       verdict = v;
       state = end .state;
       missed = end .missed;
-      in-time = λ e keeps. end .missed ∙ never-missed (start .args .x) placed (subst (VerdictOf (start .args .x)) e v) _ keeps;
+      in-time = λ e keeps. end .missed ∙ never-missed-alone (start .args .x) placed (subst (VerdictOf (start .args .x)) e v) _ keeps;
     }
 
 pub judged-run-spec : {M : Type 1} → statement M

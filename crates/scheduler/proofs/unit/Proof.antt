@@ -69,7 +69,7 @@ sub-end c = omega (arith, facts (c .before .before .before .before .before) .her
 loop-holds : tie.Need-loop-holds Inv-loop μ-loop
 loop-holds c =
     let h = facts (c .before .before .before .before .before) in
-    record { set = refl; clock = refl; waits = refl; few = h .few; here = omega (arith, h .here); long = h .long; moved = refl; rest = h .rest }
+    record { set = refl; clock = refl; waits = refl; owners = refl; places = refl; few = h .few; here = omega (arith, h .here); long = h .long; moved = refl; rest = h .rest }
 
 add-behind : tie.Need-add-behind Inv-loop μ-loop
 add-behind c = omega (arith, c .before .loop .inv .here, c .before .loop .inv .few)

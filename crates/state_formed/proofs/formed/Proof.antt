@@ -11,7 +11,9 @@ use Rattle.laws.specs.Lists.{below, all}
 use Rattle.laws.proofs.Parts.{sized}
 use Rattle.laws.proofs.Fits.{and-go, and-end}
 use Rattle.laws.proofs.Arrays.{each-all}
-use Rattle.rules.specs.States.{noMessage, messageUnused, waitOk}
+use Rattle.rules.specs.States.{noMessage, pending, messageUnused, waitOk}
+use Rattle.state_parties.specs.declared.Shared.{Shared}
+use Rattle.state_parties.specs.Shares.{fitsOf}
 use Rattle.rules.specs.Streams.{FourPlaces}
 use Rattle.state_formed.specs.InRange.{restFormed}
 use Rattle.state_formed.proofs.WellFormed.{no-test, fails-so, sound-so}
@@ -27,17 +29,17 @@ abbrev μ-loop : tie.MeasureT-loop
 μ-loop s waits set messages counts₀ before₀ k₀ counts before k = s .count - k
 
 abbrev Inv-loop2 : tie.InvT-loop2
-Inv-loop2 waits set messages before k₀ unused₀ k unused =
+Inv-loop2 s waits set messages before k₀ unused₀ k unused =
     (length messages ≡ 64) × ((unused && all messageUnused (drop k messages)) ≡ all messageUnused (drop k₀ messages))
 
 abbrev μ-loop2 : tie.MeasureT-loop2
-μ-loop2 waits set messages before k₀ unused₀ k unused = 64 - k
+μ-loop2 s waits set messages before k₀ unused₀ k unused = 64 - k
 
 abbrev Inv-loop3 : tie.InvT-loop3
-Inv-loop3 waits set before k₀ unused later₀ kept₀ k later kept = Waiting set waits k later kept
+Inv-loop3 s waits set messages before k₀ unused later₀ kept₀ k later kept = Waiting set waits k later kept
 
 abbrev μ-loop3 : tie.MeasureT-loop3
-μ-loop3 waits set before k₀ unused later₀ kept₀ k later kept = 16 - k
+μ-loop3 s waits set messages before k₀ unused later₀ kept₀ k later kept = 16 - k
 
 fails-requires : tie.Need-fails-requires Inv-loop μ-loop Inv-loop2 μ-loop2 Inv-loop3 μ-loop3
 fails-requires c κs = search needs
@@ -234,27 +236,38 @@ loop3-again c =
     let loop = c .before .before .before .before .before .loop3 in
     wait-go _ _ (loop .k) _ _ _ _ _ (loop .inv) (c .before .before .before .before .loop3-test .taken) (c .before .before .door-of .ensures) (c .before .may-wait .ensures) (c .wait-later .ensures)
 
--- behind the three passes the last two tests tell them all
-tested : (c : tie.After-loop3 Inv-loop μ-loop Inv-loop2 μ-loop2 Inv-loop3 μ-loop3)
-    → (c .before .before .before .loop2 .unused && c .before .loop3 .kept) ≡ restFormed (c .before .before .before .before .before .before .before .before .before .before .before .before .before .before .args .s)
-tested c =
+share-requires : tie.Need-share-requires Inv-loop μ-loop Inv-loop2 μ-loop2 Inv-loop3 μ-loop3
+share-requires c κs = search needs
+
+-- behind the three passes the last tests tell them all
+tested : (c : tie.After-loop3 Inv-loop μ-loop Inv-loop2 μ-loop2 Inv-loop3 μ-loop3) (f : Bool)
+    → (let s = c .before .before .before .before .before .before .before .before .before .before .before .before .before .before .args .s in f ≡ fitsOf (pending s) (s .owners) (s .set .count) (s .places))
+    → (c .before .before .before .loop2 .unused && (c .before .loop3 .kept && f)) ≡ restFormed (c .before .before .before .before .before .before .before .before .before .before .before .before .before .before .args .s)
+tested c f e =
     let s = c .before .before .before .before .before .before .before .before .before .before .before .before .before .before .args .s in
     let first = c .before .before .before .before .before .before .loop in
     let loop = c .before .before .before .loop2 in
     let last = c .before .loop3 in
     let end : first .k ≡ s .count = omega (arith, first .inv .here, c .before .before .before .before .if3 .left) in
-    last-tests s (loop .unused) (last .kept) (pass-end _ _ _ _ (first .inv) (c .before .before .before .before .if3 .left))
+    last-tests s (loop .unused) (last .kept) f (pass-end _ _ _ _ (first .inv) (c .before .before .before .before .if3 .left))
     (and-end messageUnused (s .messages) (loop .k) _ _ (loop .inv .1) (omega (arith, c .before .before .loop2-test .left, loop .inv .0)) ∙ ap (λ (k : ℕ). all messageUnused (drop k (s .messages))) end)
     (all-tested _ _ (last .k) _ _ (last .inv) (c .loop3-test .left))
+    e
 
 returns-6 : tie.Need-returns-6 Inv-loop μ-loop Inv-loop2 μ-loop2 Inv-loop3 μ-loop3
-returns-6 c = sound-so _ _ (sym (c .if8 .taken) ∙ tested (c .before)) (let loop = c .before .before .loop3 in all-passed _ _ (loop .k) _ _ (loop .inv) (c .before .loop3-test .left))
+returns-6 c =
+    let sh = c .before .before .before .share in
+    let after = c .before .before .before .before .before .before in
+    let loop = after .before .loop3 in
+    sound-so _ _ _ (sym (c .if8 .taken) ∙ tested after (sh .result .fits) (ap (λ (x : Shared). x .fits) (sh .ensures))) (all-passed _ _ (loop .k) _ _ (loop .inv) (after .loop3-test .left)) (ap (λ (x : Shared). x .held) (sh .ensures))
 
 fails-requires-6 : tie.Need-fails-requires-6 Inv-loop μ-loop Inv-loop2 μ-loop2 Inv-loop3 μ-loop3
 fails-requires-6 c κs = search needs
 
 returns-7 : tie.Need-returns-7 Inv-loop μ-loop Inv-loop2 μ-loop2 Inv-loop3 μ-loop3
-returns-7 c = c .fails6 .ensures ∙ fails-so _ (sym (c .before .if8 .left) ∙ tested (c .before .before))
+returns-7 c =
+    let sh = c .before .before .before .before .share in
+    c .fails6 .ensures ∙ fails-so _ (sym (c .before .if8 .left) ∙ tested (c .before .before .before .before .before .before .before) (sh .result .fits) (ap (λ (x : Shared). x .fits) (sh .ensures)))
 
 pub formed-spec : {M : Type 1} → statement M
 formed-spec =
@@ -313,6 +326,7 @@ formed-spec =
     add-k-3
     loop3-less
     loop3-again
+    share-requires
     returns-6
     fails-requires-6
     returns-7)

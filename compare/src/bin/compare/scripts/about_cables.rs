@@ -58,7 +58,7 @@ impl Script<'_> {
                 0 => self.say("close"),
                 1 => self.questions_about_set(),
                 2 => {
-                    self.say("start");
+                    self.say_start();
                     self.say("post 0");
                     self.say("unit");
                 }

@@ -21,11 +21,11 @@ impl Script<'_> {
             0 => self.put_set(&set),
             _ => self.say(read_line(&sheets::of_set(&set))),
         }
-        self.say("start");
+        self.say_start();
     }
 
     /// The places of the state's set with a door, and their doors.
-    fn doors(&self) -> Vec<(usize, Door)> {
+    pub(super) fn doors(&self) -> Vec<(usize, Door)> {
         let streams = self.state().set.used_streams();
         let places = streams.iter().enumerate();
         places
@@ -76,7 +76,7 @@ impl Script<'_> {
 
     /// Units until a door opens, or one less or more. Where they would be many, the wait is put
     /// near that moment.
-    fn units_until(&mut self, place: usize, door: Door) {
+    pub(super) fn units_until(&mut self, place: usize, door: Door) {
         let shut = |wait: u32| wait.saturating_sub(door.open_up_to());
         if shut(self.state().waits[place]) > 40 {
             if self.random.one_in(4) {
@@ -174,6 +174,7 @@ impl Script<'_> {
             let deadline = clock + self.state().set.streams[stream as usize].deadline;
             self.say(format!("message {place} {stream} {deadline} 0"));
         }
+        self.fit_room();
         self.say("formed");
         for _ in 0..self.random.between(4, 14) {
             let (place, door) = self.random.pick(&doors);

@@ -52,7 +52,7 @@ impl Script<'_> {
         self.put_set(&set);
         self.questions_about_set();
         if self.random.one_in(2) {
-            self.say("start");
+            self.say_start();
             self.say("state");
         }
     }
@@ -299,7 +299,7 @@ impl Script<'_> {
         if self.random.one_in(2) {
             self.say("read 1000");
         }
-        self.say("start");
+        self.say_start();
     }
 
     /// Puts the numbers back that differ from an earlier set.
@@ -350,7 +350,7 @@ impl Script<'_> {
             }
         }
         if self.random.one_in(3) {
-            self.say("start");
+            self.say_start();
         }
     }
 

@@ -1,6 +1,6 @@
 //! Scenes about the console's state.
 
-use second::requests::{DOOR, REPLAY, STAGES};
+use second::requests::{DOOR, PARTIES, REPLAY, STAGES};
 use second::set::{Stage, Stream, GREATEST_TASK, STAGE_PLACES, STREAM_PLACES};
 use second::sheet::VERSION_2;
 use second::state::{Message, State, LAST_CLOCK, MESSAGE_PLACES};
@@ -15,7 +15,7 @@ impl Script<'_> {
         let usable = self.state().set.count > 0 && self.state().well_formed();
         if usable && !self.random.one_in(4) {
             if self.random.one_in(2) && self.state().set == *self.set() {
-                self.say("start");
+                self.say_start();
             }
             return;
         }
@@ -24,7 +24,7 @@ impl Script<'_> {
             _ => sets::small(self.random, self.console.requests),
         };
         self.say(read_line(&sheets::of_set(&set)));
-        self.say("start");
+        self.say_start();
     }
 
     /// A stream of the state's set, seldom one that is not in it.
@@ -153,6 +153,7 @@ impl Script<'_> {
         for put in puts.into_iter().chain(staged) {
             self.say(put);
         }
+        self.fit_room();
         self.say("formed");
         self.say("choose");
         for _ in 0..self.random.between(3, 40) {
@@ -246,11 +247,13 @@ impl Script<'_> {
         let stage = message.stage.min(STAGE_PLACES as u32 - 1) as usize;
         let cost = stream.stages[stage].cost;
         let faults = match self.console.requests {
+            PARTIES.. => 24,
             DOOR.. => 19,
             STAGES.. => 16,
             _ => 10,
         };
         match self.random.below(faults) {
+            19.. => self.party_fault(),
             16.. => vec![self.door_fault()],
             10..=15 => self.staged_fault(place),
             0 => {
@@ -380,7 +383,7 @@ impl Script<'_> {
             0 => self.put_set(&set),
             _ => self.say(read_line(&sheets::of_set(&set))),
         }
-        self.say("start");
+        self.say_start();
     }
 
     /// Messages go through their stages, and are done and cut in them.
@@ -436,6 +439,7 @@ impl Script<'_> {
             let used = self.random.pick(&[1, 1, 1, 1, 1, 1, 2, 0]);
             self.say(format!("message {place} {stream} {deadline} {used}"));
         }
+        self.fit_room();
         for first in 0..=counts[0] {
             self.say(format!("staged 0 {first}"));
             for second in 0..=counts[1] {
@@ -475,6 +479,7 @@ impl Script<'_> {
                 self.say(format!("door {place} {wait}"));
             }
         }
+        self.put_parties_back(&before.parties);
     }
 }
 

@@ -7,13 +7,14 @@
 mod about_cables;
 mod about_checks;
 mod about_doors;
+mod about_parties;
 mod about_recordings;
 mod about_sets;
 mod about_states;
 mod odd_lines;
 
 use second::console::Console;
-use second::requests::{DOOR, PIECES, REPLAY, RESUMABLE, STAGES};
+use second::requests::{DOOR, PARTIES, PIECES, REPLAY, RESUMABLE, STAGES};
 use second::set::{Set, GREATEST_COST, GREATEST_CYCLE, GREATEST_DEADLINE, GREATEST_OFFSET};
 use second::state::{State, LAST_CLOCK};
 
@@ -85,6 +86,39 @@ pub fn divided_checks(random: &mut Random, requests: u32, sets: u64) -> Made {
     }
 }
 
+/// A script of at least so many starts with owners and places, with the requests up to a number in
+/// force.
+pub fn shared_starts(random: &mut Random, requests: u32, starts: u64) -> Made {
+    let mut script = Script::new(random, requests);
+    while count_of(&script.lines, b"start", "") < starts {
+        script.scene_of_parties();
+    }
+    let count = |name: &[u8], answer: &str| count_of(&script.lines, name, answer);
+    Made {
+        count: count(b"start", ""),
+        others: vec![
+            ("refused with 7", count(b"start", "refused 7\n")),
+            ("with 16", count(b"start", "refused 16\n")),
+            ("posted", count(b"post", " posted ")),
+            ("refused at a door", count(b"post", " refused 15\n")),
+            ("as full", count(b"post", " refused 2\n")),
+            ("with 12", count(b"post", " refused 12\n")),
+        ],
+        script: script.lines,
+    }
+}
+
+/// How many lines begin with a word and print an answer, or something that has it in it.
+fn count_of(lines: &[Line], name: &[u8], answer: &str) -> u64 {
+    let is_it = |line: &&Line| first_word(line) == name && line.answer.contains(answer);
+    lines.iter().filter(is_it).count() as u64
+}
+
+/// A line's first word.
+fn first_word(line: &Line) -> &[u8] {
+    line.text.split(|&byte| byte == b' ').next().unwrap_or(&[])
+}
+
 struct Script<'a> {
     random: &'a mut Random,
     console: Console,
@@ -142,6 +176,7 @@ impl Script<'_> {
     /// Several lines about one thing.
     fn scene(&mut self) {
         let scenes = match self.console.requests {
+            PARTIES.. => 114,
             RESUMABLE.. => 94,
             DOOR.. => 83,
             PIECES.. => 71,
@@ -179,7 +214,18 @@ impl Script<'_> {
             81..=82 => self.full_table_at_the_door(),
             83..=87 => self.check_in_calls(),
             88..=91 => self.resumed(),
+            94.. => self.scene_of_parties(),
             _ => self.opened_and_stopped(),
+        }
+    }
+
+    /// The same about two parties.
+    fn scene_of_parties(&mut self) {
+        match self.random.below(13) {
+            0..=3 => self.parties_run(),
+            4..=6 => self.places_at_start(),
+            7..=10 => self.parties_by_hand(),
+            _ => self.full_party_at_the_door(),
         }
     }
 }
@@ -244,6 +290,7 @@ fn hex_line(name: &str, bytes: &[u8]) -> String {
 #[cfg(test)]
 mod tests {
     use super::*;
+    use second::parties::Parties;
     use second::requests::{LESS_STACK, RENDERED};
 
     /// The lines of many scripts.
@@ -252,11 +299,6 @@ mod tests {
         (0..250)
             .flat_map(|_| make(&mut random, requests, 500))
             .collect()
-    }
-
-    /// A line's first word.
-    fn name(line: &Line) -> &[u8] {
-        line.text.split(|&byte| byte == b' ').next().unwrap_or(&[])
     }
 
     /// That each of the answers is among those to the lines, ten times at least.
@@ -325,6 +367,7 @@ mod tests {
             "\ntested 1 accept\n",
             " late ",
         ];
+        let of_parties = ["\nrefused 16\n", "\nowns 0 1\n", "\nowns 15 1\n", "\nroom "];
         for requests in 0..=RENDERED {
             let lines = many_lines(1, requests);
             come_up(&lines, &of_document_01);
@@ -342,6 +385,9 @@ mod tests {
             }
             if requests >= RESUMABLE {
                 come_up(&lines, &of_check);
+            }
+            if requests >= PARTIES {
+                come_up(&lines, &of_parties);
             }
         }
     }
@@ -368,12 +414,68 @@ mod tests {
             for command in commands {
                 let found: Vec<&Line> = lines
                     .iter()
-                    .filter(|line| name(line) == command.as_bytes())
+                    .filter(|line| first_word(line) == command.as_bytes())
                     .collect();
                 assert!(found.iter().all(|line| line.answer == "?\n"), "{command}");
                 let seldom = 10..lines.len() / 50;
                 assert!(seldom.contains(&found.len()), "{command}: {}", found.len());
             }
+        }
+    }
+
+    #[test]
+    fn commands_of_parties_come_up_with_their_request_and_not_before() {
+        for requests in [RESUMABLE, PARTIES] {
+            let lines = many_lines(1, requests);
+            for command in [&b"owner"[..], b"places", b"owns", b"room"] {
+                let count = count_of(&lines, command, "");
+                if requests < PARTIES {
+                    assert_eq!(count, 0);
+                } else {
+                    assert!(count > 300, "{}: {count}", command.escape_ascii());
+                    assert!(count_of(&lines, command, "?") >= 10);
+                }
+            }
+        }
+    }
+
+    #[test]
+    fn states_of_two_parties_are_met_in_rule_and_out_of_it() {
+        let mut random = Random::new(8);
+        let (mut full, mut with_room, mut not_formed) = ([0; 2], [0; 2], 0);
+        for _ in 0..150 {
+            let script = make(&mut random, RENDERED, 500);
+            let mut console = Console::new(RENDERED);
+            for line in script {
+                let state = console.state.clone();
+                assert_eq!(console.line(&line.text), line.answer);
+                let number = line.text.strip_prefix(b"post ").map(str::from_utf8);
+                let Some(Ok(number)) = number else { continue };
+                let Ok(stream) = number.parse::<usize>() else {
+                    continue;
+                };
+                if stream >= 16 || state.parties == Parties::US_ALONE {
+                    continue;
+                }
+                let party = state.parties.owners[stream].number() as usize;
+                if line.answer.ends_with(" refused 2\n") {
+                    full[party] += 1;
+                    with_room[party] += u64::from(state.pending < 60);
+                }
+                not_formed += u64::from(line.answer.ends_with(" refused 12\n"));
+            }
+        }
+        assert!(full.iter().all(|&count| count > 100), "{full:?}");
+        assert!(with_room.iter().all(|&count| count > 100), "{with_room:?}");
+        assert!(not_formed > 100, "{not_formed}");
+    }
+
+    #[test]
+    fn starts_with_owners_and_places_have_every_answer() {
+        let made = shared_starts(&mut Random::new(9), PARTIES, 2_000);
+        assert!(made.count >= 2_000);
+        for (name, count) in made.others {
+            assert!(count > 100, "{name}: {count}");
         }
     }
 
@@ -389,7 +491,7 @@ mod tests {
             for line in script {
                 let set = console.set;
                 let state = console.state.clone();
-                match name(&line) {
+                match first_word(&line) {
                     b"valid" | b"verdict" | b"demand" | b"write" => {
                         let most = set.streams.iter().map(|s| s.stage_count.min(4)).max();
                         let counts = if set.valid() {
@@ -409,7 +511,7 @@ mod tests {
                     }
                     _ => {}
                 }
-                if name(&line) == b"formed" && state.set.valid() && state.pending == 2 {
+                if first_word(&line) == b"formed" && state.set.valid() && state.pending == 2 {
                     let both = state.messages[..2].iter().all(|m| m.used == 1);
                     let of_two = state.messages[0].stream != state.messages[1].stream;
                     if both && of_two {
@@ -443,7 +545,7 @@ mod tests {
             for answer in *answers {
                 // An answer with a space before it comes after a clock.
                 let is_it = |line: &&Line| {
-                    name(line) == command.as_bytes()
+                    first_word(line) == command.as_bytes()
                         && (line.answer.starts_with(answer)
                             || answer.starts_with(' ') && line.answer.contains(answer))
                 };

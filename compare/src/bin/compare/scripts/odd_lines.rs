@@ -1,6 +1,7 @@
 //! Scenes of lines with any numbers, and of lines that are no commands.
 
 use second::console::LONGEST_LINE;
+use second::requests::PARTIES;
 use second::set::{STAGE_PLACES, STREAM_PLACES, TUPLE_PLACES};
 use second::state::MESSAGE_PLACES;
 
@@ -122,49 +123,146 @@ const ODD_LINES: &[&[u8]] = &[
     b"// unit",
 ];
 
+/// The same with request 8 in force.
+const ODD_LINES_OF_PARTIES: &[&[u8]] = &[
+    b"owner",
+    b"owner ",
+    b"owner 0",
+    b"owner 0 2",
+    b"owner 16 0",
+    b"owner 0 1 1",
+    b"owners 0 1",
+    b"owner 0 ours",
+    b"owner 0 4294967295",
+    b"places",
+    b"places 64",
+    b"places 64 0 0",
+    b"places 65 -1",
+    b"place 64 0",
+    b"places  64 0",
+    b"owns",
+    b"owns 0",
+    b"owns 0 2",
+    b"owns 16 1",
+    b"owns 0 1 1",
+    b"owned 0 1",
+    b"room",
+    b"room 64",
+    b"room 64 0 0",
+    b"room 64 ",
+    b"rooms 64 0",
+];
+
+/// Commands and how many numbers they have.
+const COMMANDS: &[(&str, u32)] = &[
+    ("read", 0),
+    ("write", 1),
+    ("streams", 1),
+    ("stream", 5),
+    ("once", 3),
+    ("every", 4),
+    ("valid", 0),
+    ("limit", 2),
+    ("demand", 1),
+    ("jitter", 2),
+    ("verdict", 0),
+    ("start", 0),
+    ("clock", 1),
+    ("pending", 1),
+    ("message", 4),
+    ("post", 1),
+    ("unit", 0),
+    ("done", 0),
+    ("choose", 0),
+    ("state", 0),
+    ("formed", 0),
+    ("recording", 0),
+    ("next", 0),
+    ("reader", 2),
+    ("where", 0),
+    ("record", 1),
+    ("version", 1),
+    ("stages", 2),
+    ("stage", 4),
+    ("staged", 2),
+    ("cable", 0),
+    ("feed", 0),
+    ("close", 0),
+    ("door", 2),
+    ("open", 0),
+    ("go", 1),
+    ("resume", 1),
+];
+
+/// The same of request 8.
+const COMMANDS_OF_PARTIES: &[(&str, u32)] =
+    &[("owner", 2), ("places", 2), ("owns", 2), ("room", 2)];
+
+/// Commands with one number left open.
+const WITH_A_NUMBER: &[&str] = &[
+    "write N",
+    "streams N",
+    "demand N",
+    "clock N",
+    "pending N",
+    "post N",
+    "limit N 5",
+    "limit 0 N",
+    "jitter N 0",
+    "jitter 5 N",
+    "stream N 0 1 1 1",
+    "stream 0 N 1 1 1",
+    "stream 0 0 1 1 N",
+    "once N 0 0",
+    "once 0 N 0",
+    "every 0 0 N 0",
+    "message N 0 0 0",
+    "message 0 0 0 N",
+    "reader N 0",
+    "reader 0 N",
+    "record N",
+    "record N u",
+    "version N",
+    "stages N 1",
+    "stages 0 N",
+    "stage N 0 0 0",
+    "stage 0 N 0 0",
+    "stage 0 0 N 1",
+    "stage 0 3 0 N",
+    "staged N 0",
+    "staged 63 N",
+    "door N 0",
+    "door 15 N",
+    "go N",
+    "resume N",
+];
+
+/// The same of request 8.
+const WITH_A_NUMBER_OF_PARTIES: &[&str] = &[
+    "owner N 1",
+    "owner 0 N",
+    "places N 0",
+    "places 0 N",
+    "owns N 0",
+    "owns 15 N",
+    "room N 0",
+    "room 64 N",
+];
+
 impl Script<'_> {
+    /// One of the choices; with request 8 in force also of those that it brings, and not before.
+    fn pick_with_parties<T: Copy>(&mut self, choices: &[T], of_parties: &[T]) -> T {
+        if self.in_force(PARTIES) && self.random.one_in(6) {
+            self.random.pick(of_parties)
+        } else {
+            self.random.pick(choices)
+        }
+    }
+
     /// A line of any command with numbers that may be anything. Where the request that brings the
     /// command is not in force, it is no command.
     fn any_command(&mut self) -> String {
-        let (name, numbers) = self.random.pick(&[
-            ("read", 0),
-            ("write", 1),
-            ("streams", 1),
-            ("stream", 5),
-            ("once", 3),
-            ("every", 4),
-            ("valid", 0),
-            ("limit", 2),
-            ("demand", 1),
-            ("jitter", 2),
-            ("verdict", 0),
-            ("start", 0),
-            ("clock", 1),
-            ("pending", 1),
-            ("message", 4),
-            ("post", 1),
-            ("unit", 0),
-            ("done", 0),
-            ("choose", 0),
-            ("state", 0),
-            ("formed", 0),
-            ("recording", 0),
-            ("next", 0),
-            ("reader", 2),
-            ("where", 0),
-            ("record", 1),
-            ("version", 1),
-            ("stages", 2),
-            ("stage", 4),
-            ("staged", 2),
-            ("cable", 0),
-            ("feed", 0),
-            ("close", 0),
-            ("door", 2),
-            ("open", 0),
-            ("go", 1),
-            ("resume", 1),
-        ]);
+        let (name, numbers) = self.pick_with_parties(COMMANDS, COMMANDS_OF_PARTIES);
         let mut line = name.to_string();
         for place in 0..numbers {
             // The first is often an index.
@@ -191,7 +289,7 @@ impl Script<'_> {
         }
         // What they put would make every set and state after them invalid.
         self.say("read 1000");
-        self.say("start");
+        self.say_start();
     }
 
     pub(super) fn lines_that_are_no_commands(&mut self) {
@@ -214,7 +312,8 @@ impl Script<'_> {
     }
 
     fn odd_line(&mut self) -> Vec<u8> {
-        self.random.pick(ODD_LINES).to_vec()
+        self.pick_with_parties(ODD_LINES, ODD_LINES_OF_PARTIES)
+            .to_vec()
     }
 
     /// A line about as long as the longest, or much longer.
@@ -279,43 +378,7 @@ impl Script<'_> {
             "1,000",
             "\u{0661}",
         ]);
-        let line = self.random.pick(&[
-            "write N",
-            "streams N",
-            "demand N",
-            "clock N",
-            "pending N",
-            "post N",
-            "limit N 5",
-            "limit 0 N",
-            "jitter N 0",
-            "jitter 5 N",
-            "stream N 0 1 1 1",
-            "stream 0 N 1 1 1",
-            "stream 0 0 1 1 N",
-            "once N 0 0",
-            "once 0 N 0",
-            "every 0 0 N 0",
-            "message N 0 0 0",
-            "message 0 0 0 N",
-            "reader N 0",
-            "reader 0 N",
-            "record N",
-            "record N u",
-            "version N",
-            "stages N 1",
-            "stages 0 N",
-            "stage N 0 0 0",
-            "stage 0 N 0 0",
-            "stage 0 0 N 1",
-            "stage 0 3 0 N",
-            "staged N 0",
-            "staged 63 N",
-            "door N 0",
-            "door 15 N",
-            "go N",
-            "resume N",
-        ]);
+        let line = self.pick_with_parties(WITH_A_NUMBER, WITH_A_NUMBER_OF_PARTIES);
         line.replace('N', number).into_bytes()
     }
 
@@ -337,7 +400,9 @@ impl Script<'_> {
 
     /// An index at, just below or just above its range.
     fn index_out_of_place(&mut self) -> String {
-        match self.random.below(9) {
+        let kinds = if self.in_force(PARTIES) { 11 } else { 9 };
+        match self.random.below(kinds) {
+            9.. => self.party_out_of_place(),
             8 => {
                 let place = around(self.random, &[STREAM_PLACES as u32 - 1]);
                 format!("door {place} 0")
@@ -376,6 +441,14 @@ impl Script<'_> {
                 format!("message {place} 0 0 0")
             }
         }
+    }
+
+    /// A stream place or a party at, just below or just above its range.
+    fn party_out_of_place(&mut self) -> String {
+        let name = self.random.pick(&["owner", "owns"]);
+        let place = around(self.random, &[STREAM_PLACES as u32 - 1]);
+        let party = around(self.random, &[0, 1]);
+        format!("{name} {place} {party}")
     }
 
     /// A command in which one byte or one word is put, taken or changed.

@@ -13,10 +13,10 @@ use Rattle.rules.specs.declared.Message.{Message}
 use Rattle.rules.specs.declared.State.{State}
 use Rattle.rules.specs.States.{noMessage, pending}
 use Rattle.rules.specs.Steps.{newMessage, added, messageAt, stayed, departed}
 use Rattle.promise_steps.proofs.Cases.{pending-length, pending-added, message-is, pending-stayed, pending-departed}
-use Rattle.promise_views.specs.Views.{Kind, messageOfKind}
 
-module _ (mine : Kind) where
+-- a kind of streams, by their numbers
+module _ (mine : ℕ → Bool) where
   -- 1 for a stream of the kind
   abbrev pub one : ℕ → ℕ
   one k = cond (mine k) 1 0
@@ -25,7 +25,7 @@ module _ (mine : Kind) where
   each m = one (m .stream)
 
   abbrev pub held : State → ℕ
-  held s = count (messageOfKind mine) (pending s)
+  held s = count (λ (m : Message). mine (m .stream)) (pending s)
 
   module _ (s : State) (places : length (s .messages) ≡ 64) where
     pub held-added : (k : ℕ) → s .count < 64 → held (added s (newMessage s k)) ≡ held s + one k
