@@ -1,4 +1,5 @@
 // The numbers that the cab prints.
+#![tactic(auto)]
 ghost use Rattle.std.specs.Prelude.{◌≡◌};
 ghost use Rattle.rules.specs.Numbers.{number};
 

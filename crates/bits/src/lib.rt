@@ -1,5 +1,6 @@
 // Fields of any width in a string of bytes, most significant bit first. They know no sheet.
 // A place is a byte and a bit behind it, so that no place is too large for its number.
+#![tactic(auto)]
 
 ghost use Rattle.std.specs.Prelude.{◌≡◌, true, ◌+◌, ◌-◌, ◌*◌, ◌^◌, ◌<◌, ◌≤◌, length, set};
 ghost use Rattle.std.proofs.Math.Seq.{paste};
@@ -7,14 +8,14 @@ ghost use Rattle.laws.specs.Bits.{bits, to_bits};
 ghost use Rattle.bits.specs.Places.{word_of, Near, field_at, got_of, gather_of, in_eight, two_of, take_of, put_of, put_bits};
 
 // Bits that were taken: the number that they stand for, and how many there were.
-#[derive(Drop)]
+#[derive(Clone, Copy)]
 pub struct Gathered {
     pub value: u64,
     pub got: u32,
 }
 
 // A field that was taken.
-#[derive(Drop)]
+#[derive(Clone, Copy)]
 pub enum Taken {
     Field(u64),
     Missing,
@@ -22,7 +23,7 @@ pub enum Taken {
 }
 
 // Two fields that were taken at once.
-#[derive(Drop)]
+#[derive(Clone, Copy)]
 pub struct Two {
     pub there: bool,
     pub first: u32,
@@ -30,7 +31,7 @@ pub struct Two {
 }
 
 // Whether a field was put.
-#[derive(Drop)]
+#[derive(Clone, Copy)]
 pub enum Placing {
     Done,
     NoRoom,

@@ -1,11 +1,12 @@
 // The pieces of a sheet as an input brings them: each behind a byte that says how many bytes it has.
+#![tactic(auto)]
 ghost use Rattle.std.specs.Prelude.{◌≡◌, eqb};
 ghost use Rattle.cable_frames.specs.Frames.{first_frames, step_of, taken_of};
 
 use sheet_carried::Carried;
 
 // What is carried of the sheet, and how many bytes of the piece are to come: 0 where a length comes.
-#[derive(Drop)]
+#[derive(Clone, Copy)]
 pub struct Frames {
     pub carried: Carried,
     pub left: usize,

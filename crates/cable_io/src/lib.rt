@@ -1,11 +1,12 @@
 // The reading and writing of the program `cable`; what its pieces give is decided by proved functions.
 // A function that writes answers whether all was written.
+#![tactic(auto)]
 use cable_frames::Frames;
 use libc::STDIN_FILENO;
 use rules::{ReadAnswer, Set, WriteAnswer};
 
 // The input as far as it has come, whether more may come, and whether all of it has.
-#[derive(Drop)]
+#[derive(Clone, Copy)]
 struct Ear {
     frames: Frames,
     going: bool,

@@ -1,4 +1,5 @@
 // Many cases from one file, and what the trace program or the replay program makes of each.
+#![tactic(auto)]
 ghost use Rattle.std.specs.Prelude.{◌<◌};
 ghost use Rattle.io.specs.Counts.{IsPrefixLen};
 
@@ -67,7 +68,7 @@ fn replay_of(fd: i32, begun: Replaying, n: u64) -> bool {
 }
 
 // What is made of the cases.
-#[derive(Drop)]
+#[derive(Clone, Copy)]
 pub enum Kind {
     Traces,
     Recordings,

@@ -1,4 +1,5 @@
 // The check program's reading and writing; what is read and written is decided by proved functions.
+#![tactic(auto)]
 ghost use Rattle.rules.specs.Load.{VerdictOf};
 ghost use Rattle.rules.specs.Resumed.{Underway};
 ghost use Rattle.load_check.specs.Sheets.{SheetVerdict};

@@ -1,4 +1,5 @@
 // Checks the set in set.bin.
+#![tactic(auto)]
 fn main() {
     check_io::run();
 }

@@ -1,4 +1,5 @@
 // The console's service cable: what each command leaves of what is carried and of the set, and what it prints.
+#![tactic(auto)]
 ghost use Rattle.std.specs.Prelude.{◌≡◌};
 ghost use Rattle.sheet_carried.specs.Reader.{start_of};
 ghost use Rattle.sheet_read.specs.Cable.{feed_of};
@@ -13,7 +14,7 @@ use rules::Set;
 use sheet_carried::Carried;
 
 // What the console holds after a command, and the line that is printed.
-#[derive(Drop)]
+#[derive(Clone, Copy)]
 pub struct CableAfter {
     pub carried: Carried,
     pub set: Set,

@@ -1,4 +1,5 @@
 // The console's check in calls: what each command leaves of the position that the console holds, and what it prints.
+#![tactic(auto)]
 ghost use Rattle.std.specs.Prelude.{◌≡◌};
 ghost use Rattle.console_check.specs.CheckCommands.{first_position, Opens, Goes, Puts, Checked, OnLine};
 
@@ -7,7 +8,7 @@ use line::Line;
 use rules::{GoAnswer, OpenAnswer, Position, Set};
 
 // The position that the console holds after a command, and the line that is printed.
-#[derive(Drop)]
+#[derive(Clone, Copy)]
 pub struct CheckAfter {
     pub position: Position,
     pub line: Line,

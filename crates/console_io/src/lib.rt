@@ -1,5 +1,6 @@
 // The console's reading and writing: lines are put together from the bytes that come, each is obeyed, and what is printed is written
 // out.
+#![tactic(auto)]
 ghost use Rattle.std.specs.Prelude.{◌≡◌, ◌≤◌};
 ghost use Rattle.console_obey.specs.Obeyed.{Obeyed};
 ghost use Rattle.console_io.specs.Room.{half_page, Roomy};
@@ -12,7 +13,7 @@ const HALF_PAGE: usize = 32768;
 
 // What is carried from one reading to the next: the desk, how many bytes of the line have come (4,097 stand for any more), how
 // many bytes stand on the page, and whether to go on.
-#[derive(Drop)]
+#[derive(Clone, Copy)]
 pub struct Carry {
     pub desk: Desk,
     pub len: usize,

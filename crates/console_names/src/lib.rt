@@ -1,9 +1,10 @@
 // The console's commands by name, in groups, and what each asks for.
+#![tactic(auto)]
 ghost use Rattle.std.specs.Prelude.{◌≡◌, ◌∷◌, []};
 ghost use Rattle.console_names.specs.Rows.{most_bytes, if_named, set_row, state_row, party_row, question_row, replay_row, cable_row, check_row, row_of};
 
 // The commands that change the set.
-#[derive(Drop)]
+#[derive(Clone, Copy)]
 pub enum SetCommand {
     Read,
     Streams,
@@ -16,7 +17,7 @@ pub enum SetCommand {
 }
 
 // The commands that change the state, and what a start uses.
-#[derive(Drop)]
+#[derive(Clone, Copy)]
 pub enum StateCommand {
     Start,
     Clock,
@@ -34,7 +35,7 @@ pub enum StateCommand {
 }
 
 // The commands that ask, and change nothing.
-#[derive(Drop)]
+#[derive(Clone, Copy)]
 pub enum Question {
     Write,
     Valid,
@@ -48,7 +49,7 @@ pub enum Question {
 }
 
 // The commands of the replay.
-#[derive(Drop)]
+#[derive(Clone, Copy)]
 pub enum ReplayCommand {
     Recording,
     Next,
@@ -57,7 +58,7 @@ pub enum ReplayCommand {
 }
 
 // The commands of the service cable.
-#[derive(Drop)]
+#[derive(Clone, Copy)]
 pub enum CableCommand {
     Cable,
     Feed,
@@ -65,7 +66,7 @@ pub enum CableCommand {
 }
 
 // The commands of a check in calls.
-#[derive(Drop)]
+#[derive(Clone, Copy)]
 pub enum CheckCommand {
     Open,
     Go,
@@ -73,7 +74,7 @@ pub enum CheckCommand {
 }
 
 // What a line asks for.
-#[derive(Drop)]
+#[derive(Clone, Copy)]
 pub enum Command {
     // An empty line.
     Nothing,
@@ -90,7 +91,7 @@ pub enum Command {
 }
 
 // What stands behind a command's numbers.
-#[derive(Drop)]
+#[derive(Clone, Copy)]
 pub enum Text {
     Nothing,
     Hex,
@@ -102,7 +103,7 @@ pub enum Text {
 pub const NUMBERS: usize = 5;
 
 // A command, how many numbers it has, what each may at most be, and what stands behind them.
-#[derive(Drop)]
+#[derive(Clone, Copy)]
 pub struct Row {
     pub command: Command,
     pub count: usize,

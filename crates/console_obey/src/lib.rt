@@ -1,5 +1,6 @@
 // The console's desk: a line's command is obeyed, and what it prints goes on the page. Which command a line is is decided in
 // `console_parse`, what it leaves and prints in the crate of its group.
+#![tactic(auto)]
 ghost use Rattle.std.specs.Prelude.{◌≡◌, true, ◌≤◌, length};
 ghost use Rattle.ascii.specs.Hex.{unhexed};
 ghost use Rattle.page.specs.Pages.{room_for};
@@ -16,7 +17,7 @@ use rules::{Position, Set, State};
 use sheet_carried::Carried;
 
 // What the console holds.
-#[derive(Drop)]
+#[derive(Clone, Copy)]
 pub struct Desk {
     pub set: Set,
     pub state: State,
@@ -27,7 +28,7 @@ pub struct Desk {
 }
 
 // What the console holds after a command, and where the page ends.
-#[derive(Drop)]
+#[derive(Clone, Copy)]
 pub struct Step {
     pub desk: Desk,
     pub at: usize,

@@ -1,4 +1,5 @@
 // What a line of the console asks for.
+#![tactic(auto)]
 ghost use Rattle.std.specs.Prelude.{◌≡◌, ◌∷◌, [], ◌+◌, ◌-◌, ◌≤◌, length, drop};
 ghost use Rattle.console_parse.specs.Bytes.{front, is_hex_text, is_steps};
 ghost use Rattle.console_parse.specs.Scan.{got_of, next_of, step_byte, filled};
@@ -10,7 +11,7 @@ use console_names::{Command, NUMBERS, Row, Text};
 pub const LONGEST: usize = 4096;
 
 // A command with its numbers, zeros behind them, and where its text starts in the line: at the line's end where it has none.
-#[derive(Drop)]
+#[derive(Clone, Copy)]
 pub struct Order {
     pub command: Command,
     pub numbers: [u32; NUMBERS],
@@ -32,7 +33,7 @@ fn word_end(line: &[u8], at: usize) -> usize
     i
 }
 
-#[derive(Drop)]
+#[derive(Clone, Copy)]
 enum Got {
     Is(u32),
     Bad,
@@ -68,7 +69,7 @@ fn number_of(w: &[u8], most: u32) -> Got
 }
 
 // A number behind its space: what it is, and where it ends.
-#[derive(Drop)]
+#[derive(Clone, Copy)]
 enum Next {
     Is(u32, usize),
     Bad,

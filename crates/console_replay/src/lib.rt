@@ -1,4 +1,5 @@
 // The console's replay and its recordings: what each command leaves of what the console holds, and what it prints.
+#![tactic(auto)]
 ghost use Rattle.std.specs.Prelude.{◌≡◌, ◌≤◌, true, length, take, replicate};
 ghost use Rattle.rules.specs.Recordings.{replay_step};
 ghost use Rattle.record_call.specs.Places.{place};
@@ -22,7 +23,7 @@ const MOST_BYTES: usize = console_names::MOST_BYTES as usize;
 const RECORD_ROOM: usize = line::ROOM + (2 * MOST_BYTES + 1);
 
 // What the console holds of a replay: the recording, in the first len of its bytes, and the reader's place.
-#[derive(Drop)]
+#[derive(Clone, Copy)]
 pub struct Replay {
     pub bytes: [u8; MOST_BYTES],
     pub len: usize,
@@ -31,7 +32,7 @@ pub struct Replay {
 }
 
 // What the console holds after a command, and the line that is printed.
-#[derive(Drop)]
+#[derive(Clone, Copy)]
 pub struct ReplayAfter {
     pub replay: Replay,
     pub state: State,

@@ -1,4 +1,5 @@
 // The console's commands that change the set: what each leaves of it, and what it prints.
+#![tactic(auto)]
 ghost use Rattle.std.specs.Prelude.{◌≡◌};
 ghost use Rattle.ascii.specs.Decimal.{letters};
 ghost use Rattle.line.specs.Line.{holding};
@@ -10,7 +11,7 @@ use line::Line;
 use rules::{Set, Stage, Stream, Tuple, TuplePlace};
 
 // The set after a command, and the line that is printed.
-#[derive(Drop)]
+#[derive(Clone, Copy)]
 pub struct SetAfter {
     pub set: Set,
     pub line: Line,

@@ -1,4 +1,5 @@
 // The console's commands that change the state, or what a start uses: what each leaves of them, and what it prints.
+#![tactic(auto)]
 ghost use Rattle.std.specs.Prelude.{◌≡◌};
 ghost use Rattle.ascii.specs.Decimal.{letters};
 ghost use Rattle.line.specs.Line.{holding};
@@ -10,14 +11,14 @@ use line::Line;
 use rules::{Message, Owner, Party, Places, Set, State};
 
 // What a start uses beside the set: whose each stream is, and the parties' places.
-#[derive(Drop)]
+#[derive(Clone, Copy)]
 pub struct Terms {
     pub owners: [Owner; 16],
     pub places: Places,
 }
 
 // The state after a command, what a start then uses, and the line that is printed.
-#[derive(Drop)]
+#[derive(Clone, Copy)]
 pub struct StateAfter {
     pub state: State,
     pub terms: Terms,

@@ -1,4 +1,5 @@
 // What the programs share of the world outside: the file set.bin, standard input in whole, and a line written out.
+#![tactic(auto)]
 ghost use Rattle.std.specs.Prelude.{◌≡◌, length};
 
 use libc::{STDERR_FILENO, STDIN_FILENO, STDOUT_FILENO};
@@ -75,7 +76,7 @@ pub fn input_buffer() -> [u8; 2097153]
 }
 
 // The bytes of the whole input, or that a message on standard error says why there are none.
-#[derive(Drop)]
+#[derive(Clone, Copy)]
 pub enum Input {
     Whole(usize),
     Told,

@@ -136,6 +136,7 @@ module _ {A : Type 0} where
 
   pub any_member : (p : A → Bool) {m : A} {l : List A} → Memᴰ m l → T (p m) → T (any p l)
   unfolding any
+  any_member p {m = m} {l = []} x5 t = elim x5 [ ]
   any_member p {l = b ∷ xs} (Memᴰ.head e) t = go (p b) (any p xs) (subst (λ (x : A). T (p x)) e t)
     where
       go : (a b : Bool) → T a → T (a || b)
@@ -173,6 +174,7 @@ module _ {A : Type 0} where
     pub there : get_or l place d ≡ m
 
   pub mem_at : (l : List A) (d : A) {m : A} → Memᴰ m l → PlacedAt l d m
+  mem_at [] d {m = m} x' = elim x' [ ]
   mem_at (x ∷ l) d (Memᴰ.head e) = record { place = 0; inside = omega arith; there = sym e }
   mem_at (x ∷ l) d (Memᴰ.tail i) =
       let p : PlacedAt l d _ = mem_at l d i in

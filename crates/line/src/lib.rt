@@ -1,4 +1,5 @@
 // Text as the programs print it: a line that is put together from words and numbers.
+#![tactic(auto)]
 ghost use Rattle.std.specs.Prelude.{◌≡◌, ◌++◌, ◌∷◌, [], nat_abs};
 ghost use Rattle.ascii.specs.Decimal.{digits_of, decimal_of, signed_of, spaced};
 ghost use Rattle.line.specs.Line.{holding, put_of, puts};
@@ -7,7 +8,7 @@ ghost use Rattle.line.specs.Line.{holding, put_of, puts};
 pub const ROOM: usize = 128;
 
 // A line: its bytes stand in the first len places.
-#[derive(Drop)]
+#[derive(Clone, Copy)]
 pub struct Line {
     pub bytes: [u8; ROOM],
     pub len: usize,

@@ -1,4 +1,5 @@
 // The load check: demand and the verdict of a set, which speaks of every length.
+#![tactic(auto)]
 mod dues; // dues.rt: a set's tuples laid out in rows, and what is due by a length
 mod blocked; // blocked.rt: the blocking of each task
 mod lengths; // lengths.rt: the testing of a range of lengths
@@ -13,7 +14,7 @@ use load_cycles::Opening;
 use rules::{CountAnswer, ReadAnswer, Refusal, Set, Verdict};
 
 // The tuples of a set as rows: row k is due first at the length firsts[k], and again each cycles[k], with costs[k] each time.
-#[derive(Drop)]
+#[derive(Clone, Copy)]
 pub(crate) struct Rows {
     pub count: usize,
     pub costs: [u32; 64],
@@ -22,14 +23,14 @@ pub(crate) struct Rows {
 }
 
 // What testing a row of lengths finds: no late one, or the first late one and its demand.
-#[derive(Drop)]
+#[derive(Clone, Copy)]
 pub(crate) enum Tested {
     Clear,
     Late(u64, u64),
 }
 
 // What is found of lengths of a set: no late one, or the first late one and its demand; 7 for an invalid set.
-#[derive(Drop)]
+#[derive(Clone, Copy)]
 pub enum Found {
     Clear,
     Late(u64, u64),

@@ -1,4 +1,5 @@
 // The cycles of a set: their least common multiple H, a stream's cost, the long-run load, and how a check begins.
+#![tactic(auto)]
 mod ends; // ends.rt: the greatest deadline and offset, and the end of the lengths to test
 mod joins; // joins.rt: the least common multiple of the cycles, and the long-run load
 
@@ -12,14 +13,14 @@ ghost use Rattle.load_cycles.specs.Openings.{OpeningOf};
 use rules::{CountAnswer, Refusal, Set, Stream, Verdict};
 
 // H so far, or that it is above 1,000,000.
-#[derive(Drop)]
+#[derive(Clone, Copy)]
 pub(crate) enum Joined {
     Is(u32),
     Above,
 }
 
 // How a check begins: it is stopped before any length, or it goes on up to an end, which is not tested.
-#[derive(Drop)]
+#[derive(Clone, Copy)]
 pub enum Opening {
     Stops(Verdict),
     Until(u32),

@@ -1,4 +1,5 @@
 // Bytes as two hex digits each, read and printed.
+#![tactic(auto)]
 ghost use Rattle.std.specs.Prelude.{◌≡◌, ◌∷◌, [], ◌+◌, ◌*◌, ◌/◌, ◌%◌};
 ghost use Rattle.ascii.specs.Hex.{hex_of, hex_digit, hexed};
 ghost use Rattle.page.specs.Pages.{Onto};

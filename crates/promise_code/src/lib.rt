@@ -1,11 +1,12 @@
 // Demand 3 of the code itself: a set is judged, started and run with the library's functions, and the contract carries the promise.
+#![tactic(auto)]
 ghost use Rattle.promise_code.specs.Promised.{Promised};
 ghost use Rattle.scheduler_run.specs.Calls.{calls_of};
 
 use rules::{Set, State, Verdict};
 
 // The verdict on a set, the last state of a run of it, and whether a message was pending at its deadline at any moment.
-#[derive(Drop)]
+#[derive(Clone, Copy)]
 pub struct JudgedRun {
     pub verdict: Verdict,
     pub missed: bool,

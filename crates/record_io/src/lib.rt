@@ -1,5 +1,6 @@
 // The record program's reading and writing; what is written is decided by proved functions.
 // A function that writes answers whether all was written.
+#![tactic(auto)]
 ghost use Rattle.std.specs.Prelude.{◌≡◌, length};
 
 use file_io::Input;

@@ -1,4 +1,5 @@
 // A trace's recording, in a lent buffer.
+#![tactic(auto)]
 ghost use Rattle.std.specs.Prelude.{◌≡◌, ◌+◌, ◌^◌, ◌<◌, length, leb};
 ghost use Rattle.laws.specs.Bits.{bytes_for};
 ghost use Rattle.record_trace.specs.Traces.{trace_record_of, trace_recorded_to};
@@ -8,7 +9,7 @@ use rules::{AppendAnswer, Call, RecordAnswer, Refusal};
 use trace_bytes::Heard;
 
 // A trace as far as it was taken: the place behind its calls, whether a p waits for its digit, and whether a byte was no step.
-#[derive(Drop)]
+#[derive(Clone, Copy)]
 pub struct Taking {
     pub byte: usize,
     pub bit: u32,

@@ -1,4 +1,5 @@
 // The replay program's reading and writing; what is read and written is decided by proved functions.
+#![tactic(auto)]
 use file_io::Input;
 use libc::STDOUT_FILENO;
 use replay_lines::Replaying;

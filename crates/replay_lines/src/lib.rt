@@ -1,4 +1,5 @@
 // The replay program: the steps of a recording, and all that is printed.
+#![tactic(auto)]
 ghost use Rattle.std.specs.Prelude.{◌≡◌, ◌++◌};
 ghost use Rattle.line.specs.Line.{holding};
 ghost use Rattle.replay_lines.specs.Replaying.{Begun, goes_on, next_replaying, next_line, replaying_after, line_after, PageFilled};
@@ -7,7 +8,7 @@ use line::Line;
 use rules::{ReadResult, ReplayAnswer, State};
 
 // A replay under way: the scheduler's state, the reader's place in the recording, and whether the replay goes on.
-#[derive(Drop)]
+#[derive(Clone, Copy)]
 pub struct Replaying {
     pub state: State,
     pub byte: usize,
@@ -16,7 +17,7 @@ pub struct Replaying {
 }
 
 // A replay under way, and the line that is printed on the way there.
-#[derive(Drop)]
+#[derive(Clone, Copy)]
 pub struct ReplayTurn {
     pub replaying: Replaying,
     pub line: Line,
@@ -88,7 +89,7 @@ pub fn take_step(recording: &[u8], r: Replaying) -> ReplayTurn
 // ---- a page
 
 // A replay after a page of its lines, and how many bytes of the page they have filled.
-#[derive(Drop)]
+#[derive(Clone, Copy)]
 pub struct Filled {
     pub replaying: Replaying,
     pub len: usize,

@@ -1,11 +1,12 @@
 // The office reader: a lent recording together with the place in it. The work of a step stands in `replay_step`.
+#![tactic(auto)]
 ghost use Rattle.std.specs.Prelude.{◌≡◌};
 ghost use Rattle.replay_reader.specs.Readers.{at_start, next_of};
 
 use rules::{ReplayAnswer, State};
 
 // A lent recording, and the place of the next step in it: a byte, and a bit behind its first.
-#[derive(Drop)]
+#[derive(Clone, Copy)]
 pub struct Reader<'a> {
     pub recording: &'a [u8],
     pub byte: usize,
@@ -13,7 +14,7 @@ pub struct Reader<'a> {
 }
 
 // What a step gives: the answer, the state, and the reader.
-#[derive(Drop)]
+#[derive(Clone, Copy)]
 pub struct Step<'a> {
     pub answer: ReplayAnswer,
     pub state: State,

@@ -1,8 +1,9 @@
 // The things that documents 01 and 02 name, as the machine holds them. What they mean stands in specs/.
+#![tactic(auto)]
 
 // A tuple is either once at an offset, or every cycle z from an offset.
 // `Once` comes first: the zero of a place is then once at 0, document 01's unused tuple.
-#[derive(Drop)]
+#[derive(Clone, Copy)]
 pub enum Tuple {
     // offset
     Once(u32),
@@ -11,20 +12,20 @@ pub enum Tuple {
 }
 
 // A place of a stream's array of tuples.
-#[derive(Drop)]
+#[derive(Clone, Copy)]
 pub struct TuplePlace {
     pub tuple: Tuple,
 }
 
 // A stage of a stream: a task and a cost c.
-#[derive(Drop)]
+#[derive(Clone, Copy)]
 pub struct Stage {
     pub task: usize,
     pub cost: u32,
 }
 
 // A stream: its depth, how many stages it has, and 4 places for them; its relative deadline d; how many tuples it has, and 4 places for them.
-#[derive(Drop)]
+#[derive(Clone, Copy)]
 pub struct Stream {
     pub depth: usize,
     pub stages: [Stage; 4],
@@ -34,7 +35,7 @@ pub struct Stream {
 }
 
 // A set: how many streams it has, and 16 places for them; the version of its sheet.
-#[derive(Drop)]
+#[derive(Clone, Copy)]
 pub struct Set {
     pub count: usize,
     pub streams: [Stream; 16],
@@ -42,7 +43,7 @@ pub struct Set {
 }
 
 // A message: its stream, its absolute deadline, the units it has used in its stage, and its stage, from 0.
-#[derive(Drop)]
+#[derive(Clone, Copy)]
 pub struct Message {
     pub stream: usize,
     pub deadline: u32,
@@ -51,20 +52,20 @@ pub struct Message {
 }
 
 // The two parties that share the message table: ours, and the partner's.
-#[derive(Drop)]
+#[derive(Clone, Copy)]
 pub enum Party {
     Ours,
     Theirs,
 }
 
 // The owner of a stream.
-#[derive(Drop)]
+#[derive(Clone, Copy)]
 pub struct Owner {
     pub party: Party,
 }
 
 // How many places each party has.
-#[derive(Drop)]
+#[derive(Clone, Copy)]
 pub struct Places {
     pub ours: u32,
     pub theirs: u32,
@@ -72,7 +73,7 @@ pub struct Places {
 
 // The state: a set, the clock, how many messages are pending, and 64 places for them in posting order; what each stream has left to wait at its door;
 // each stream's owner, and the parties' numbers of places.
-#[derive(Drop)]
+#[derive(Clone, Copy)]
 pub struct State {
     pub set: Set,
     pub clock: u32,
@@ -84,7 +85,7 @@ pub struct State {
 }
 
 // The door of a stream: none, one post for ever, or posts that are spaced by a cycle and an offset.
-#[derive(Drop)]
+#[derive(Clone, Copy)]
 pub enum Door {
     Unguarded,
     Single,
@@ -99,7 +100,7 @@ pub const LAST_CLOCK: u32 = 4000000000;
 pub const LONGEST_SHEET: usize = 502;
 
 // Why a call is refused. specs/Numbers.antt gives the number that the cab prints for each.
-#[derive(Drop)]
+#[derive(Clone, Copy)]
 pub enum Refusal {
     NoStream,
     Full,
@@ -119,32 +120,32 @@ pub enum Refusal {
     Crowded,
 }
 
-#[derive(Drop)]
+#[derive(Clone, Copy)]
 pub enum StartAnswer {
     Started,
     Refused(Refusal),
 }
 
-#[derive(Drop)]
+#[derive(Clone, Copy)]
 pub struct StartResult {
     pub answer: StartAnswer,
     pub state: State,
 }
 
-#[derive(Drop)]
+#[derive(Clone, Copy)]
 pub enum PostAnswer {
     // stream, deadline
     Posted(usize, u32),
     Refused(Refusal),
 }
 
-#[derive(Drop)]
+#[derive(Clone, Copy)]
 pub struct PostResult {
     pub answer: PostAnswer,
     pub state: State,
 }
 
-#[derive(Drop)]
+#[derive(Clone, Copy)]
 pub enum ChooseAnswer {
     Nothing,
     // task, stream
@@ -152,7 +153,7 @@ pub enum ChooseAnswer {
     Refused(Refusal),
 }
 
-#[derive(Drop)]
+#[derive(Clone, Copy)]
 pub enum UnitAnswer {
     // task, stream
     Ran(usize, usize),
@@ -166,14 +167,14 @@ pub enum UnitAnswer {
     Refused(Refusal),
 }
 
-#[derive(Drop)]
+#[derive(Clone, Copy)]
 pub struct UnitResult {
     pub answer: UnitAnswer,
     pub state: State,
 }
 
 // A call: a post to a stream, or a unit, with done or without.
-#[derive(Drop)]
+#[derive(Clone, Copy)]
 pub enum Call {
     // stream
     Posts(usize),
@@ -181,32 +182,32 @@ pub enum Call {
     Units(bool),
 }
 
-#[derive(Drop)]
+#[derive(Clone, Copy)]
 pub enum CallAnswer {
     ToPost(PostAnswer),
     ToUnit(UnitAnswer),
 }
 
-#[derive(Drop)]
+#[derive(Clone, Copy)]
 pub struct CallResult {
     pub answer: CallAnswer,
     pub state: State,
 }
 
 // What an event limit or a demand that is asked for answers.
-#[derive(Drop)]
+#[derive(Clone, Copy)]
 pub enum CountAnswer {
     Number(u64),
     Refused(Refusal),
 }
 
-#[derive(Drop)]
+#[derive(Clone, Copy)]
 pub enum JitterAnswer {
     Tuples(Tuple, Tuple),
     Refused(Refusal),
 }
 
-#[derive(Drop)]
+#[derive(Clone, Copy)]
 pub enum Verdict {
     Accept,
     // the least length where demand is above it, and that demand
@@ -215,26 +216,26 @@ pub enum Verdict {
     Refused(Refusal),
 }
 
-#[derive(Drop)]
+#[derive(Clone, Copy)]
 pub enum ReadAnswer {
     Read,
     Refused(Refusal),
 }
 
-#[derive(Drop)]
+#[derive(Clone, Copy)]
 pub struct ReadResult {
     pub answer: ReadAnswer,
     pub set: Set,
 }
 
 // What feeding a piece of a sheet answers: nothing is told of the sheet before closing.
-#[derive(Drop)]
+#[derive(Clone, Copy)]
 pub enum FeedAnswer {
     Fed,
     Refused(Refusal),
 }
 
-#[derive(Drop)]
+#[derive(Clone, Copy)]
 pub enum WriteAnswer {
     // bytes written
     Wrote(usize),
@@ -242,7 +243,7 @@ pub enum WriteAnswer {
 }
 
 // What the bits at a place of a recording say: a call, the end, or why neither.
-#[derive(Drop)]
+#[derive(Clone, Copy)]
 pub enum Mark {
     Makes(Call),
     Ends,
@@ -250,7 +251,7 @@ pub enum Mark {
 }
 
 // What a step of a replay answers: what the call answers, that the recording ends, or why there is no step.
-#[derive(Drop)]
+#[derive(Clone, Copy)]
 pub enum ReplayAnswer {
     Called(CallAnswer),
     Ended,
@@ -258,7 +259,7 @@ pub enum ReplayAnswer {
 }
 
 // The answer, the state, and the reader's place: a byte, and a bit behind its first.
-#[derive(Drop)]
+#[derive(Clone, Copy)]
 pub struct ReplayResult {
     pub answer: ReplayAnswer,
     pub state: State,
@@ -267,20 +268,20 @@ pub struct ReplayResult {
 }
 
 // How a replay begins: what the sheet reads as, and the start of its set.
-#[derive(Drop)]
+#[derive(Clone, Copy)]
 pub struct ReplayStart {
     pub answer: ReadAnswer,
     pub state: State,
 }
 
 // What appending a call to a recording answers: the place behind it, or why it was not appended.
-#[derive(Drop)]
+#[derive(Clone, Copy)]
 pub enum AppendAnswer {
     Appended(usize, u32),
     Refused(Refusal),
 }
 
-#[derive(Drop)]
+#[derive(Clone, Copy)]
 pub enum RecordAnswer {
     // bytes of the recording
     Recorded(usize),
@@ -288,28 +289,28 @@ pub enum RecordAnswer {
 }
 
 // Where a check in calls stands: its set, and the next length to test.
-#[derive(Drop)]
+#[derive(Clone, Copy)]
 pub struct Position {
     pub set: Set,
     pub next: u32,
 }
 
 // How a check in calls begins: with a position, or it stops with a verdict before any length.
-#[derive(Drop)]
+#[derive(Clone, Copy)]
 pub enum OpenAnswer {
     Opened,
     Stops(Verdict),
 }
 
 // With a verdict there is no position; the empty set at length 0 stands in its place.
-#[derive(Drop)]
+#[derive(Clone, Copy)]
 pub struct OpenResult {
     pub answer: OpenAnswer,
     pub position: Position,
 }
 
 // What a call of a check answers: how many lengths it tested, with a next position or with the verdict; or why it tested none.
-#[derive(Drop)]
+#[derive(Clone, Copy)]
 pub enum GoAnswer {
     // lengths tested
     Next(u32),
@@ -318,7 +319,7 @@ pub enum GoAnswer {
     Refused(Refusal),
 }
 
-#[derive(Drop)]
+#[derive(Clone, Copy)]
 pub struct GoResult {
     pub answer: GoAnswer,
     pub position: Position,

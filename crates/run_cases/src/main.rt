@@ -1,4 +1,5 @@
 // Runs the stored cases: random sheets and traces, whose expected output the second program wrote.
+#![tactic(auto)]
 use case_io::Kind;
 
 fn main() {

@@ -1,4 +1,5 @@
 // The trace program on a sheet with a byte too many.
+#![tactic(auto)]
 fn main() {
     trace_io::run();
 }

@@ -1,4 +1,5 @@
 // Sheets in pieces: every cut of a sheet of each version, what is refused, and what no pieces could have left.
+#![tactic(auto)]
 use rules::{ReadAnswer, Set, WriteAnswer};
 use sheet_carried::{Carried, Point};
 

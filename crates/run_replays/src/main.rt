@@ -1,4 +1,5 @@
 // Replays the stored cases: sheets and recordings, whose expected output the second program wrote.
+#![tactic(auto)]
 use case_io::Kind;
 
 fn main() {

@@ -1,4 +1,5 @@
 // Sheets that are read, and buffers that they are written to: what the paper names, and each rule at its boundary.
+#![tactic(auto)]
 
 use rules::{ReadAnswer, Refusal, Set, WriteAnswer};
 

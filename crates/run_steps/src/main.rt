@@ -1,4 +1,5 @@
 // Runs the steps at their edges and prints what they answer: the places, states that are not well formed, ways a cab has gone wrong, stages, doors, and two parties.
+#![tactic(auto)]
 mod broken;
 mod doors;
 mod parties;

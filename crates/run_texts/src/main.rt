@@ -1,4 +1,5 @@
 // Reads the texts of a file: good ones, and one for each fault.
+#![tactic(auto)]
 fn main() {
     text_io::batch();
 }

@@ -1,4 +1,5 @@
 // The steps of the scheduler: start, post, choose and unit.
+#![tactic(auto)]
 ghost use Rattle.std.specs.Prelude.{◌≡◌, ◌<◌};
 ghost use Rattle.rules.specs.Steps.{fresh_for, start_refused, start_for, start_of, post_of, choose_of, laxity_of, unit_of, call_of};
 ghost use Rattle.scheduler.specs.Serving.{work_of, served_answer, stepped_on};
@@ -123,7 +124,7 @@ pub fn choose(s: State) -> ChooseAnswer
 // ---- unit
 
 // What a unit is to do: it is refused, only the clock moves, or the message at a place is served, in a stage of a task and a cost c, its last or not.
-#[derive(Drop)]
+#[derive(Clone, Copy)]
 enum Work {
     Refused(Refusal),
     Idle,

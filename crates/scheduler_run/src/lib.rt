@@ -1,4 +1,5 @@
 // A run of the scheduler from a fresh start: calls from a lent slice, one byte each.
+#![tactic(auto)]
 ghost use Rattle.std.specs.Prelude.{◌≡◌};
 ghost use Rattle.rules.specs.Steps.{call_of};
 ghost use Rattle.rules.specs.Runs.{start_at, run_from, run_of, missed_now};
@@ -7,7 +8,7 @@ ghost use Rattle.scheduler_run.specs.Calls.{call_byte, calls_of, EndOf};
 use rules::{Set, State};
 
 // How a run ends: its last state, and whether a message was pending at its deadline at any moment.
-#[derive(Drop)]
+#[derive(Clone, Copy)]
 pub struct Ended {
     pub state: State,
     pub missed: bool,

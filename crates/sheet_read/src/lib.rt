@@ -1,5 +1,6 @@
 // A sheet is read, of either version: whole, or in pieces.
 // The reader takes bits: it keeps the whole fields that it has read, and the bits that have come of the next one.
+#![tactic(auto)]
 mod closing; // closing.rt: what the sheet reads as when no bit comes any more
 mod feeding; // feeding.rt: bits come, field after field
 mod table; // table.rt: the fields of a sheet as data
@@ -14,7 +15,7 @@ use rules::{FeedAnswer, ReadAnswer, ReadResult, Refusal, TuplePlace};
 use sheet_carried::Carried;
 
 // Tuples that came at once: how many, and the tuples; the cycle and the offset that are kept behind them; the place behind them.
-#[derive(Drop)]
+#[derive(Clone, Copy)]
 pub(crate) struct Came {
     pub whole: usize,
     pub places: [TuplePlace; 4],
@@ -34,7 +35,7 @@ pub fn read(bytes: &[u8]) -> ReadResult
 // ---- in pieces
 
 // What feeding a piece answers, and what is carried behind it.
-#[derive(Drop)]
+#[derive(Clone, Copy)]
 pub struct FeedResult {
     pub answer: FeedAnswer,
     pub carried: Carried,

@@ -1,4 +1,5 @@
 // Makes the file set.bin of a readable text from standard input.
+#![tactic(auto)]
 fn main() {
     text_io::make();
 }

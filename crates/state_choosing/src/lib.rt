@@ -1,4 +1,5 @@
 // Which pending message is served.
+#![tactic(auto)]
 ghost use Rattle.std.specs.Prelude.{◌≡◌, true, ◌<◌};
 ghost use Rattle.rules.specs.States.{well_formed};
 ghost use Rattle.rules.specs.Steps.{message_at, choose_of};
@@ -9,7 +10,7 @@ use rules::{ChooseAnswer, Refusal, State};
 
 // What there is to serve in a state: nothing where it is not well formed, nothing pending, or the message at a place, with the task and the
 // cost c of its stage, and whether that is its last.
-#[derive(Drop)]
+#[derive(Clone, Copy)]
 pub enum ToServe {
     IllFormed,
     Nothing,
@@ -18,14 +19,14 @@ pub enum ToServe {
 
 // What looking tells: what there is to serve, and what a unit that moves the clock leaves of the waits; the waits as they are where the state is not
 // well formed.
-#[derive(Drop)]
+#[derive(Clone, Copy)]
 pub struct Looked {
     pub found: ToServe,
     pub later: [u32; 16],
 }
 
 // The message that is served, by its place, with the same.
-#[derive(Drop)]
+#[derive(Clone, Copy)]
 struct Found {
     place: usize,
     task: usize,

@@ -1,4 +1,5 @@
 // Is a state well formed? And the readers that the steps use.
+#![tactic(auto)]
 ghost use Rattle.std.specs.Prelude.{◌≡◌};
 ghost use Rattle.rules.specs.States.{no_message, message_unused, well_formed};
 ghost use Rattle.state_formed.specs.InRange.{failing, tested_of, whole_of};
@@ -25,7 +26,7 @@ fn message_unused(m: Message) -> bool
 
 // What the tests of a state but for its set's say, what a unit that moves the clock leaves of the waits, and how many pending messages each party has; the
 // waits as they are, and none, where a test fails.
-#[derive(Drop)]
+#[derive(Clone, Copy)]
 pub struct Tested {
     pub sound: bool,
     pub later: [u32; 16],

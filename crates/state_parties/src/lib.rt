@@ -1,4 +1,5 @@
 // Whose the pending messages are, and whether each party keeps to its places.
+#![tactic(auto)]
 ghost use Rattle.std.specs.Prelude.{◌≡◌, leb, drop, take};
 ghost use Rattle.laws.specs.Lists.{all};
 ghost use Rattle.rules.specs.Parties.{same, owns, together, owner_unused, owners_for, all_ours, all_places};
@@ -43,7 +44,7 @@ fn theirs_at(owners: [Owner; 16], k: usize) -> bool
 // ---- all of them
 
 // How many of the pending messages each party has.
-#[derive(Drop)]
+#[derive(Clone, Copy)]
 pub struct Held {
     pub ours: u32,
     pub theirs: u32,
@@ -90,7 +91,7 @@ pub fn places_fit(places: Places) -> bool
 }
 
 // Whether the parties' rules are kept, and how many of the pending messages each has.
-#[derive(Drop)]
+#[derive(Clone, Copy)]
 pub struct Shared {
     pub fits: bool,
     pub held: Held,

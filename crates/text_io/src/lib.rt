@@ -1,5 +1,6 @@
 // The reading and writing of the programs for readable sheets; what is read and written is decided by proved functions.
 // A function that writes answers whether all was written.
+#![tactic(auto)]
 use libc::{STDIN_FILENO, STDOUT_FILENO};
 use rules::{ReadAnswer, ReadResult, Refusal, Set, Verdict, WriteAnswer};
 use text_read::{Draft, Finding, TextRead};
@@ -35,7 +36,7 @@ pub fn show() -> bool {
 // ---- a sheet, from a set's text
 
 // The text as far as it has come, whether more may come, and whether all of it has.
-#[derive(Drop)]
+#[derive(Clone, Copy)]
 struct Ear {
     draft: Draft,
     going: bool,
@@ -152,7 +153,7 @@ fn print_found(r: TextRead) -> bool {
 }
 
 // The text that is being read, and its number.
-#[derive(Drop)]
+#[derive(Clone, Copy)]
 struct Pile {
     draft: Draft,
     number: u64,

@@ -1,5 +1,6 @@
 // A stream as a line of text: `task 0 cost 2 deadline 5 once@0 every 20@16`, or `task 0 cost 2 deadline 5 jitter 20 2`;
 // in a text of version 2 with its stages: `task 1 cost 2 task 4 cost 3 deadline 40 every 50@0`.
+#![tactic(auto)]
 ghost use Rattle.std.specs.Prelude.{◌≡◌, ◌++◌, [], ◌-◌, ◌≤◌, drop, take};
 ghost use Rattle.laws.specs.Lists.{flat};
 ghost use Rattle.rules.specs.Streams.{stages_of, tuples_of, no_stage, no_tuple, no_stream};
@@ -11,7 +12,7 @@ use rules::{JitterAnswer, Stage, Stream, Tuple, TuplePlace};
 use text_tidy::Row;
 
 // Why a line is no stream.
-#[derive(Drop)]
+#[derive(Clone, Copy)]
 pub enum Fault {
     NotTask,
     Task,
@@ -33,7 +34,7 @@ pub enum Fault {
 }
 
 // A word with a number behind it: the number and where it ends.
-#[derive(Drop)]
+#[derive(Clone, Copy)]
 pub enum NumberRead {
     Is(u32, usize),
     Missing,
@@ -41,7 +42,7 @@ pub enum NumberRead {
 }
 
 // A stage, and where what stands behind it begins.
-#[derive(Drop)]
+#[derive(Clone, Copy)]
 pub enum StageRead {
     Is(Stage, usize),
     Missing,
@@ -49,14 +50,14 @@ pub enum StageRead {
 }
 
 // A tuple, and where it ends.
-#[derive(Drop)]
+#[derive(Clone, Copy)]
 pub enum TupleRead {
     Is(Tuple, usize),
     Bad(Fault),
 }
 
 // What a line says. The stream stands beside it, none where the line says another thing.
-#[derive(Drop)]
+#[derive(Clone, Copy)]
 pub enum Meaning {
     Stream,
     Version,
@@ -64,7 +65,7 @@ pub enum Meaning {
     Bad(Fault),
 }
 
-#[derive(Drop)]
+#[derive(Clone, Copy)]
 pub struct LineRead {
     pub said: Meaning,
     pub stream: Stream,

@@ -1,4 +1,5 @@
 // A readable text of a set, taken byte by byte: one stream a line; in version 2 `version 2` stands before them.
+#![tactic(auto)]
 ghost use Rattle.std.specs.Prelude.{◌≡◌};
 ghost use Rattle.text_read.specs.Texts.{is_fine, following, faulty, onward, with_stream, with_version, line_ended, start_of, step_of, feed_of, close_of, text_read};
 
@@ -7,14 +8,14 @@ use text_line::{Fault, Meaning};
 use text_tidy::Tidy;
 
 // What has been found so far: the first bad line's number and what is wrong with it.
-#[derive(Drop)]
+#[derive(Clone, Copy)]
 pub enum Finding {
     Fine,
     Bad(u64, Fault),
 }
 
 // A text so far: its streams and its version, the number of its line, the line, and what was found.
-#[derive(Drop)]
+#[derive(Clone, Copy)]
 pub struct Draft {
     pub set: Set,
     pub number: u64,
@@ -23,7 +24,7 @@ pub struct Draft {
 }
 
 // A text's answer: its set, which is empty where a line is bad.
-#[derive(Drop)]
+#[derive(Clone, Copy)]
 pub struct TextRead {
     pub found: Finding,
     pub set: Set,

@@ -1,4 +1,5 @@
 // A line of a readable text made tidy, byte by byte: no comment, one space between words, none at the ends.
+#![tactic(auto)]
 ghost use Rattle.std.specs.Prelude.{◌≡◌, []};
 ghost use Rattle.text_tidy.specs.Tidied.{row_of, row_put, is_blank, fresh, spaced_for, kept_of};
 
@@ -6,14 +7,14 @@ ghost use Rattle.text_tidy.specs.Tidied.{row_of, row_put, is_blank, fresh, space
 pub const ROOM: usize = 192;
 
 // The first bytes of a tidy line: they stand in the first len places.
-#[derive(Drop)]
+#[derive(Clone, Copy)]
 pub struct Row {
     pub bytes: [u8; ROOM],
     pub len: usize,
 }
 
 // A line so far: its tidy bytes, whether a comment runs, and whether a gap waits for a byte behind it.
-#[derive(Drop)]
+#[derive(Clone, Copy)]
 pub struct Tidy {
     pub row: Row,
     pub comment: bool,

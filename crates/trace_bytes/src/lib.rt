@@ -1,11 +1,12 @@
 // What a byte of a trace asks for.
+#![tactic(auto)]
 ghost use Rattle.std.specs.Prelude.{◌≡◌};
 ghost use Rattle.trace_bytes.specs.Steps.{between_steps, after_p, heard_of, end_of};
 
 use rules::Call;
 
 // What is asked.
-#[derive(Drop)]
+#[derive(Clone, Copy)]
 pub enum Heard {
     // Nothing: a space or a newline between steps.
     Skip,

@@ -1,4 +1,5 @@
 // The trace program's reading and writing; what is read and written is decided by proved functions.
+#![tactic(auto)]
 use libc::{STDIN_FILENO, STDOUT_FILENO};
 use rules::ReadResult;
 use trace_steps::Tracing;

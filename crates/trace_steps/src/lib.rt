@@ -1,4 +1,5 @@
 // The trace program: the steps that the bytes of a trace ask for, and all that is printed.
+#![tactic(auto)]
 ghost use Rattle.std.specs.Prelude.{◌≡◌, true, false, ◌++◌, [], ◌+◌, ◌*◌, ◌≤◌, length, drop};
 ghost use Rattle.line.specs.Line.{line_room, holding};
 ghost use Rattle.trace_steps.specs.Turns.{was_read, tracing_from, Beginning, going, next_tracing, next_text, tracing_after, text_after, tracing_on, text_on, Ending, PieceTraced};
@@ -8,7 +9,7 @@ use rules::{Call, ReadAnswer, ReadResult, Refusal, Set, State, Verdict};
 use trace_bytes::Heard;
 
 // A trace under way: the scheduler's state, whether a p waits for its digit, and whether the trace goes on.
-#[derive(Drop)]
+#[derive(Clone, Copy)]
 pub struct Tracing {
     pub state: State,
     pub waiting: bool,
@@ -16,7 +17,7 @@ pub struct Tracing {
 }
 
 // A trace under way, and the line that is printed on the way there.
-#[derive(Drop)]
+#[derive(Clone, Copy)]
 pub struct Turn {
     pub tracing: Tracing,
     pub line: Line,
@@ -132,7 +133,7 @@ pub fn take_byte(t: Tracing, b: u8) -> Turn
 // ---- a piece
 
 // A trace after a piece of it, and how many bytes of the page it has filled.
-#[derive(Drop)]
+#[derive(Clone, Copy)]
 pub struct Fed {
     pub tracing: Tracing,
     pub len: usize,
