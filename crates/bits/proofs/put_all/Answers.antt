@@ -24,7 +24,7 @@ loop-i-preserved c =
     let f : List ℕ = to_bits a.width a.v in
     let at : ℕ = 8 * a.byte + a.bit in (
       omega arith,
-      c.set_bit.auto.0 ∙ l.invariant.1,
+      c.set_bit.auto.buf ∙ l.invariant.1,
       c.set_bit.ensures
           ∙ ap₂ (λ (k : List ℕ) (p : ℕ). set k p (a.v / 2 ^ (a.width - 1 - l.i) % 2)) l.invariant.2
           (let e : 8 * (a.byte + (a.bit + l.i) / 8) + (a.bit + l.i) % 8 ≡ at + l.i = omega arith in e)

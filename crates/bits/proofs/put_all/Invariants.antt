@@ -8,6 +8,5 @@ use Rattle.bits.proofs.put_all.Given as goal
 abbrev pub invariant-loop-i : goal.invariant-loop-i
 invariant-loop-i l = (l.i ≤ l.width) × (length l.buf ≡ length l.initial.buf) × (bits l.buf ≡ paste (bits l.initial.buf) (8 * l.byte + l.bit) (to_bits l.width l.v) l.i)
 
-
 abbrev pub decreases-loop-i : goal.decreases-loop-i
 decreases-loop-i l = l.width - l.i

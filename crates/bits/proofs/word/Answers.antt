@@ -1,7 +1,8 @@
 use native.Mathlib.Omega.{arith}
 use Prim.Native.Nat.{◌+◌, ◌-◌, ◌*◌, ◌/◌, ◌%◌, ◌^◌}
+use lib.ListN.{get_or}
 use mathlib.Core.Path.{◌≡◌, ap, sym, ◌∙◌}
-use Rattle.bits.proofs.Words.{field_none, word_field, word_none, word_small}
+use Rattle.bits.proofs.Words.{field_none, word_field, word_more, word_none, word_small}
 use Rattle.bits.specs.Places.{field_at, word_of}
 use Rattle.bits.proofs.word.Goals as goal
 
@@ -19,6 +20,20 @@ loop-j-init c =
 pub overflow_mul-v : goal.overflow_mul-v
 overflow_mul-v c =
     omega (arith, c.loop-j.invariant.1, word_small c.args.s.now c.args.byte c.loop-j.j (omega arith) (omega arith))
+
+-- src/lib.rt:66:13
+pub overflow_add-v-in-loop-j : goal.overflow_add-v-in-loop-j
+overflow_add-v-in-loop-j c =
+    omega (arith, c.type_inv.s (c.args.byte + c.loop-j.j), c.loop-j.invariant.1, word_small c.args.s.now c.args.byte c.loop-j.j (omega arith) (omega arith))
+
+-- src/lib.rt:65:5
+pub loop-j-preserved : goal.loop-j-preserved
+loop-j-preserved c =
+    let a = c.args in
+    let l = c.loop-j in (
+      omega arith,
+      ap (λ v. v * 256 + get_or a.s.now (a.byte + l.j) 0) l.invariant.1 ∙ sym (word_more a.s.now a.byte l.j (omega arith) (c.type_inv.s (a.byte + l.j)).fits),
+    )
 
 -- src/lib.rt:55:1
 pub returns : goal.returns

@@ -6,6 +6,5 @@ use Rattle.bits.proofs.word.Given as goal
 abbrev pub invariant-loop-j : goal.invariant-loop-j
 invariant-loop-j l = (l.j ≤ l.n) × (l.v ≡ word_of l.s l.byte l.j)
 
-
 abbrev pub decreases-loop-j : goal.decreases-loop-j
 decreases-loop-j l = l.n - l.j
