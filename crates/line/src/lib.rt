@@ -1,5 +1,6 @@
 // Text as the programs print it: a line that is put together from words and numbers.
 #![tactic(auto)]
+
 ghost use Rattle.std.specs.Prelude.{◌≡◌, ◌++◌, ◌∷◌, [], nat_abs};
 ghost use Rattle.ascii.specs.Decimal.{digits_of, decimal_of, signed_of, spaced};
 ghost use Rattle.line.specs.Line.{holding, put_of, puts};
