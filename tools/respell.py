@@ -139,6 +139,11 @@ def main():
             # an answer keeps the name of its goal
             for n in re.findall(r"(?m)^(?:abbrev\s+|pub\s+)*([^\s:]+) : (?:tie|goal)\.", t):
                 table.pop(n, None)
+        # the fields of a record that the file opens
+        for m in re.finditer(r"(?:^|\s)open\s+\S+\s+use\s+\{([^}]*)\}", t):
+            for w in m.group(1).split(","):
+                if w.strip() in fields:
+                    table[w.strip()] = fields[w.strip()]
         modules = {}
         for crate, module, listed in items(t):
             if crate not in crates:
@@ -188,7 +193,7 @@ def main():
                 w = table[w]
             elif w in fields:
                 after = next((x for x in tokens[i + 1 :] if not x.isspace()), "")
-                if p.endswith(".antt") and after in ("=", ":", ",", "}") or w in declared_fields(t):
+                if p.endswith(".antt") and after == "=" or after == ":" and w in declared_fields(t):
                     w = fields[w]
             if w != tokens[i]:
                 turned[tokens[i]] += 1

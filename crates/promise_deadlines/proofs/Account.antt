@@ -118,14 +118,14 @@ module _ (𝓜 : Model) where
   count_last s x i h p = sum_last (λ q. cond (in_window 𝓜 s x i q) 1 0) h p
 
   -- a post at a clock from x to x + i, both ends among them, is counted
-  in_window_lem : (s x i : ℕ) (p : Post) → postStream p ≡ s → x ≤ postClock p → postClock p ≤ x + i → T (in_window 𝓜 s x i p)
+  in_window_lem : (s x i : ℕ) (p : Post) → post_stream p ≡ s → x ≤ post_clock p → post_clock p ≤ x + i → T (in_window 𝓜 s x i p)
   unfolding in_window
   in_window_lem s x i p e a b =
-      let from : T (leb x (postClock p)) = le→leb x (postClock p) a in
-      let to : T (leb (postClock p) (x + i)) = le→leb (postClock p) (x + i) b in
-      both_pass (eqb (postStream p) s) (within x (postClock p) (x + i)) (same_pass (postStream p) s e) (both_pass (leb x (postClock p)) (leb (postClock p) (x + i)) from to)
+      let from : T (leb x (post_clock p)) = le→leb x (post_clock p) a in
+      let to : T (leb (post_clock p) (x + i)) = le→leb (post_clock p) (x + i) b in
+      both_pass (eqb (post_stream p) s) (within x (post_clock p) (x + i)) (same_pass (post_stream p) s e) (both_pass (leb x (post_clock p)) (leb (post_clock p) (x + i)) from to)
 
-  count_new : (s x i : ℕ) (h : List Post) (p : Post) → postStream p ≡ s → x ≤ postClock p → postClock p ≤ x + i → count (in_window 𝓜 s x i) (h ++ (p ∷ [])) ≡ count (in_window 𝓜 s x i) h + 1
+  count_new : (s x i : ℕ) (h : List Post) (p : Post) → post_stream p ≡ s → x ≤ post_clock p → post_clock p ≤ x + i → count (in_window 𝓜 s x i) (h ++ (p ∷ [])) ≡ count (in_window 𝓜 s x i) h + 1
   count_new s x i h p e a b = omega (arith, count_last s x i h p, cond_yes (in_window 𝓜 s x i p) 1 0 (in_window_lem s x i p e a b))
 
   supply_mono : (D z : ℕ) (p : Post) (h : List Post) (s : ℕ) → supply D z h s ≤ supply D z (h ++ (p ∷ [])) s
@@ -143,7 +143,7 @@ module _ (𝓜 : Model) where
       more : count (in_window 𝓜 s z (D - z - span s)) h ≤ count (in_window 𝓜 s z (D - z - span s)) (h ++ (p ∷ []))
       more = omega (arith, count_last s z (D - z - span s) h p)
 
-  supply_post : (D z s : ℕ) (h : List Post) (p : Post) → postStream p ≡ s → z ≤ postClock p → postClock p + span s ≤ D → supply D z h s + cost s ≤ supply D z (h ++ (p ∷ [])) s
+  supply_post : (D z s : ℕ) (h : List Post) (p : Post) → post_stream p ≡ s → z ≤ post_clock p → post_clock p + span s ≤ D → supply D z h s + cost s ≤ supply D z (h ++ (p ∷ [])) s
   unfolding supply
   supply_post D z s h p e a b = omega (
     arith,
@@ -170,9 +170,9 @@ module _ (𝓜 : Model) where
             arith,
             work_in D m q,
             n.whole,
-            range_bump streams (postStream p) (cost (postStream p)) (supply D a.z h) (supply D a.z (h ++ (p ∷ []))) n.stream_in
+            range_bump streams (post_stream p) (cost (post_stream p)) (supply D a.z h) (supply D a.z (h ++ (p ∷ []))) n.stream_in
                 (supply_mono D a.z p h)
-                (supply_post D a.z (postStream p) h p refl (omega (arith, a.past, n.now)) (omega (arith, n.message.until))),
+                (supply_post D a.z (post_stream p) h p refl (omega (arith, a.past, n.now)) (omega (arith, n.message.until))),
           ))
           (λ (q : D < deadline m). omega (arith, work_out D m q, range_mono streams (supply D a.z h) (supply D a.z (h ++ (p ∷ []))) (λ i _. supply_mono D a.z p h i)))
           (le_or_lt (deadline m) D)
@@ -191,13 +191,13 @@ module _ (𝓜 : Model) where
         a.balance,
         sum_mid (work D) xs r ys,
         sum_at (work D) xs x ys,
-        work_in D x in_time,
+        work_in D x in-time,
         live x (w.fine x (mem_here xs x ys)),
         after_sum 𝓜 (work D) (rest x - 1) af (λ y κ. omega (arith, work_in D y (omega (arith, κ.same_deadline)), κ.less_rest)),
       );
       paid = λ k. omega (arith, a.paid k, sum_mid (debt D k) xs r ys, sum_at (debt D k) xs x ys, after_sum 𝓜 (debt D k) 0 af (λ y κ. omega (arith, debt_early D k y (omega (arith, κ.same_deadline)))));
       cause = a.cause;
-      young = each_mid (Young D a.z) xs x ys r a.young (after_each 𝓜 (Young D a.z) af (λ y κ p. omega (arith, a.young x (mem_here xs x ys) in_time, κ.same_deadline, ap span κ.same_stream)));
+      young = each_mid (Young D a.z) xs x ys r a.young (after_each 𝓜 (Young D a.z) af (λ y κ p. omega (arith, a.young x (mem_here xs x ys) in-time, κ.same_deadline, ap span κ.same_stream)));
       old = each_mid (Old D a.z) xs x ys r a.old (after_each 𝓜 (Old D a.z) af (λ y κ p q. absurd (omega (arith, κ.same_deadline))));
     }
 
@@ -215,7 +215,7 @@ module _ (𝓜 : Model) where
         sum_at (work D) xs x ys,
         work_out D x late,
         after_sum 𝓜 (work D) 0 af (λ y κ. omega (arith, work_out D y (omega (arith, κ.same_deadline)))),
-        range_bump tasks (task x) 1 a.b b' (task-in x (w.fine x (mem_here xs x ys))) (λ k. omega arith) (omega (arith, ifeq_yes (task x) (task x) 1 refl)),
+        range_bump tasks (task x) 1 a.b b' (task_in x (w.fine x (mem_here xs x ys))) (λ k. omega arith) (omega (arith, ifeq_yes (task x) (task x) 1 refl)),
       );
       paid = λ k. omega (arith, a.paid k, sum_mid (debt D k) xs r ys, sum_at (debt D k) xs x ys, less k);
       cause = λ k p. ⊎_elim
@@ -298,7 +298,7 @@ module _ (𝓜 : Model) where
   debts_blocked : {t : ℕ} {l : List Msg} {h : List Post} (a : Account t t l h) → sum a.b (below tasks) ≤ sum (blocked 𝓜 (t - a.z)) (below tasks)
   debts_blocked {t} a = range_mono tasks a.b (blocked 𝓜 (t - a.z)) (λ k _. ⊎_elim
       (λ (e : a.b k ≡ 0). omega arith)
-      (λ (e : a.b k ≢ 0). omega (arith, a.paid k, blocking-urgent k (t - a.z) (a.cause k (omega arith))))
+      (λ (e : a.b k ≢ 0). omega (arith, a.paid k, blocking_urgent k (t - a.z) (a.cause k (omega arith))))
       (eq_or_ne (a.b k) 0))
 
   -- no message is pending at its deadline or after it

@@ -79,7 +79,7 @@ module _ (𝓜 : Model) where
 
   -- DEMAND 3, over any kind of message: when the clock reaches the deadline of an accepted message, it has left
   pub left_in_time : Fits 𝓜 → {t : ℕ} {l : List Msg} {h : List Post} {ds : List Departure} → Reaches 𝓜 t l h ds → Keeps 𝓜 h
-      → (p : Post) → Memᴰ p h → postClock p + span (postStream p) ≤ t → Left 𝓜 ds p
+      → (p : Post) → Memᴰ p h → post_clock p + span (post_stream p) ≤ t → Left 𝓜 ds p
   left_in_time fits run keeps p i reached = ⊎_elim
       (λ (w : Pending 𝓜 _ p). absurd (omega (arith, on_time 𝓜 fits run keeps w.who w.who_in, w.of.until)))
       (λ (g : Left 𝓜 _ p). g)
@@ -91,7 +91,7 @@ module _ (𝓜 : Model) where
   named n m = ifeq (number m) n 1
 
   unfoldable pub gone : ℕ → Departure → ℕ
-  gone n d = ifeq (leftNumber d) n 1
+  gone n d = ifeq (left_number d) n 1
 
   one_after : (n : ℕ) {t : ℕ} {x : Msg} {r : List Msg} {e : List Departure} → After 𝓜 t x r e → sum (named n) r + sum (gone n) e ≡ named n x
   unfolding named gone
