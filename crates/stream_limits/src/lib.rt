@@ -1,5 +1,6 @@
 // The event limit of a stream, and a jittered cycle as tuples.
 #![tactic(auto)]
+
 ghost use Rattle.std.specs.Prelude.{◌≡◌, ◌-◌, ◌*◌, ◌/◌, ◌≤◌};
 ghost use Rattle.rules.specs.Streams.{events_of, limit, limit_of, jitter_ok, jitter_of};
 
