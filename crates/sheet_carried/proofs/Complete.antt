@@ -1,15 +1,15 @@
 -- Every field that is in its rule leads from a state of which the tests say what they say to another one, and its bits are counted.
 -- Assumes nothing.
-use Prim.Native.Nat.{ℕ, zero, suc, ◌+◌, ◌-◌, ◌*◌, ◌≤◌, ◌<◌}
+use Prim.Native.Nat.{ℕ, ◌+◌, ◌-◌, ◌*◌, ◌≤◌, ◌<◌}
 use mathlib.Core.List.{List, [], ◌∷◌, ◌++◌}
 use mathlib.Core.Path.{◌≡◌, refl, sym, ap, ap₂, ◌∙◌, subst}
-use mathlib.Core.Bool.{Bool, true, false, cond, ◌&&◌, ◌||◌, false≢true}
-use mathlib.Core.Logic.{◌⊎◌, inl, inr, ⊎_elim}
+use mathlib.Core.Bool.{Bool, true, false, cond, ◌||◌, false≢true}
+use mathlib.Core.Logic.{inl, inr, ⊎_elim}
 use native.Mathlib.Omega.{arith}
-use lib.ListN.{length, get_or, set, take, replicate, length-append}
+use lib.ListN.{length, get_or, set, take, replicate}
 use lib.Seq.{set_out, take-append_seam}
-use lib.Dec.{eqb, leb, ltb}
-use borrow.Author.Tests.{eq-eqb, eqb-false, eqb-true, le-ltb, leb-true, lt-ltb, ltb-false, ltb-true, ne_eqb}
+use lib.Dec.{eqb, ltb}
+use borrow.Author.Tests.{eq-eqb, eqb-false, eqb-true, le-ltb, lt-ltb, ltb-false, ltb-true, ne_eqb}
 use Rattle.laws.specs.Lists.{All, sum, within}
 use Rattle.laws.proofs.Sums.{Holds as Passes, and_parts, by_test}
 use Rattle.laws.proofs.Gates.{sum_last}
@@ -20,7 +20,7 @@ use Rattle.rules.specs.declared.Stream.{Stream}
 use Rattle.rules.specs.declared.Set.{Set}
 use Rattle.rules.specs.Streams.{no_stage, no_stream, no_tuple, offset_at, stream_ok, streams_of}
 use Rattle.rules.specs.Sheet.{set_of, stream_of, tuple_of}
-use Rattle.rules.specs.Valid.{Between, ValidPlace, ValidStage}
+use Rattle.rules.specs.Valid.{ValidPlace, ValidStage}
 use Rattle.rules.proofs.Valid.{valid_stream}
 use Rattle.sheet_carried.specs.declared.Carried.{Carried}
 use Rattle.sheet_carried.specs.Table.{behind_of, following_of, greatest_of, in_rule_of, least_of, opened_of, row_of, width_of}
@@ -33,7 +33,7 @@ use Rattle.sheet_carried.proofs.Chains.{chain_snoc, last_snoc, top_is, top_of}
 use Rattle.sheet_carried.proofs.Rows.{by_value_row, pad_rule, same_order, width_pad, width_some}
 use Rattle.sheet_carried.proofs.Keeps.{goes_pad, padding_most, padding_stages, padding_tuples}
 use Rattle.sheet_carried.proofs.Reached.{padded, set_padded, snoc_length, vals}
-use Rattle.sheet_carried.proofs.Streamed.{Either, Fine, one_more, room_sum}
+use Rattle.sheet_carried.proofs.Streamed.{Either, Fine, one_more}
 use Rattle.sheet_carried.proofs.Sound as sound
 use Rattle.sheet_carried.proofs.Sound.{Said, Streams, dated_is, deep_none, held_between, held_high, held_zero, none_of, outside, padding_room}
 

@@ -1,40 +1,38 @@
 -- The test of a carried state is exact: it passes just those that some bytes leave from the start.
 -- Assumes nothing.
 use Prim.Native.Nat.{ℕ, zero, suc, ◌+◌, ◌-◌, ◌*◌, ◌/◌, ◌%◌, ◌^◌, ◌≤◌, ◌<◌}
-use mathlib.Core.List.{List, [], ◌∷◌, ◌++◌}
+use mathlib.Core.List.{List, [], ◌∷◌}
 use mathlib.Core.Path.{◌≡◌, refl, sym, ap, ap₂, ◌∙◌, subst}
-use mathlib.Core.Bool.{Bool, true, false, cond, ◌&&◌, ◌||◌, false≢true}
+use mathlib.Core.Bool.{Bool, true, false, cond, ◌&&◌, ◌||◌}
 use mathlib.Core.Logic.{◌⊎◌, inl, inr, ⊎_elim}
 use native.Mathlib.Omega.{arith}
 use native.Mathlib.Nat.{pow-suc}
 use lib.ListN.{length, get_or, take, drop, replicate}
-use lib.Seq.{take-append_seam, drop-append_seam, take-length}
+use lib.Seq.{take-append_seam, take-length}
 use lib.Dec.{eqb, leb, ltb}
 use lib.Pow.{pow_pos}
 use borrow.Author.Tests.{eqb-true, le-leb, leb-true, lt-ltb, ltb-false, ltb-true}
-use Rattle.laws.specs.Lists.{All, all, every, scan, within}
+use Rattle.laws.specs.Lists.{All, all, scan, within}
 use Rattle.laws.specs.Bits.{bits, bytes, to_bits}
 use Rattle.laws.proofs.Sums.{Holds as Passes, all_map, and_parts, by_test, every_all}
-use Rattle.laws.proofs.Fields.{AreBits, AreBytes, bits_bits, bits_length}
+use Rattle.laws.proofs.Fields.{AreBits, bits_bits, bits_length}
 use Rattle.laws.proofs.Packing.{bytes_bits, bytes_bytes}
 use Rattle.rules.specs.declared.TuplePlace.{TuplePlace}
 use Rattle.rules.specs.declared.Stage.{Stage}
-use Rattle.rules.specs.declared.Stream.{Stream}
 use Rattle.rules.specs.declared.Set.{Set}
-use Rattle.rules.specs.Streams.{Placed, empty_set, no_stage, no_tuple, offset, offset_at, stage_ok, stage_unused, stream_unused, streams_of, tuple_unused, tuples_ok, valid, version_ok}
-use Rattle.rules.specs.Sheet.{set_of}
+use Rattle.rules.specs.Streams.{Placed, empty_set, no_stage, no_tuple, offset_at, stage_ok, stage_unused, stream_unused, streams_of, tuple_unused, tuples_ok, valid, version_ok}
 use Rattle.sheet_carried.specs.declared.Carried.{Carried}
 use Rattle.sheet_carried.specs.Table.{behind_of, following_of, greatest_of, in_rule_of, least_of, opened_of, refusal_of, row_of, width_of}
-use Rattle.sheet_carried.specs.Reader.{begun, behind_version, goes_on, next_field, next_of, no_stages, no_tuples, no_values, reading, refused_of, run, start_of, step_by, step_of, value_at}
+use Rattle.sheet_carried.specs.Reader.{begun, behind_version, goes_on, next_field, next_of, no_stages, no_tuples, no_values, reading, refused_of, run, start_of, step_by, step_of}
 use Rattle.sheet_carried.specs.Kept.{most_whole, stages_whole, tuples_whole}
-use Rattle.sheet_carried.specs.Left.{Boxed, Left, LeftExactly, before_row, came_of, count_fits, could_be_left, dated, deepened, fit_tests, fits, held, kept_fits, last_of, point_fits, point_tests, stages_fit, streams_room, tuples_fit, value_tests, values_fit, version_fits, whole_bytes}
+use Rattle.sheet_carried.specs.Left.{Boxed, Left, LeftExactly, before_row, came_of, count_fits, could_be_left, dated, deepened, fit_tests, fits, held, kept_fits, last_of, point_fits, point_tests, stages_fit, tuples_fit, value_tests, values_fit, version_fits, whole_bytes}
 use Rattle.sheet_carried.proofs.Filled.{cond_elim}
 use Rattle.sheet_carried.proofs.Streams.{Chain, GoodStream, every_of, first_ok, no_stage_unused, no_tuple_unused, rest_unused, scan_of, set_ok, stages_ok, within_is}
 use Rattle.sheet_carried.proofs.Rows.{by_values, refusal_row, width_none, width_some}
 use Rattle.sheet_carried.proofs.Chunks.{run_stopped}
 use Rattle.sheet_carried.proofs.Reached.{Reached, padded, vals}
-use Rattle.sheet_carried.proofs.Streamed.{Either, Fine}
-use Rattle.sheet_carried.proofs.Sound.{Said, Streams, cond_left, cond_right, fits_reached, fits_refused, held_high, held_zero, or_parts}
+use Rattle.sheet_carried.proofs.Streamed.{Fine}
+use Rattle.sheet_carried.proofs.Sound.{Said, cond_left, cond_right, fits_reached, fits_refused, held_high, held_zero, or_parts}
 use Rattle.sheet_carried.proofs.Complete.{Reads, step_row}
 
 -- ---- the three refusals

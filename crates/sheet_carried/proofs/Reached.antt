@@ -1,31 +1,29 @@
 -- Bits that lead to a state: field by field, stage by stage, tuple by tuple, stream by stream. One argument for both versions; only the order of a
 -- stream's head differs.
 -- Assumes nothing.
-use Prim.Native.Nat.{ℕ, zero, suc, ◌+◌, ◌-◌, ◌*◌, ◌^◌, ◌≤◌, ◌<◌}
+use Prim.Native.Nat.{ℕ, suc, ◌+◌, ◌-◌, ◌*◌, ◌^◌, ◌≤◌, ◌<◌}
 use mathlib.Core.List.{List, [], ◌∷◌, ◌++◌, append-nil}
 use mathlib.Core.Path.{◌≡◌, refl, sym, ap, ap₂, ◌∙◌, subst}
-use mathlib.Core.Bool.{Bool, true, false, cond}
+use mathlib.Core.Bool.{Bool, true, cond}
 use native.Mathlib.Omega.{arith}
-use lib.ListN.{length, get_or, set, take, replicate, length-append}
+use lib.ListN.{length, set, replicate, length-append}
 use lib.Seq.{append_snoc, set_at}
-use lib.Dec.{eqb, ltb}
 use borrow.Author.Tests.{lt-ltb, le-ltb, ne_eqb}
-use Rattle.laws.specs.Lists.{All, within, sum}
+use Rattle.laws.specs.Lists.{All, within}
 use Rattle.laws.specs.Bits.{to_bits}
 use Rattle.laws.proofs.Fields.{AreBits, IsBit, all_append, field_back, to_bits_bits, to_bits_length}
 use Rattle.rules.specs.declared.Tuple.{Tuple}
 use Rattle.rules.specs.declared.Tuple.TheVariants.{Once, Every}
 use Rattle.rules.specs.declared.TuplePlace.{TuplePlace}
 use Rattle.rules.specs.declared.Stage.{Stage}
-use Rattle.rules.specs.declared.Stream.{Stream}
 use Rattle.rules.specs.declared.Set.{Set}
-use Rattle.rules.specs.Streams.{empty_set, no_stage, no_stream, no_streams, no_tuple, offset, offset_at}
-use Rattle.rules.specs.Sheet.{set_of, stream_of, tuple_of}
+use Rattle.rules.specs.Streams.{no_stage, no_tuple, offset, offset_at}
+use Rattle.rules.specs.Sheet.{stream_of, tuple_of}
 use Rattle.rules.specs.Valid.{Between, ValidCycle, ValidPlace, ValidStage}
 use Rattle.sheet_carried.specs.declared.Carried.{Carried}
 use Rattle.sheet_carried.specs.Table.{behind_of, following_of, greatest_of, in_rule_of, least_of, opened_of, row_of, width_of}
-use Rattle.sheet_carried.specs.Reader.{begun, behind_version, goes_on, last_stage, next_field, next_of, next_stage, next_stream, next_tuple, no_stages, no_tuples, no_values, reading, run, start_of, value_at, with_stream}
-use Rattle.sheet_carried.specs.Left.{last_of, stream_room}
+use Rattle.sheet_carried.specs.Reader.{begun, goes_on, last_stage, next_field, next_of, next_stage, next_stream, next_tuple, no_stages, no_tuples, reading, run, start_of, value_at, with_stream}
+use Rattle.sheet_carried.specs.Left.{last_of}
 use Rattle.sheet_carried.proofs.Streams.{Chain, within_is}
 use Rattle.sheet_carried.proofs.Chains.{last_snoc, top_is, top_snoc, top_of}
 use Rattle.sheet_carried.proofs.Rows.{same_order, within_all}

@@ -1,17 +1,17 @@
 -- What passes the test has been left by some bytes.
 -- Assumes nothing.
-use Prim.Native.Nat.{ℕ, zero, suc, ◌+◌, ◌-◌, ◌*◌, ◌%◌, ◌^◌, ◌≤◌, ◌<◌}
-use mathlib.Core.List.{List, [], ◌∷◌, ◌++◌, append-nil}
+use Prim.Native.Nat.{ℕ, zero, suc, ◌+◌, ◌-◌, ◌*◌, ◌^◌, ◌≤◌, ◌<◌}
+use mathlib.Core.List.{List, [], ◌∷◌}
 use mathlib.Core.Path.{◌≡◌, refl, sym, ap, ap₂, ◌∙◌, subst}
 use mathlib.Core.Bool.{Bool, true, false, cond, ◌&&◌, ◌||◌, false≢true}
 use mathlib.Core.Logic.{◌⊎◌, inl, inr, ⊎_elim}
 use native.Mathlib.Omega.{arith}
-use lib.ListN.{length, get_or, set, take, drop, replicate, get_or-eq_default}
+use lib.ListN.{length, get_or, take, drop, get_or-eq_default}
 use lib.Seq.{set_out}
 use lib.Dec.{eqb, leb, ltb}
 use lib.Pow.{pow_pos}
-use borrow.Author.Tests.{eq-eqb, eqb-false, eqb-true, le-leb, lt-leb, le-ltb, leb-true, ltb-false, ltb-true, lt-ltb, ne_eqb}
-use Rattle.laws.specs.Lists.{All, all, every, sum, within}
+use borrow.Author.Tests.{eqb-true, lt-leb, le-ltb, leb-true, ltb-false, ltb-true, lt-ltb, ne_eqb}
+use Rattle.laws.specs.Lists.{All, all, within}
 use Rattle.laws.proofs.Sums.{Holds as Passes, all_all, all_at, all_zip, and_parts, by_test, every_all}
 use Rattle.laws.proofs.Fields.{all_take}
 use Rattle.rules.specs.declared.TuplePlace.{TuplePlace}
@@ -23,10 +23,10 @@ use Rattle.rules.specs.Sheet.{set_of}
 use Rattle.rules.specs.Valid.{Between, FirstZero, ValidSet, ValidStage}
 use Rattle.rules.proofs.Valid.{valid_set, valid_stage, valid_stream}
 use Rattle.sheet_carried.specs.declared.Carried.{Carried}
-use Rattle.sheet_carried.specs.Table.{behind_of, opened_of, width_of, in_rule_of}
-use Rattle.sheet_carried.specs.Reader.{begun, goes_on, no_stages, no_tuples, no_values, reading, refused_of, start_of, value_at}
+use Rattle.sheet_carried.specs.Table.{behind_of, opened_of, width_of}
+use Rattle.sheet_carried.specs.Reader.{begun, no_stages, no_tuples, reading, refused_of}
 use Rattle.sheet_carried.specs.Kept.{Holds, most_whole, stages_whole, tuples_whole}
-use Rattle.sheet_carried.specs.Left.{before_row, count_fits, dated, deepened, fit_tests, held, kept_fits, last_of, part_room, stages_fit, stream_room, streams_room, tuples_fit, value_tests, values_fit, version_fits}
+use Rattle.sheet_carried.specs.Left.{before_row, count_fits, dated, deepened, fit_tests, held, kept_fits, last_of, part_room, stages_fit, streams_room, tuples_fit, value_tests, values_fit, version_fits}
 use Rattle.sheet_carried.proofs.Whole.{Staged, all_none, holds_of, no_stage_lem, no_tuple_lem, set_holds, set_staged, version_cases, whole_places, whole_set}
 use Rattle.sheet_carried.proofs.Streams.{Chain, chain_first, within_high, within_is, within_low}
 use Rattle.sheet_carried.proofs.Rows.{by_value_row, pad_rule, width_pad, width_some}

@@ -1,16 +1,16 @@
 -- Bits that lead behind whole streams, and into the one that comes.
 -- Assumes nothing.
-use Prim.Native.Nat.{ℕ, zero, suc, ◌+◌, ◌-◌, ◌*◌, ◌^◌, ◌≤◌, ◌<◌}
+use Prim.Native.Nat.{ℕ, suc, ◌+◌, ◌-◌, ◌*◌, ◌≤◌, ◌<◌}
 use mathlib.Core.List.{List, [], ◌∷◌, ◌++◌, append-nil}
 use mathlib.Core.Path.{◌≡◌, refl, sym, ap, ap₂, ◌∙◌, subst}
 use mathlib.Core.Bool.{Bool, true, false, cond}
-use mathlib.Core.Logic.{◌⊎◌, inl, inr, ⊎_elim}
+use mathlib.Core.Logic.{◌⊎◌, ⊎_elim}
 use native.Mathlib.Omega.{arith}
-use lib.ListN.{length, get_or, set, take, replicate, length-append}
+use lib.ListN.{length, get_or, take}
 use lib.Seq.{append_snoc, take-suc, length-take-le, take-length}
-use lib.Dec.{eqb, ltb}
+use lib.Dec.{eqb}
 use borrow.Author.Tests.{eqb-true, le-leb, lt-ltb}
-use Rattle.laws.specs.Lists.{All, within, sum}
+use Rattle.laws.specs.Lists.{All, sum}
 use Rattle.laws.proofs.Sums.{all_at}
 use Rattle.laws.proofs.Fields.{all_take}
 use Rattle.rules.specs.declared.TuplePlace.{TuplePlace}
@@ -26,9 +26,9 @@ use Rattle.sheet_carried.specs.Reader.{begun, behind_version, goes_on, next_fiel
 use Rattle.sheet_carried.specs.Left.{last_of, stream_room}
 use Rattle.sheet_carried.proofs.Whole.{Staged, StreamHolds, stream_holds, whole_stream}
 use Rattle.sheet_carried.proofs.Streams.{Chain, chain_first}
-use Rattle.sheet_carried.proofs.Chains.{Last, chain_last, top_of}
-use Rattle.sheet_carried.proofs.Rows.{within_all, within_zero}
-use Rattle.sheet_carried.proofs.Reached.{At, Reached, padded, reach_as, reach_dated, reach_deep, reach_last, reach_limited, reach_on, reach_staged, reach_stages, reach_start, reach_tuples, set_padded, snoc_length, vals}
+use Rattle.sheet_carried.proofs.Chains.{Last, chain_last}
+use Rattle.sheet_carried.proofs.Rows.{within_zero}
+use Rattle.sheet_carried.proofs.Reached.{At, Reached, reach_as, reach_dated, reach_deep, reach_last, reach_limited, reach_on, reach_staged, reach_stages, reach_start, reach_tuples, set_padded, snoc_length, vals}
 
 -- version 1 or version 2
 abbrev pub Either : ℕ → Type 0

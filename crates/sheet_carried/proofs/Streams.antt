@@ -3,7 +3,7 @@
 use Prim.Native.Nat.{ℕ, zero, suc, ◌-◌, ◌≤◌, ◌<◌}
 use mathlib.Core.List.{List, [], ◌∷◌, ◌++◌}
 use mathlib.Core.Path.{◌≡◌, refl, ap, ap₂, ◌∙◌}
-use mathlib.Core.Bool.{Bool, true, false, ◌&&◌}
+use mathlib.Core.Bool.{Bool, true, ◌&&◌}
 use native.Mathlib.Omega.{arith}
 use lib.ListN.{length, drop, get_or, replicate, length-append, length-replicate}
 use lib.Seq.{take-append_seam, drop-append_seam}
@@ -17,7 +17,6 @@ use Rattle.rules.specs.declared.Tuple.TheVariants.{Once, Every}
 use Rattle.rules.specs.declared.TuplePlace.{TuplePlace}
 use Rattle.rules.specs.declared.Stage.{Stage}
 use Rattle.rules.specs.declared.Stream.{Stream}
-use Rattle.rules.specs.declared.Set.{Set}
 use Rattle.rules.specs.Streams.{FourPlaces, Placed, cycle_ok, no_stage, no_stream, no_tuple, offset, offset_at, one_stage, set_tests, stage_ok, stage_unused, stream_ok, stream_tests, stream_unused, streams_of, tuple_ok, tuple_unused, tuples_ok, valid, version_ok}
 use Rattle.rules.specs.Sheet.{set_of, stream_of, tuple_of}
 use Rattle.rules.specs.Valid.{Between, FirstZero, ValidCycle, ValidPlace, ValidStage}

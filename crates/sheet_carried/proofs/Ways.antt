@@ -1,8 +1,8 @@
 -- The ways out of the functions that test a carried state, as laws.
 -- Assumes nothing.
-use Prim.Native.Nat.{ℕ, zero, suc, ◌+◌, ◌-◌, ◌*◌, ◌%◌, ◌^◌, ◌≤◌, ◌<◌}
-use mathlib.Core.List.{List, [], ◌∷◌, ◌++◌}
-use mathlib.Core.Path.{◌≡◌, refl, sym, ap, ap₂, ◌∙◌, subst}
+use Prim.Native.Nat.{ℕ, suc, ◌+◌, ◌-◌, ◌*◌, ◌%◌, ◌^◌, ◌≤◌, ◌<◌}
+use mathlib.Core.List.{List, [], ◌∷◌}
+use mathlib.Core.Path.{◌≡◌, refl, sym, ap, ap₂, ◌∙◌}
 use mathlib.Core.Bool.{Bool, true, false, cond, ◌&&◌, ◌||◌}
 use native.Mathlib.Omega.{arith}
 use lib.ListN.{length, get_or, take, drop, get_or-eq_default}
@@ -10,15 +10,15 @@ use native.Mathlib.Nat.{mod-eq_of_lt}
 use lib.Pow.{pow_mono}
 use lib.Seq.{take-length, take_all}
 use lib.Dec.{eqb, leb, ltb}
-use borrow.Author.Tests.{eq-eqb, le-leb, lt-leb, lt-ltb, ne_eqb}
-use Rattle.laws.specs.Lists.{all, every, within}
+use borrow.Author.Tests.{le-leb, lt-leb}
+use Rattle.laws.specs.Lists.{all, within}
 use Rattle.laws.proofs.Fits.{and_assoc}
 use Rattle.rules.specs.declared.TuplePlace.{TuplePlace}
 use Rattle.rules.specs.declared.Stage.{Stage}
 use Rattle.rules.specs.declared.Set.{Set}
 use Rattle.rules.specs.Streams.{no_tuple, offset_at, stage_ok, stage_unused, tuple_unused, tuples_ok, valid}
 use Rattle.sheet_carried.specs.declared.Point.{Point}
-use Rattle.sheet_carried.specs.Table.{row, row_of, width_of}
+use Rattle.sheet_carried.specs.Table.{row_of, width_of}
 use Rattle.sheet_carried.specs.Kept.{most_whole, stages_whole, tuples_whole}
 use Rattle.sheet_carried.specs.Left.{count_fits, dated, deepened, held, kept_fits, last_of, point_fits, stages_fit, tuples_fit, values_fit, version_fits}
 use Rattle.sheet_carried.proofs.Chains.{last_taken}

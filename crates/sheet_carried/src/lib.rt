@@ -1,5 +1,6 @@
 // What the reader of a sheet carries between two pieces, and which of it pieces can have left.
 #![tactic(auto)]
+
 mod counting; // counting.rt: how many bits have come
 mod fitting; // fitting.rt: what is kept is in its rules
 
