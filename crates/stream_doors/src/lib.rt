@@ -1,5 +1,6 @@
 // The doors of streams: which one a stream has, when it is shut, and what is left to wait after an accepted post and after a unit.
 #![tactic(auto)]
+
 ghost use Rattle.std.specs.Prelude.{◌≡◌, leb};
 ghost use Rattle.rules.specs.Doors.{door_of_one, door_of_two, door_of, shut, wait_after, wait_later, most_wait};
 ghost use Rattle.rules.specs.Doors.{larger as greater};
