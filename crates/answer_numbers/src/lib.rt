@@ -1,5 +1,6 @@
 // The numbers that the cab prints.
 #![tactic(auto)]
+
 ghost use Rattle.std.specs.Prelude.{◌≡◌};
 ghost use Rattle.rules.specs.Numbers.{number};
 
