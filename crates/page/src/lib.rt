@@ -1,5 +1,6 @@
 // A page that lines are put on, one behind the other, before it is written out.
 #![tactic(auto)]
+
 ghost use Rattle.std.specs.Prelude.{◌≡◌, ◌+◌, ◌≤◌, length, take, leb, cond};
 ghost use Rattle.std.proofs.Math.Seq.{paste};
 ghost use Rattle.page.specs.Pages.{appended, end_of, room_for};
