@@ -1,5 +1,6 @@
 // What a byte of a trace asks for.
 #![tactic(auto)]
+
 ghost use Rattle.std.specs.Prelude.{◌≡◌};
 ghost use Rattle.trace_bytes.specs.Steps.{between_steps, after_p, heard_of, end_of};
 
