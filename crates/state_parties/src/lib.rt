@@ -1,5 +1,6 @@
 // Whose the pending messages are, and whether each party keeps to its places.
 #![tactic(auto)]
+
 ghost use Rattle.std.specs.Prelude.{◌≡◌, leb, drop, take};
 ghost use Rattle.laws.specs.Lists.{all};
 ghost use Rattle.rules.specs.Parties.{same, owns, together, owner_unused, owners_for, all_ours, all_places};
