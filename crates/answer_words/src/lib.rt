@@ -1,5 +1,6 @@
 // What the programs print: a refusal, and the lines of a trace; the words of specs/Words.antt.
 #![tactic(auto)]
+
 ghost use Rattle.std.specs.Prelude.{◌≡◌};
 ghost use Rattle.rules.specs.Numbers.{number, refused as RefusedWith, post_says, unit_says, call_says, verdict_says, open_says, fall_says, go_answer_says};
 ghost use Rattle.line.specs.Line.{holding, puts};
