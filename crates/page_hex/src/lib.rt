@@ -1,5 +1,6 @@
 // Bytes as two hex digits each, read and printed.
 #![tactic(auto)]
+
 ghost use Rattle.std.specs.Prelude.{◌≡◌, ◌∷◌, [], ◌+◌, ◌*◌, ◌/◌, ◌%◌};
 ghost use Rattle.ascii.specs.Hex.{hex_of, hex_digit, hexed};
 ghost use Rattle.page.specs.Pages.{Onto};
