@@ -1,5 +1,6 @@
 // The console's commands by name, in groups, and what each asks for.
 #![tactic(auto)]
+
 ghost use Rattle.std.specs.Prelude.{◌≡◌, ◌∷◌, []};
 ghost use Rattle.console_names.specs.Rows.{most_bytes, if_named, set_row, state_row, party_row, question_row, replay_row, cable_row, check_row, row_of};
 
