@@ -1,5 +1,6 @@
 // The cycles of a set: their least common multiple H, a stream's cost, the long-run load, and how a check begins.
 #![tactic(auto)]
+
 mod ends; // ends.rt: the greatest deadline and offset, and the end of the lengths to test
 mod joins; // joins.rt: the least common multiple of the cycles, and the long-run load
 
