@@ -1,5 +1,6 @@
 // The lines of the answers that only the console prints.
 #![tactic(auto)]
+
 ghost use Rattle.std.specs.Prelude.{◌≡◌, ◌≤◌, length, []};
 ghost use Rattle.rules.specs.Numbers.{start_says, choose_says, count_says, jitter_says, write_says, record_says, feed_says};
 ghost use Rattle.line.specs.Line.{holding, puts};
