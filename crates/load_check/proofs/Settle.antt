@@ -1,6 +1,6 @@
 -- From what testing the lengths finds to the verdict, and to what is found of a set's lengths.
 -- Assumes nothing.
-use Prim.Native.Nat.{ℕ, ◌+◌}
+use Prim.Native.Nat.{ℕ}
 use native.Mathlib.Omega.{arith}
 use mathlib.Core.Path.{◌≡◌, refl, ap, ap₂, subst, sym, ◌∙◌}
 use mathlib.Core.Bool.{Bool, true, false}
@@ -10,7 +10,7 @@ use Rattle.rules.specs.declared.Set.{Set}
 use Rattle.rules.specs.declared.Refusal.TheVariants.{OutOfRule}
 use Rattle.rules.specs.declared.Verdict.TheVariants.{Accept, Late}
 use Rattle.rules.specs.Streams.{streams_of, valid}
-use Rattle.rules.specs.Load.{demand, VerdictOf, FirstLate}
+use Rattle.rules.specs.Load.{demand, VerdictOf}
 use Rattle.rules.proofs.Resumed.{fall_verdict, same_first}
 use Rattle.load_cycles.specs.declared.Opening.{Opening}
 use Rattle.load_cycles.specs.declared.Opening.TheVariants.{Until}

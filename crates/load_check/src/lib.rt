@@ -1,5 +1,6 @@
 // The load check: demand and the verdict of a set, which speaks of every length.
 #![tactic(auto)]
+
 mod dues; // dues.rt: a set's tuples laid out in rows, and what is due by a length
 mod blocked; // blocked.rt: the blocking of each task
 mod lengths; // lengths.rt: the testing of a range of lengths
