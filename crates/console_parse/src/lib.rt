@@ -1,5 +1,6 @@
 // What a line of the console asks for.
 #![tactic(auto)]
+
 ghost use Rattle.std.specs.Prelude.{◌≡◌, ◌∷◌, [], ◌+◌, ◌-◌, ◌≤◌, length, drop};
 ghost use Rattle.console_parse.specs.Bytes.{front, is_hex_text, is_steps};
 ghost use Rattle.console_parse.specs.Scan.{got_of, next_of, step_byte, filled};
