@@ -1,5 +1,6 @@
 // A line of a readable text made tidy, byte by byte: no comment, one space between words, none at the ends.
 #![tactic(auto)]
+
 ghost use Rattle.std.specs.Prelude.{◌≡◌, []};
 ghost use Rattle.text_tidy.specs.Tidied.{row_of, row_put, is_blank, fresh, spaced_for, kept_of};
 
