@@ -15,7 +15,7 @@ use Rattle.rules.specs.declared.GoAnswer.{GoAnswer}
 use Rattle.rules.specs.declared.OpenAnswer.TheVariants.{Opened, Stops}
 use Rattle.rules.specs.declared.GoAnswer.TheVariants.{Next, Falls, Refused}
 use Rattle.rules.specs.declared.GoResult.{GoResult}
-use Rattle.rules.specs.Streams.{streams_of, valid}
+use Rattle.rules.specs.Streams.{streams_of}
 use Rattle.rules.specs.Load.{demand, last_length, VerdictOf, NoneLate, FirstLate}
 use Rattle.rules.specs.Resumed.{Lengths, at, no_position, Resumes, StopsWith, OpenBy, OpenOf, stopped, before, behind, GoBy, GoOf, Underway}
 use Rattle.rules.proofs.Resumed.{underway_opened, underway_next, underway_falls, underway_goes}

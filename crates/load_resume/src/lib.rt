@@ -1,5 +1,6 @@
 // The check in calls: it is opened, and then each call tests a given number of lengths, until the verdict falls.
 #![tactic(auto)]
+
 ghost use Rattle.std.specs.Prelude.{◌≡◌, ◌+◌, ◌≤◌, ◌<◌, min};
 ghost use Rattle.rules.specs.Load.{VerdictOf};
 ghost use Rattle.rules.specs.Resumed.{at, no_position, OpenOf, GoOf, Underway};
