@@ -1,6 +1,6 @@
 -- A tuple that comes at once is its cycle and then its offset: two turns of feeding.
 -- Assumes nothing.
-use Prim.Native.Nat.{ℕ, ◌+◌, ◌*◌, ◌^◌, ◌≤◌, ◌<◌}
+use Prim.Native.Nat.{ℕ, ◌+◌, ◌*◌, ◌≤◌, ◌<◌}
 use mathlib.Core.List.{List}
 use mathlib.Core.Path.{◌≡◌, refl, sym, ap, ap₂, ◌∙◌, subst}
 use mathlib.Core.Bool.{true, ◌&&◌}
@@ -23,7 +23,7 @@ use Rattle.sheet_carried.specs.Reader.{begun, joined_of, no_tuples, point_at, ru
 use Rattle.sheet_carried.specs.Kept.{Kept}
 use Rattle.sheet_read.specs.declared.Came.{Came}
 use Rattle.sheet_read.specs.AtOnce.{AtOnce, end_of, tupled_by, untupled}
-use Rattle.sheet_read.proofs.Turns.{Behind, Turn, ahead, ahead_kept, ahead_on, carried, left_none, rest, turn_cycle, turn_tuple, turn_whole}
+use Rattle.sheet_read.proofs.Turns.{Behind, Turn, ahead, ahead_kept, ahead_on, carried, rest, turn_cycle, turn_tuple, turn_whole}
 
 -- the values behind some tuples: the cycle and the offset that are kept
 abbrev pub kept_by : List ℕ → ℕ → ℕ → List ℕ

@@ -1,6 +1,7 @@
 // A sheet is read, of either version: whole, or in pieces.
 // The reader takes bits: it keeps the whole fields that it has read, and the bits that have come of the next one.
 #![tactic(auto)]
+
 mod closing; // closing.rt: what the sheet reads as when no bit comes any more
 mod feeding; // feeding.rt: bits come, field after field
 mod table; // table.rt: the fields of a sheet as data
