@@ -1,5 +1,6 @@
 // What the demand of a set at a length is made of: a part for each stream that is due, and one for each task that blocks.
 #![tactic(auto)]
+
 ghost use Rattle.std.specs.Prelude.{◌≡◌, true, ltb};
 ghost use Rattle.rules.specs.Streams.{stream_at};
 ghost use Rattle.load_parts.specs.Parts.{due_part, stream_part, block_part, task_part};
