@@ -1,6 +1,7 @@
 // A stream as a line of text: `task 0 cost 2 deadline 5 once@0 every 20@16`, or `task 0 cost 2 deadline 5 jitter 20 2`;
 // in a text of version 2 with its stages: `task 1 cost 2 task 4 cost 3 deadline 40 every 50@0`.
 #![tactic(auto)]
+
 ghost use Rattle.std.specs.Prelude.{◌≡◌, ◌++◌, [], ◌-◌, ◌≤◌, drop, take};
 ghost use Rattle.laws.specs.Lists.{flat};
 ghost use Rattle.rules.specs.Streams.{stages_of, tuples_of, no_stage, no_tuple, no_stream};

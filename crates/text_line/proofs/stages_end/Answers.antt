@@ -1,0 +1,10 @@
+use borrow.Author.Tests.{eq-eqb, ne_eqb}
+use Rattle.text_line.proofs.stages_end.Goals as goal
+
+pub returns-then-n-eq0 : goal.returns-then-n-eq0
+returns-then-n-eq0 c =
+    rw (eq-eqb _ 0 c.if-n-eq0.true) c.bad_line.ensures
+
+pub returns-else-n-eq0 : goal.returns-else-n-eq0
+returns-else-n-eq0 c =
+    rw (ne_eqb _ 0 c.if-n-eq0.false) c.deadline_at.ensures
