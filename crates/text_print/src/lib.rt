@@ -1,5 +1,6 @@
 // A set's readable text, put on a page.
 #![tactic(auto)]
+
 ghost use Rattle.std.specs.Prelude.{◌≡◌, true, ◌++◌, [], ◌≤◌, length, drop};
 ghost use Rattle.rules.specs.Streams.{valid};
 ghost use Rattle.line.specs.Line.{holding, puts};
