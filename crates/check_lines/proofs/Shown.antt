@@ -16,10 +16,8 @@ use Rattle.rules.specs.declared.Verdict.TheVariants.{Accept, Late, Overload, Ref
 use Rattle.rules.specs.Numbers.{verdict_says}
 use Rattle.ascii.specs.Decimal.{letters, decimal_of, spaced}
 use Rattle.line.specs.declared.Line.{Line}
-use Rattle.line.specs.Line.{line_room, holding, put_of, puts}
-use Rattle.line.proofs.Puts.{then}
+use Rattle.line.specs.Line.{line_room, holding}
 use Rattle.answer_words.specs.Words.{says, line_of}
-use Rattle.answer_words.proofs.Ends.{ended}
 use Rattle.answer_words.proofs.Lengths.{one, says_short, line_short}
 use Rattle.page.specs.Pages.{room_for, Onto, appended, end_of}
 use Rattle.page.proofs.Pieces.{onto_line, onto_none, onto_room, onto_then, onto_size}
@@ -27,7 +25,7 @@ use Rattle.page.proofs.Rooms.{room_for_lem}
 use Rattle.load_parts.specs.declared.Part.{Part}
 use Rattle.load_parts.specs.declared.Part.TheVariants.{Nothing, Due, Blocks}
 use Rattle.load_parts.specs.Parts.{stream_part, task_part, first_of, parts_of}
-use Rattle.check_lines.specs.Told.{progress_words, due_words, block_words, part_line, sixteen_room, parts_room, shown_room, first_lines, part_lines, LinesOfParts, made_of, told_of, shown_of}
+use Rattle.check_lines.specs.Told.{progress_words, due_words, block_words, part_line, sixteen_room, parts_room, shown_room, first_lines, part_lines, LinesOfParts, made_of, shown_of}
 
 -- ---- one line
 

@@ -11,7 +11,7 @@ use Rattle.line.specs.Line.{line_room}
 use Rattle.answer_words.specs.Words.{nr, says, line_of}
 use Rattle.load_parts.specs.declared.Part.{Part}
 use Rattle.load_parts.specs.declared.Part.TheVariants.{Nothing, Due, Blocks}
-use Rattle.load_parts.specs.Parts.{stream_part, task_part, first_of, parts_of}
+use Rattle.load_parts.specs.Parts.{stream_part, task_part, parts_of}
 
 -- "lengths tested of how many"
 abbrev pub progress_words : ℕ → ℕ → List ℕ

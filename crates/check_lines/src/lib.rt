@@ -1,5 +1,6 @@
 // What the check program prints: how far it is, the verdict, and what a late length's demand is made of.
 #![tactic(auto)]
+
 ghost use Rattle.std.specs.Prelude.{◌≡◌, true};
 ghost use Rattle.line.specs.Line.{holding};
 ghost use Rattle.page.specs.Pages.{room_for, Onto};

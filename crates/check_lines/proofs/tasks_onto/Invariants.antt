@@ -1,0 +1,10 @@
+use Prim.Native.Nat.{◌-◌}
+use Rattle.load_parts.specs.Parts.{task_part}
+use Rattle.check_lines.proofs.Shown.{Showing}
+use Rattle.check_lines.proofs.tasks_onto.Given as goal
+
+abbrev pub invariant-loop-k : goal.invariant-loop-k
+invariant-loop-k l = Showing (task_part l.x l.i) l.initial.out l.at l.out l.end l.k
+
+abbrev pub decreases-loop-k : goal.decreases-loop-k
+decreases-loop-k l = 16 - l.k
