@@ -1,5 +1,6 @@
 // A readable text of a set, taken byte by byte: one stream a line; in version 2 `version 2` stands before them.
 #![tactic(auto)]
+
 ghost use Rattle.std.specs.Prelude.{◌≡◌};
 ghost use Rattle.text_read.specs.Texts.{is_fine, following, faulty, onward, with_stream, with_version, line_ended, start_of, step_of, feed_of, close_of, text_read};
 
