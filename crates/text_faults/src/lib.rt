@@ -1,5 +1,6 @@
 // What `sheet_text` prints: what is wrong with a text and where, or what was made of it.
 #![tactic(auto)]
+
 ghost use Rattle.std.specs.Prelude.{◌≡◌};
 ghost use Rattle.line.specs.Line.{holding, puts};
 ghost use Rattle.text_faults.specs.Notes.{fault_words, fault_line, plural, made_line};
