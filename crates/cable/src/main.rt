@@ -1,5 +1,8 @@
 // Reads a sheet in pieces from standard input, and makes the file set.bin of it.
 #![tactic(auto)]
-fn main() {
-    cable_io::run();
+use std::io;
+
+fn main(rt: HostRuntime) -> io::Result<()> {
+    cable_io::run(&rt)?;
+    Ok(())
 }

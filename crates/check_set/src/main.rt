@@ -1,5 +1,7 @@
 // Checks the set in set.bin.
 #![tactic(auto)]
-fn main() {
-    check_io::run();
+use std::io;
+
+fn main(rt: HostRuntime) -> io::Result<()> {
+    check_io::run(&rt)
 }

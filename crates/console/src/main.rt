@@ -1,5 +1,7 @@
 // The console: every public function from the keyboard.
 #![tactic(auto)]
-fn main() {
-    console_io::run();
+use std::io;
+
+fn main(rt: HostRuntime) -> io::Result<()> {
+    console_io::run(&rt)
 }

@@ -1,12 +1,19 @@
 // The console's reading and writing: lines are put together from the bytes that come, each is obeyed, and what is printed is written
-// out.
+// out. A read or a write that fails ends the console, and is handed to the caller.
 #![tactic(auto)]
-ghost use Rattle.std.specs.Prelude.{◌≡◌, ◌≤◌};
+
+ghost use Rattle.std.specs.Prelude.{◌≡◌, ◌≤◌, IfOk};
 ghost use Rattle.console_obey.specs.Obeyed.{Obeyed};
 ghost use Rattle.console_io.specs.Room.{half_page, Roomy};
 
 use console_obey::{Desk, Step};
-use libc::{STDIN_FILENO, STDOUT_FILENO};
+use std::io;
+use std::io::Read;
+
+// How many bytes are read at once, and how many the page has room for.
+const PIECE: usize = 4096;
+
+const PAGE: usize = 65536;
 
 // The page is written out beyond this.
 const HALF_PAGE: usize = 32768;
@@ -22,15 +29,14 @@ pub struct Carry {
 }
 
 // Writes the page out.
-fn flush(c: Carry, out: &[u8]) -> Carry
-    ensures { result.at ≡ 0 }
+fn flush(rt: &impl Print, c: Carry, out: &[u8]) -> io::Result<Carry>
+    ensures { IfOk result (λ next. next.at ≡ 0) }
 {
     let n = page::within(c.at, out);
-    let written = io::write_all(STDOUT_FILENO, &out[..n]);
+    rt.write_all(&out[..n])?;
     let mut next = c;
     next.at = 0;
-    next.live = next.live & written;
-    next
+    Ok(next)
 }
 
 // A line is always obeyed: the half of the page that is left has room for any answer.
@@ -42,9 +48,9 @@ fn obey(d: Desk, line: &[u8], out: &mut [u8], at: usize) -> Step
 }
 
 // The line that has come, obeyed.
-fn end_line(c: Carry, line: &[u8], out: &mut [u8]) -> Carry
+fn end_line(rt: &impl Print, c: Carry, line: &[u8], out: &mut [u8]) -> io::Result<Carry>
     requires { Roomy c.at out.old }
-    ensures { result.at ≤ half_page }
+    ensures { IfOk result (λ next. next.at ≤ half_page) }
 {
     let n = page::within(c.len, line);
     let before = c.desk;
@@ -58,75 +64,85 @@ fn end_line(c: Carry, line: &[u8], out: &mut [u8]) -> Carry
         live,
     };
     if HALF_PAGE < next.at {
-        flush(next, out)
+        flush(rt, next, out)
     } else {
-        next
+        Ok(next)
     }
 }
 
 // One byte: a newline ends the line, any other joins it. Of a line longer than 4,096 bytes the first 4,097 are kept.
-fn take_byte(c: Carry, b: u8, line: &mut [u8], out: &mut [u8]) -> Carry
+fn take_byte(rt: &impl Print, c: Carry, b: u8, line: &mut [u8], out: &mut [u8]) -> io::Result<Carry>
     requires { Roomy c.at out.old }
-    ensures { result.at ≤ half_page }
+    ensures { IfOk result (λ next. next.at ≤ half_page) }
 {
     let len = c.len;
     if b == b'\n' {
-        return end_line(c, line, out);
+        return end_line(rt, c, line, out);
     }
     let mut next = c;
     if len < line.len() {
         line[len] = b;
         next.len = len + 1;
     }
-    next
+    Ok(next)
 }
 
-fn take_piece(c: Carry, piece: &[u8], line: &mut [u8], out: &mut [u8]) -> Carry
+fn take_piece(
+    rt: &impl Print,
+    c: Carry,
+    piece: &[u8],
+    line: &mut [u8],
+    out: &mut [u8],
+) -> io::Result<Carry>
     requires { Roomy c.at out.old }
-    ensures { result.at ≤ half_page }
+    ensures { IfOk result (λ next. next.at ≤ half_page) }
 {
     let mut next = c;
-    let mut i = 0;
-    while i < piece.len() {
-        next = take_byte(next, piece[i], line, out);
-        i += 1;
+    for b in piece {
+        next = take_byte(rt, next, *b, line, out)?;
     }
-    next
+    Ok(next)
 }
 
 // Reads once, obeys the lines that came, and writes what they print. The last line may lack its newline.
-fn go_on(c: Carry, line: &mut [u8], out: &mut [u8]) -> Carry
+fn go_on(
+    rt: &impl Print,
+    input: &mut impl Read,
+    c: Carry,
+    line: &mut [u8],
+    out: &mut [u8],
+) -> io::Result<Carry>
     requires { Roomy c.at out.old }
-    ensures { result.at ≤ half_page }
+    ensures { IfOk result (λ next. next.at ≤ half_page) }
 {
-    let mut bytes = io::buffer();
-    let got = libc::read(STDIN_FILENO, &mut bytes);
-    let n = io::count(got, &bytes);
+    let mut bytes = [0u8; PIECE];
+    let n = input.read(&mut bytes)?;
     if n == 0 {
-        let mut last = flush(end_line(c, line, out), out);
+        let ended = end_line(rt, c, line, out)?;
+        let mut last = flush(rt, ended, out)?;
         last.live = false;
-        return last;
+        return Ok(last);
     }
-    flush(take_piece(c, &bytes[..n], line, out), out)
+    let next = take_piece(rt, c, &bytes[..n], line, out)?;
+    flush(rt, next, out)
 }
 
-// A proved loop has to end, and nothing says that the input does: the turns are counted down from a number that no run uses up.
-fn serve(first: Carry, line: &mut [u8], out: &mut [u8])
+// A proved loop has to end, and nothing says that the input does: the turns are counted up to a number that no run uses up.
+fn serve(rt: &(impl Input + Print), first: Carry, line: &mut [u8], out: &mut [u8]) -> io::Result<()>
     requires { Roomy first.at out.old }
 {
+    let mut input = rt.reader();
     let mut c = first;
-    let mut turns = u64::MAX;
-    while turns > 0 {
-        let live = c.live;
-        if !live {
-            return;
+    for _ in 0..u64::MAX {
+        if !c.live {
+            break;
         }
-        c = go_on(c, line, out);
-        turns -= 1;
+        c = go_on(rt, &mut input, c, line, out)?;
     }
+    Ok(())
 }
 
-pub fn run() {
+pub fn run(rt: &(impl Input + Print)) -> io::Result<()> {
     let desk = console_obey::first();
     let first = Carry {
         desk,
@@ -135,6 +151,6 @@ pub fn run() {
         live: true,
     };
     let mut line = [0u8; console_parse::LONGEST + 1];
-    let mut out = io::large_buffer();
-    serve(first, &mut line, &mut out);
+    let mut out = [0u8; PAGE];
+    serve(rt, first, &mut line, &mut out)
 }

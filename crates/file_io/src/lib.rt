@@ -1,78 +1,134 @@
 // What the programs share of the world outside: the file set.bin, standard input in whole, and a line written out.
+// A write that fails is handed to the caller.
 #![tactic(auto)]
-ghost use Rattle.std.specs.Prelude.{◌≡◌, length};
 
-use libc::{STDERR_FILENO, STDIN_FILENO, STDOUT_FILENO};
+ghost use Rattle.std.specs.Prelude.{◌≡◌, IfOk, vec_len};
+ghost use Rattle.std.specs.Io.{ReadsAtMost};
+
 use line::Line;
 use rules::ReadResult;
+use std::alloc::{AllocError, Global};
+use std::fs::OpenFile;
+use std::io::{Read, Write};
+use std::rt::Files;
+use std::{fmt, fs, io};
 
-fn write_line(fd: i32, l: Line) -> bool {
-    let mut out = io::buffer();
-    let end = page::append(&mut out, 0, l);
-    let n = page::within(end, &out);
-    io::write_all(fd, &out[..n])
+// How many bytes a buffer has that takes a line or a sheet in hex or a set's text, and one for what goes on for long.
+pub const BUFFER: usize = 4096;
+
+pub const LARGE_BUFFER: usize = 65536;
+
+// Bytes as the text that they are in ASCII.
+#[derive(Drop)]
+struct Ascii<'a>(&'a [u8]);
+
+impl fmt::Display for Ascii<'_> {
+    fn fmt<W: fmt::Write>(&self, f: &mut fmt::Formatter<W>) -> fmt::Result {
+        for b in self.0 {
+            let b = char::from(*b);
+            write!(f, "{b}")?;
+        }
+        Ok(())
+    }
 }
 
-// Writes a line out; answers whether all was written.
-pub fn say(l: Line) -> bool {
-    write_line(STDOUT_FILENO, l)
+// Writes a line out.
+pub fn say(rt: &impl Print, l: Line) -> io::Result<()> {
+    let mut out = [0u8; BUFFER];
+    let end = page::append(&mut out, 0, l);
+    let n = page::within(end, &out);
+    rt.write_all(&out[..n])
 }
 
 // Writes a line on standard error.
-pub fn warn(l: Line) -> bool {
-    write_line(STDERR_FILENO, l)
+pub fn warn(rt: &impl Eprint, l: Line) -> io::Result<()> {
+    let mut out = [0u8; BUFFER];
+    let end = page::append(&mut out, 0, l);
+    let n = page::within(end, &out);
+    rt.eprint(Ascii(&out[..n]))
+}
+
+// Tells on standard error what failed, and why as the system says it, without the number that std puts behind.
+pub fn fail(rt: &(impl Eprint + Alloc), what: &str, why: io::Error) -> io::Result<()> {
+    let text = format!(in rt.alloc(); "{why}")?;
+    match text.split_once(" (os error ") {
+        Some((words, _)) => eprintln!(rt; "{what}: {words}"),
+        None => eprintln!(rt; "{what}: {text}"),
+    }
+}
+
+// ---- files, read
+
+// Reads until the buffer is full or the file ends, and answers how many bytes stand at the buffer's front.
+pub fn read_full(file: &mut impl Read, buf: &mut [u8]) -> io::Result<usize>
+    ensures { ReadsAtMost result buf.new }
+{
+    let mut n = 0;
+    while n < buf.len() {
+        let more = file.read(&mut buf[n..])?;
+        if more == 0 {
+            break;
+        }
+        n += more;
+    }
+    Ok(n)
 }
 
 // The sheet in the file set.bin; a missing file is read as no bytes. No sheet has more than 502 bytes, so of a longer file 503
 // tell all: `long-sheet` of crates/sheet_write.
-pub fn read_sheet() -> ReadResult {
+pub fn read_sheet(rt: &impl Files) -> io::Result<ReadResult> {
     let mut bytes = [0u8; rules::LONGEST_SHEET + 1];
-    let fd = os::open_read(b"set.bin");
-    if fd < 0 {
-        return sheet_read::read(&bytes[..0]);
+    match fs::open(rt, "set.bin") {
+        Ok(mut file) => {
+            let n = read_full(&mut file, &mut bytes)?;
+            Ok(sheet_read::read(&bytes[..n]))
+        }
+        Err(_) => Ok(sheet_read::read(&bytes[..0])),
     }
-    let n = io::read_full(fd, &mut bytes);
-    libc::close(fd);
-    sheet_read::read(&bytes[..n])
 }
 
 // ---- the file set.bin, written
 
 // Tells which file cannot be written, and takes the new one away.
-fn give_up(what: &[u8]) -> bool {
-    os::fail(what);
-    os::unlink(b"set.bin.new");
-    false
+fn give_up(rt: &(impl Files + Eprint + Alloc), what: &str, why: io::Error) -> io::Result<bool> {
+    fail(rt, what, why)?;
+    let _ = fs::remove_file(rt, "set.bin.new");
+    Ok(false)
+}
+
+// All bytes into a file, which is closed then; what the system puts off until then is waited for.
+fn fill<F: Write + OpenFile + Drop>(file: F, bytes: &[u8]) -> io::Result<()> {
+    let mut file = file;
+    file.write_all(bytes)?;
+    file.sync_all()
 }
 
 // Writes the sheet to a file of its own, which then takes the place of set.bin: that is the whole sheet, or as it was.
-pub fn save_sheet(bytes: &[u8]) -> bool {
-    let fd = os::open_overwrite(b"set.bin.new");
-    if fd < 0 {
-        os::fail(b"set.bin.new");
-        return false;
+// Answers which; why it is as it was is told on standard error.
+pub fn save_sheet(rt: &(impl Files + Eprint + Alloc), bytes: &[u8]) -> io::Result<bool> {
+    let file = match fs::create(rt, "set.bin.new") {
+        Ok(file) => file,
+        Err(why) => {
+            fail(rt, "set.bin.new", why)?;
+            return Ok(false);
+        }
+    };
+    if let Err(why) = fill(file, bytes) {
+        return give_up(rt, "set.bin.new", why);
     }
-    let written = io::write_all(fd, bytes);
-    let closed = libc::close(fd);
-    if !written {
-        return give_up(b"set.bin.new");
+    if let Err(why) = fs::rename(rt, "set.bin.new", "set.bin") {
+        return give_up(rt, "set.bin", why);
     }
-    if closed < 0 {
-        return give_up(b"set.bin.new");
-    }
-    if os::rename(b"set.bin.new", b"set.bin") < 0 {
-        return give_up(b"set.bin");
-    }
-    true
+    Ok(true)
 }
 
 // ---- standard input
 
 // Of standard input a program reads at most 2,097,152 bytes: the buffer for it has one more. Only its length is told, which lending it needs.
-pub fn input_buffer() -> [u8; 2097153]
-    ensures { 2097153 ≡ length result }
+pub fn input_buffer(alloc: Global) -> Result<Vec<u8>, AllocError>
+    ensures { IfOk result (λ buf. 2097153 ≡ vec_len buf) }
 {
-    [0; 2097153]
+    Ok(vec![in alloc; 0; 2097153]?)
 }
 
 // The bytes of the whole input, or that a message on standard error says why there are none.
@@ -82,30 +138,27 @@ pub enum Input {
     Told,
 }
 
-fn tell_unread() -> Input {
-    os::fail(b"standard input");
-    Input::Told
+fn tell_unread(rt: &(impl Eprint + Alloc), why: io::Error) -> io::Result<Input> {
+    fail(rt, "standard input", why)?;
+    Ok(Input::Told)
 }
 
-fn tell_long(room: usize) -> Input {
+fn tell_long(rt: &impl Eprint, room: usize) -> io::Result<Input> {
     let number = line::one(line::blank(), b"standard input:", room as u64);
-    warn(line::word(number, b" bytes or more\n"));
-    Input::Told
+    warn(rt, line::word(number, b" bytes or more\n"))?;
+    Ok(Input::Told)
 }
 
 // Reads standard input to its end, into the front of a buffer that is longer.
-pub fn read_input(buf: &mut [u8]) -> Input {
+pub fn read_input(rt: &(impl io::Input + Eprint + Alloc), buf: &mut [u8]) -> io::Result<Input> {
+    let mut input = rt.reader();
     let mut n = 0;
     while n < buf.len() {
-        let got = libc::read(STDIN_FILENO, &mut buf[n..]);
-        if got < 0 {
-            return tell_unread();
+        match input.read(&mut buf[n..]) {
+            Ok(0) => return Ok(Input::Whole(n)),
+            Ok(more) => n += more,
+            Err(why) => return tell_unread(rt, why),
         }
-        let more = io::count(got, &buf[n..]);
-        if more == 0 {
-            return Input::Whole(n);
-        }
-        n += more;
     }
-    tell_long(n)
+    tell_long(rt, n)
 }

@@ -1,5 +1,9 @@
 // Writes the recording of a trace from standard input to standard output.
 #![tactic(auto)]
-fn main() {
-    record_io::run();
+
+use std::io;
+
+fn main(rt: HostRuntime) -> io::Result<()> {
+    record_io::run(&rt)?;
+    Ok(())
 }

@@ -1,42 +1,46 @@
 // The record program's reading and writing; what is written is decided by proved functions.
-// A function that writes answers whether all was written.
+// A write that fails is handed to the caller.
 #![tactic(auto)]
-ghost use Rattle.std.specs.Prelude.{◌≡◌, length};
+
+ghost use Rattle.std.specs.Prelude.{◌≡◌, IfOk, vec_len};
 
 use file_io::Input;
-use libc::STDOUT_FILENO;
 use rules::{RecordAnswer, Verdict};
+use std::alloc::{AllocError, Global};
+use std::io;
 
 // A byte of a trace is recorded in at most 3 bits, and end takes a byte more: room for the longest trace that is read.
-fn recording_buffer() -> [u8; 786433]
-    ensures { 786433 ≡ length result }
+fn recording_buffer(alloc: Global) -> Result<Vec<u8>, AllocError>
+    ensures { IfOk result (λ buf. 786433 ≡ vec_len buf) }
 {
-    [0; 786433]
+    Ok(vec![in alloc; 0; 786433]?)
 }
 
 // Writes the recording of a trace; a bad trace is told on standard error.
-fn write_recording(trace: &[u8]) -> bool {
-    let mut out = recording_buffer();
+fn write_recording(rt: &(impl Print + Eprint + AllocGlobal), trace: &[u8]) -> io::Result<()> {
+    let mut out = recording_buffer(rt.alloc())?;
     let answer = record_trace::record(trace, &mut out);
     match answer {
         RecordAnswer::Recorded(n) => {
             let len = page::within(n, &out);
-            io::write_all(STDOUT_FILENO, &out[..len])
+            rt.write_all(&out[..len])
         }
-        RecordAnswer::Refused(why) => file_io::warn(answer_words::verdict_line(Verdict::Refused(
-            why,
-        ))),
+        RecordAnswer::Refused(why) => {
+            file_io::warn(rt, answer_words::verdict_line(Verdict::Refused(why)))
+        }
     }
 }
 
-pub fn run() -> bool {
-    let mut bytes = file_io::input_buffer();
-    let input = file_io::read_input(&mut bytes);
+// Answers whether all of the input was read; where it was not, that is told on standard error.
+pub fn run(rt: &(impl io::Input + Print + Eprint + AllocGlobal)) -> io::Result<bool> {
+    let mut bytes = file_io::input_buffer(rt.alloc())?;
+    let input = file_io::read_input(rt, &mut bytes)?;
     match input {
         Input::Whole(n) => {
             let len = page::within(n, &bytes);
-            write_recording(&bytes[..len])
+            write_recording(rt, &bytes[..len])?;
+            Ok(true)
         }
-        Input::Told => false,
+        Input::Told => Ok(false),
     }
 }

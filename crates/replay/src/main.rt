@@ -1,5 +1,7 @@
 // Replays the recording from standard input on the set in set.bin.
 #![tactic(auto)]
-fn main() {
-    replay_io::run();
+use std::io;
+
+fn main(rt: HostRuntime) -> io::Result<()> {
+    replay_io::run(&rt)
 }

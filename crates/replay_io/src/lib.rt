@@ -1,73 +1,62 @@
 // The replay program's reading and writing; what is read and written is decided by proved functions.
+// A read or a write that fails ends the replay, and is handed to the caller.
 #![tactic(auto)]
+
 use file_io::Input;
-use libc::STDOUT_FILENO;
 use replay_lines::Replaying;
 use rules::ReadResult;
+use std::io;
+use std::rt::Files;
 
-fn stopped(r: Replaying) -> Replaying {
-    let mut last = r;
-    last.live = false;
-    last
-}
-
-// Writes the first line. An output that takes nothing more ends the replay.
-pub fn begin(r: ReadResult) -> Replaying {
+// Writes the first line.
+pub fn begin(rt: &impl Print, r: ReadResult) -> io::Result<Replaying> {
     let first = replay_lines::begin_replay(r);
-    let line = first.line;
-    let replaying = first.replaying;
-    if file_io::say(line) {
-        replaying
-    } else {
-        stopped(replaying)
-    }
+    file_io::say(rt, first.line)?;
+    Ok(first.replaying)
 }
 
 // Writes a page of steps.
-fn print_page(recording: &[u8], r: Replaying) -> Replaying {
-    let mut out = io::large_buffer();
+fn print_page(rt: &impl Print, recording: &[u8], r: Replaying) -> io::Result<Replaying> {
+    let mut out = [0u8; file_io::LARGE_BUFFER];
     let filled = replay_lines::fill(recording, r, &mut out);
-    let next = filled.replaying;
     let len = page::within(filled.len, &out);
-    if io::write_all(STDOUT_FILENO, &out[..len]) {
-        next
-    } else {
-        stopped(next)
-    }
+    rt.write_all(&out[..len])?;
+    Ok(filled.replaying)
 }
 
-// A proved loop has to end: the turns are counted down from a number that no recording uses up.
-pub fn print_pages(recording: &[u8], begun: Replaying) {
+// A proved loop has to end: the turns are counted up to a number that no recording uses up.
+pub fn print_pages(rt: &impl Print, recording: &[u8], begun: Replaying) -> io::Result<()> {
     let mut r = begun;
-    let mut turns = u64::MAX;
-    while turns > 0 {
-        let live = r.live;
-        if !live {
-            return;
+    for _ in 0..u64::MAX {
+        if !r.live {
+            break;
         }
-        r = print_page(recording, r);
-        turns -= 1;
+        r = print_page(rt, recording, r)?;
     }
+    Ok(())
 }
 
 // The steps of the recording from standard input.
-fn print_steps(begun: Replaying) {
-    let mut bytes = file_io::input_buffer();
-    let input = file_io::read_input(&mut bytes);
+fn print_steps(
+    rt: &(impl io::Input + Print + Eprint + AllocGlobal),
+    begun: Replaying,
+) -> io::Result<()> {
+    let mut bytes = file_io::input_buffer(rt.alloc())?;
+    let input = file_io::read_input(rt, &mut bytes)?;
     match input {
         Input::Whole(n) => {
             let len = page::within(n, &bytes);
-            print_pages(&bytes[..len], begun)
+            print_pages(rt, &bytes[..len], begun)
         }
-        Input::Told => {}
+        Input::Told => Ok(()),
     }
 }
 
 // A refused sheet prints its line, and nothing more is read.
-pub fn run() {
-    let begun = begin(file_io::read_sheet());
-    let live = begun.live;
-    if live {
-        print_steps(begun)
+pub fn run(rt: &(impl Files + io::Input + Print + Eprint + AllocGlobal)) -> io::Result<()> {
+    let begun = begin(rt, file_io::read_sheet(rt)?)?;
+    if begun.live {
+        print_steps(rt, begun)?;
     }
+    Ok(())
 }

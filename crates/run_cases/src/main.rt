@@ -1,7 +1,9 @@
 // Runs the stored cases: random sheets and traces, whose expected output the second program wrote.
 #![tactic(auto)]
-use case_io::Kind;
 
-fn main() {
-    case_io::batch(Kind::Traces);
+use case_io::Kind;
+use std::io;
+
+fn main(rt: HostRuntime) -> io::Result<()> {
+    case_io::batch(&rt, Kind::Traces)
 }

@@ -1,5 +1,7 @@
 // The trace program on a sheet with a byte too many.
 #![tactic(auto)]
-fn main() {
-    trace_io::run();
+use std::io;
+
+fn main(rt: HostRuntime) -> io::Result<()> {
+    trace_io::run(&rt)
 }

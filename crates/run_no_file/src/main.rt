@@ -1,5 +1,7 @@
 // The trace program with no set.bin: read as no bytes.
 #![tactic(auto)]
-fn main() {
-    trace_io::run();
+use std::io;
+
+fn main(rt: HostRuntime) -> io::Result<()> {
+    trace_io::run(&rt)
 }

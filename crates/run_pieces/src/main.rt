@@ -1,40 +1,44 @@
 // Sheets in pieces: every cut of a sheet of each version, what is refused, and what no pieces could have left.
 #![tactic(auto)]
+
 use rules::{ReadAnswer, Set, WriteAnswer};
 use sheet_carried::{Carried, Point};
+use std::io;
 
 // ---- what is printed
 
 // A set's sheet, written again.
-fn sheet(x: Set) {
+fn sheet(rt: &impl Print, x: Set) -> io::Result<()> {
     let mut bytes = [0u8; rules::LONGEST_SHEET];
     match sheet_write::write(x, &mut bytes) {
         WriteAnswer::Wrote(n) => {
             let len = page::within(n, &bytes);
-            let mut out = io::buffer();
+            let mut out = [0u8; file_io::BUFFER];
             let end = page::within(page_hex::print(&bytes[..len], &mut out, 0), &out);
-            io::write_all(1, &out[..end]);
+            rt.write_all(&out[..end])?;
         }
         WriteAnswer::Refused(_) => {}
     }
+    Ok(())
 }
 
 // What closing gives: the number of streams and the sheet, or the refusal.
-fn close(c: Carried) {
+fn close(rt: &impl Print, c: Carried) -> io::Result<()> {
     let r = sheet_read::close(c);
     let answer = r.answer;
     let set = r.set;
     match answer {
         ReadAnswer::Read => {
-            file_io::say(line::one(line::blank(), b"set", set.count as u64));
-            io::write_all(1, b" ");
-            sheet(set);
-            io::write_all(1, b"\n");
+            file_io::say(rt, line::one(line::blank(), b"set", set.count as u64))?;
+            rt.write_all(b" ")?;
+            sheet(rt, set)?;
+            rt.write_all(b"\n")?;
         }
         ReadAnswer::Refused(_) => {
-            file_io::say(console_words::read_line(answer, 0));
+            file_io::say(rt, console_words::read_line(answer, 0))?;
         }
     }
+    Ok(())
 }
 
 // ---- pieces
@@ -44,25 +48,29 @@ fn fed(c: Carried, piece: &[u8]) -> Carried {
     r.carried
 }
 
-fn cut(bytes: &[u8], at: usize) {
-    file_io::say(line::one(line::blank(), b"cut", at as u64));
-    io::write_all(1, b": ");
+fn cut(rt: &impl Print, bytes: &[u8], at: usize) -> io::Result<()> {
+    file_io::say(rt, line::one(line::blank(), b"cut", at as u64))?;
+    rt.write_all(b": ")?;
     if at <= bytes.len() {
-        close(fed(fed(sheet_read::cable(), &bytes[..at]), &bytes[at..]));
+        close(
+            rt,
+            fed(fed(sheet_read::cable(), &bytes[..at]), &bytes[at..]),
+        )?;
     }
+    Ok(())
 }
 
-fn every_cut(bytes: &[u8]) {
+fn every_cut(rt: &impl Print, bytes: &[u8]) -> io::Result<()> {
     let mut at = 0;
     while at < bytes.len() {
-        cut(bytes, at);
+        cut(rt, bytes, at)?;
         at += 1;
     }
-    cut(bytes, at);
+    cut(rt, bytes, at)
 }
 
-fn byte_by_byte(bytes: &[u8]) {
-    io::write_all(1, b"byte by byte: ");
+fn byte_by_byte(rt: &impl Print, bytes: &[u8]) -> io::Result<()> {
+    rt.write_all(b"byte by byte: ")?;
     let mut c = sheet_read::cable();
     let mut i = 0;
     while i < bytes.len() {
@@ -70,31 +78,31 @@ fn byte_by_byte(bytes: &[u8]) {
         c = fed(c, &piece);
         i += 1;
     }
-    close(c);
+    close(rt, c)
 }
 
-fn three(name: &[u8], a: &[u8], b: &[u8], d: &[u8]) {
-    io::write_all(1, name);
+fn three(rt: &impl Print, name: &[u8], a: &[u8], b: &[u8], d: &[u8]) -> io::Result<()> {
+    rt.write_all(name)?;
     let front = fed(fed(sheet_read::cable(), b""), a);
-    close(fed(fed(fed(front, b""), b), d));
+    close(rt, fed(fed(fed(front, b""), b), d))
 }
 
-fn whole(bytes: &[u8]) {
-    every_cut(bytes);
-    byte_by_byte(bytes);
+fn whole(rt: &impl Print, bytes: &[u8]) -> io::Result<()> {
+    every_cut(rt, bytes)?;
+    byte_by_byte(rt, bytes)
 }
 
 // ---- what no pieces could have left
 
-fn twelve(name: &[u8], c: Carried) {
-    io::write_all(1, name);
-    io::write_all(1, b", feed: ");
+fn twelve(rt: &impl Print, name: &[u8], c: Carried) -> io::Result<()> {
+    rt.write_all(name)?;
+    rt.write_all(b", feed: ")?;
     let r = sheet_read::feed(c, b"\x10");
     let answer = r.answer;
-    file_io::say(console_words::feed_line(answer));
-    io::write_all(1, name);
-    io::write_all(1, b", close: ");
-    close(r.carried);
+    file_io::say(rt, console_words::feed_line(answer))?;
+    rt.write_all(name)?;
+    rt.write_all(b", close: ")?;
+    close(rt, r.carried)
 }
 
 fn within_a_byte() -> Carried {
@@ -123,30 +131,51 @@ fn stream_not_there() -> Carried {
     c
 }
 
-fn main() {
-    whole(b"\x10\x98\x00\x10\x00\x0a\x00\x00\x50\x00\x00");
+fn main(rt: HostRuntime) -> io::Result<()> {
+    whole(&rt, b"\x10\x98\x00\x10\x00\x0a\x00\x00\x50\x00\x00")?;
     whole(
+        &rt,
         b"\x21\x00\x01\x88\x80\x01\x20\x00\x18\x00\x06\x40\x00\x00\x00\x78\x40\x00\x20\x00\x0c\x80\x00\x00",
-    );
+    )?;
     three(
+        &rt,
         b"empty pieces: ",
         b"\x10\x98\x00\x10\x00\x0a",
         b"\x00\x00\x50\x00\x00",
         b"",
-    );
+    )?;
     three(
+        &rt,
         b"cost 0, more behind: ",
         b"\x10\x98\x00",
         b"\x00",
         b"\x00\x0a\x00\x00\x50\x00\x00",
-    );
-    three(b"a byte behind the padding: ", b"\x10", b"\x00", b"\x00");
-    three(b"a set padding bit: ", b"\x10", b"\x01", b"");
-    three(b"bits missing: ", b"\x10\x98", b"\x00\x10\x00", b"\x0a");
-    three(b"no bytes: ", b"", b"", b"");
-    three(b"version 3, more behind: ", b"\x30", b"\xff", b"\x10\x00");
-    twelve(b"new", sheet_read::cable());
-    twelve(b"within a byte", within_a_byte());
-    twelve(b"a value that was not read", value_not_read());
-    twelve(b"a stream that is not there", stream_not_there());
+    )?;
+    three(
+        &rt,
+        b"a byte behind the padding: ",
+        b"\x10",
+        b"\x00",
+        b"\x00",
+    )?;
+    three(&rt, b"a set padding bit: ", b"\x10", b"\x01", b"")?;
+    three(
+        &rt,
+        b"bits missing: ",
+        b"\x10\x98",
+        b"\x00\x10\x00",
+        b"\x0a",
+    )?;
+    three(&rt, b"no bytes: ", b"", b"", b"")?;
+    three(
+        &rt,
+        b"version 3, more behind: ",
+        b"\x30",
+        b"\xff",
+        b"\x10\x00",
+    )?;
+    twelve(&rt, b"new", sheet_read::cable())?;
+    twelve(&rt, b"within a byte", within_a_byte())?;
+    twelve(&rt, b"a value that was not read", value_not_read())?;
+    twelve(&rt, b"a stream that is not there", stream_not_there())
 }

@@ -2,85 +2,90 @@
 #![tactic(auto)]
 
 use rules::{ReadAnswer, Refusal, Set, WriteAnswer};
+use std::io;
 
 // Three digits.
-fn number(n: usize) {
+fn number(rt: &impl Print, n: usize) -> io::Result<()> {
     let digits = [
         ((n / 100 % 10) as u8) + 48,
         ((n / 10 % 10) as u8) + 48,
         ((n % 10) as u8) + 48,
     ];
-    io::write_all(1, &digits);
+    rt.write_all(&digits)
 }
 
-fn refused(why: Refusal) {
-    io::write_all(1, b"refused ");
-    number(answer_numbers::refusal_number(why) as usize);
-    io::write_all(1, b"\n");
+fn refused(rt: &impl Print, why: Refusal) -> io::Result<()> {
+    rt.write_all(b"refused ")?;
+    number(rt, answer_numbers::refusal_number(why) as usize)?;
+    rt.write_all(b"\n")
 }
 
-fn wrote(a: WriteAnswer) {
+fn wrote(rt: &impl Print, a: WriteAnswer) -> io::Result<()> {
     match a {
         WriteAnswer::Wrote(n) => {
-            io::write_all(1, b"wrote ");
-            number(n);
-            io::write_all(1, b"\n");
+            rt.write_all(b"wrote ")?;
+            number(rt, n)?;
+            rt.write_all(b"\n")?;
         }
-        WriteAnswer::Refused(why) => refused(why),
+        WriteAnswer::Refused(why) => refused(rt, why)?,
     }
+    Ok(())
 }
 
 // The sheet of a set, written to as many bytes as the longest sheet has.
-fn again(set: Set) {
+fn again(rt: &impl Print, set: Set) -> io::Result<()> {
     let mut buf = [238u8; rules::LONGEST_SHEET];
-    wrote(sheet_write::write(set, &mut buf));
+    wrote(rt, sheet_write::write(set, &mut buf))
 }
 
 // What the bytes read as, and, of a set, what it is written as.
-fn row(name: &[u8], bytes: &[u8]) {
-    io::write_all(1, name);
-    io::write_all(1, b": ");
+fn row(rt: &impl Print, name: &[u8], bytes: &[u8]) -> io::Result<()> {
+    rt.write_all(name)?;
+    rt.write_all(b": ")?;
     let r = sheet_read::read(bytes);
     let a = r.answer;
     let set = r.set;
     match a {
-        ReadAnswer::Read => again(set),
-        ReadAnswer::Refused(why) => refused(why),
+        ReadAnswer::Read => again(rt, set)?,
+        ReadAnswer::Refused(why) => refused(rt, why)?,
     }
+    Ok(())
 }
 
-fn byte(b: u8) {
-    number(b as usize);
-    io::write_all(1, b" ");
+fn byte(rt: &impl Print, b: u8) -> io::Result<()> {
+    number(rt, b as usize)?;
+    rt.write_all(b" ")
 }
 
 // The sheet of a set, written to the first `room` bytes of a buffer.
-fn part(set: Set, buf: &mut [u8], room: usize) {
+fn part(rt: &impl Print, set: Set, buf: &mut [u8], room: usize) -> io::Result<()> {
     if room <= buf.len() {
-        wrote(sheet_write::write(set, &mut buf[..room]));
+        wrote(rt, sheet_write::write(set, &mut buf[..room]))?;
     }
+    Ok(())
 }
 
 // The sheet of W12 written to a part of a buffer, and the buffer's bytes 0, 10, 11 and 15 then.
-fn lent(room: usize) {
+fn lent(rt: &impl Print, room: usize) -> io::Result<()> {
     let r = sheet_read::read(b"\x10\x98\x00\x10\x00\x0a\x00\x00\x50\x00\x00");
     let set = r.set;
     let mut buf = [238u8; 16];
-    number(room);
-    io::write_all(1, b" bytes: ");
-    part(set, &mut buf, room);
-    byte(buf[0]);
-    byte(buf[10]);
-    byte(buf[11]);
-    byte(buf[15]);
-    io::write_all(1, b"\n");
+    number(rt, room)?;
+    rt.write_all(b" bytes: ")?;
+    part(rt, set, &mut buf, room)?;
+    byte(rt, buf[0])?;
+    byte(rt, buf[10])?;
+    byte(rt, buf[11])?;
+    byte(rt, buf[15])?;
+    rt.write_all(b"\n")
 }
 
 // What the first `n` of the bytes read as.
-fn front(name: &[u8], bytes: &[u8], n: usize) {
+fn front(rt: &impl Print, name: &[u8], bytes: &[u8], n: usize) -> io::Result<()> {
     if n <= bytes.len() {
-        row(name, &bytes[..n]);
+        row(rt, name, &bytes[..n])?;
     }
+    Ok(())
 }
 
 fn mark(buf: &mut [u8], at: usize, bits: u8) {
@@ -90,11 +95,11 @@ fn mark(buf: &mut [u8], at: usize, bits: u8) {
 }
 
 // The sheet of a set and zero bytes behind it, with these bits set in the byte `last`: what the first `n` bytes read as.
-fn edge(name: &[u8], set: Set, last: usize, bits: u8, n: usize) {
+fn edge(rt: &impl Print, name: &[u8], set: Set, last: usize, bits: u8, n: usize) -> io::Result<()> {
     let mut buf = [0u8; 503];
     sheet_write::write(set, &mut buf);
     mark(&mut buf, last, bits);
-    front(name, &buf, n);
+    front(rt, name, &buf, n)
 }
 
 // Sixteen streams, each with four tuples.
@@ -106,171 +111,208 @@ fn full() -> Set {
     set
 }
 
-fn yard() {
-    row(b"no bytes", b"");
-    row(b"10", b"\x10");
-    row(b"20", b"\x20");
-    row(b"20 00", b"\x20\x00");
-    row(b"10 01", b"\x10\x01");
-    row(b"10 00 00", b"\x10\x00\x00");
-    row(b"W11", b"\x10\x00");
-    row(b"W12", b"\x10\x98\x00\x10\x00\x0a\x00\x00\x50\x00\x00");
-    edge(b"full", full(), 377, 0, 378);
+fn yard(rt: &impl Print) -> io::Result<()> {
+    row(rt, b"no bytes", b"")?;
+    row(rt, b"10", b"\x10")?;
+    row(rt, b"20", b"\x20")?;
+    row(rt, b"20 00", b"\x20\x00")?;
+    row(rt, b"10 01", b"\x10\x01")?;
+    row(rt, b"10 00 00", b"\x10\x00\x00")?;
+    row(rt, b"W11", b"\x10\x00")?;
+    row(rt, b"W12", b"\x10\x98\x00\x10\x00\x0a\x00\x00\x50\x00\x00")?;
+    edge(rt, b"full", full(), 377, 0, 378)
 }
 
-fn ends() {
-    edge(b"full, a byte less", full(), 377, 0, 377);
-    edge(b"full, a byte more", full(), 377, 0, 379);
-    edge(b"full, a set padding bit", full(), 377, 1, 378);
-    row(b"count 16, no stream", b"\x18\x00");
-    row(b"count 17", b"\x18\x80");
-    row(b"count 17, its bits alone", b"\x18\x80");
+fn ends(rt: &impl Print) -> io::Result<()> {
+    edge(rt, b"full, a byte less", full(), 377, 0, 377)?;
+    edge(rt, b"full, a byte more", full(), 377, 0, 379)?;
+    edge(rt, b"full, a set padding bit", full(), 377, 1, 378)?;
+    row(rt, b"count 16, no stream", b"\x18\x00")?;
+    row(rt, b"count 17", b"\x18\x80")?;
+    row(rt, b"count 17, its bits alone", b"\x18\x80")
 }
 
-fn streams() {
-    row(b"cost 0", b"\x10\x98\x00\x00\x00\x0a\x00\x00\x50\x00\x00");
-    row(b"cost 0, its bits alone", b"\x10\x98\x00\x00");
-    row(b"cost 1", b"\x10\x98\x00\x08\x00\x0a\x00\x00\x50\x00\x00");
+fn streams(rt: &impl Print) -> io::Result<()> {
     row(
+        rt,
+        b"cost 0",
+        b"\x10\x98\x00\x00\x00\x0a\x00\x00\x50\x00\x00",
+    )?;
+    row(rt, b"cost 0, its bits alone", b"\x10\x98\x00\x00")?;
+    row(
+        rt,
+        b"cost 1",
+        b"\x10\x98\x00\x08\x00\x0a\x00\x00\x50\x00\x00",
+    )?;
+    row(
+        rt,
         b"cost 65,535",
         b"\x10\x9f\xff\xf8\x00\x0a\x00\x00\x50\x00\x00",
-    );
+    )?;
     row(
+        rt,
         b"deadline 0",
         b"\x10\x98\x00\x10\x00\x00\x00\x00\x50\x00\x00",
-    );
+    )?;
     row(
+        rt,
         b"deadline 1",
         b"\x10\x98\x00\x10\x00\x02\x00\x00\x50\x00\x00",
-    );
+    )?;
     row(
+        rt,
         b"deadline 200,000",
         b"\x10\x98\x00\x16\x1a\x80\x00\x00\x50\x00\x00",
-    );
+    )?;
     row(
+        rt,
         b"deadline 200,001",
         b"\x10\x98\x00\x16\x1a\x82\x00\x00\x50\x00\x00",
-    );
-    row(b"tuples missing", b"\x10\x98\x00\x10\x00\x0a\x00");
+    )?;
+    row(rt, b"tuples missing", b"\x10\x98\x00\x10\x00\x0a\x00")
 }
 
-fn tuples() {
-    row(b"cycle 0", b"\x10\x98\x00\x10\x00\x0a\x00\x00\x00\x00\x00");
+fn tuples(rt: &impl Print) -> io::Result<()> {
     row(
+        rt,
+        b"cycle 0",
+        b"\x10\x98\x00\x10\x00\x0a\x00\x00\x00\x00\x00",
+    )?;
+    row(
+        rt,
         b"cycle 1,000,000",
         b"\x10\x98\x00\x10\x00\x0a\x7a\x12\x00\x00\x00",
-    );
+    )?;
     row(
+        rt,
         b"cycle 1,000,001",
         b"\x10\x98\x00\x10\x00\x0a\x7a\x12\x08\x00\x00",
-    );
+    )?;
     row(
+        rt,
         b"first offset 1",
         b"\x10\x98\x00\x10\x00\x0a\x00\x00\x50\x00\x04",
-    );
+    )?;
     row(
+        rt,
         b"offset 100,000",
         b"\x10\x98\x00\x10\x00\x0a\x80\x00\x50\x00\x00\x00\x02\xb0\xd4\x00",
-    );
+    )?;
     row(
+        rt,
         b"offset 100,001",
         b"\x10\x98\x00\x10\x00\x0a\x80\x00\x50\x00\x00\x00\x02\xb0\xd4\x20",
-    );
+    )?;
     row(
+        rt,
         b"offsets equal",
         b"\x10\x98\x00\x10\x00\x0b\x00\x00\x50\x00\x00\x00\x00\x00\x00\xe0\x00\x14\x00\x07",
-    );
+    )?;
     row(
+        rt,
         b"offsets fall",
         b"\x10\x98\x00\x10\x00\x0b\x00\x00\x50\x00\x00\x00\x00\x00\x00\xe0\x00\x14\x00\x06",
-    );
+    )?;
     row(
+        rt,
         b"four tuples",
         b"\x10\x98\x00\x10\x00\x0b\x80\x00\x08\x00\x00\x00\x00\x00\x00\x20\x00\x04\x00\x02\x00\x00\x00\x00\x18",
-    );
+    )
 }
 
-fn staged() {
+fn staged(rt: &impl Print) -> io::Result<()> {
     row(
+        rt,
         b"version 2, one stage",
         b"\x20\x80\x00\xa1\x80\x01\x00\x00\x14\x00\x00",
-    );
+    )?;
     row(
+        rt,
         b"version 2, two stages",
         b"\x21\x00\x01\x88\x80\x01\x20\x00\x18\x00\x06\x40\x00\x00\x00\x78\x40\x00\x20\x00\x0c\x80\x00\x00",
-    );
+    )?;
     row(
+        rt,
         b"version 2, four stages",
         b"\x20\x80\x05\x18\x80\x01\x20\x00\x1a\x00\x00\x80\x00\x28\x00\x06\x40\x00\x00",
-    );
+    )?;
     row(
+        rt,
         b"version 2, first stage's cost 0",
         b"\x20\x80\x05\x08\x80\x00\x20\x00\x18\x00\x06\x40\x00\x00",
-    );
+    )?;
     row(
+        rt,
         b"version 2, last stage's cost 0",
         b"\x20\x80\x05\x08\x80\x01\x20\x00\x00\x00\x06\x40\x00\x00",
-    );
+    )?;
     row(
+        rt,
         b"version 2, costs 1 and 65,535",
         b"\x20\x80\x05\x08\x80\x00\xa7\xff\xf8\x00\x06\x40\x00\x00",
-    );
+    )?;
     row(
+        rt,
         b"version 2, deadline 0",
         b"\x20\x80\x00\x08\x80\x01\x20\x00\x18\x00\x06\x40\x00\x00",
-    );
+    )?;
     row(
+        rt,
         b"version 2, deadline 200,000",
         b"\x20\xe1\xa8\x08\x80\x01\x20\x00\x18\x00\x06\x40\x00\x00",
-    );
+    )?;
     row(
+        rt,
         b"version 2, deadline 200,001",
         b"\x20\xe1\xa8\x28\x80\x01\x20\x00\x18\x00\x06\x40\x00\x00",
-    );
+    )?;
     row(
+        rt,
         b"version 2, stages missing",
         b"\x20\x80\x05\x18\x80\x01\x00",
-    );
-    row(b"version 2, count 17", b"\x28\x80");
-    row(b"version 3", b"\x30\x00");
-    row(b"version 0", b"\x00\x00");
-    row(b"version 15", b"\xf0\x00");
+    )?;
+    row(rt, b"version 2, count 17", b"\x28\x80")?;
+    row(rt, b"version 3", b"\x30\x00")?;
+    row(rt, b"version 0", b"\x00\x00")?;
+    row(rt, b"version 15", b"\xf0\x00")
 }
 
 // The first `n` bytes of a buffer.
-fn first(buf: &[u8], n: usize) {
+fn first(rt: &impl Print, buf: &[u8], n: usize) -> io::Result<()> {
     if n <= buf.len() {
         let mut k: usize = 0;
         while k < n {
-            byte(buf[k]);
+            byte(rt, buf[k])?;
             k += 1;
         }
     }
-    io::write_all(1, b"\n");
+    rt.write_all(b"\n")
 }
 
 // A sheet that is read and written again, and its bytes.
-fn both_ways(bytes: &[u8]) {
+fn both_ways(rt: &impl Print, bytes: &[u8]) -> io::Result<()> {
     let r = sheet_read::read(bytes);
     let set = r.set;
     let mut buf = [238u8; 32];
     let a = sheet_write::write(set, &mut buf);
-    wrote(a);
+    wrote(rt, a)?;
     match a {
-        WriteAnswer::Wrote(n) => first(&buf, n),
+        WriteAnswer::Wrote(n) => first(rt, &buf, n)?,
         WriteAnswer::Refused(_) => {}
     }
+    Ok(())
 }
 
 // The empty set and W12 of each version, and two streams, the first with two stages.
-fn versions() {
-    both_ways(b"\x10\x00");
-    both_ways(b"\x20\x00");
-    both_ways(b"\x10\x98\x00\x10\x00\x0a\x00\x00\x50\x00\x00");
-    both_ways(b"\x20\x80\x00\xa1\x80\x01\x00\x00\x14\x00\x00");
+fn versions(rt: &impl Print) -> io::Result<()> {
+    both_ways(rt, b"\x10\x00")?;
+    both_ways(rt, b"\x20\x00")?;
+    both_ways(rt, b"\x10\x98\x00\x10\x00\x0a\x00\x00\x50\x00\x00")?;
+    both_ways(rt, b"\x20\x80\x00\xa1\x80\x01\x00\x00\x14\x00\x00")?;
     both_ways(
+        rt,
         b"\x21\x00\x01\x88\x80\x01\x20\x00\x18\x00\x06\x40\x00\x00\x00\x78\x40\x00\x20\x00\x0c\x80\x00\x00",
-    );
+    )
 }
 
 // Two streams, the first with two stages.
@@ -283,40 +325,40 @@ fn two_stages() -> Set {
 }
 
 // These streams as a set of a version.
-fn as_version(version: u32) {
+fn as_version(rt: &impl Print, version: u32) -> io::Result<()> {
     let mut set = two_stages();
     set.version = version;
-    io::write_all(1, b"two stages, as version ");
-    number(version as usize);
-    io::write_all(1, b": ");
-    again(set);
+    rt.write_all(b"two stages, as version ")?;
+    number(rt, version as usize)?;
+    rt.write_all(b": ")?;
+    again(rt, set)
 }
 
 // The same with a cost in the second stage.
-fn with_cost(cost: u32) {
+fn with_cost(rt: &impl Print, cost: u32) -> io::Result<()> {
     let mut set = two_stages();
     let mut s = set.streams[0];
     let mut g = s.stages[1];
     g.cost = cost;
     s.stages[1] = g;
     set.streams[0] = s;
-    io::write_all(1, b"two stages, the second's cost ");
-    number(cost as usize);
-    io::write_all(1, b": ");
-    again(set);
+    rt.write_all(b"two stages, the second's cost ")?;
+    number(rt, cost as usize)?;
+    rt.write_all(b": ")?;
+    again(rt, set)
 }
 
 // Their sheet written to a part of a buffer, and the buffer's bytes 0, 23, 24 and 31 then.
-fn lent_stages(room: usize) {
+fn lent_stages(rt: &impl Print, room: usize) -> io::Result<()> {
     let mut buf = [238u8; 32];
-    number(room);
-    io::write_all(1, b" bytes: ");
-    part(two_stages(), &mut buf, room);
-    byte(buf[0]);
-    byte(buf[23]);
-    byte(buf[24]);
-    byte(buf[31]);
-    io::write_all(1, b"\n");
+    number(rt, room)?;
+    rt.write_all(b" bytes: ")?;
+    part(rt, two_stages(), &mut buf, room)?;
+    byte(rt, buf[0])?;
+    byte(rt, buf[23])?;
+    byte(rt, buf[24])?;
+    byte(rt, buf[31])?;
+    rt.write_all(b"\n")
 }
 
 // Sixteen streams, each with four stages and four tuples.
@@ -329,53 +371,80 @@ fn full_stages() -> Set {
 }
 
 // Their sheet written to a part of a buffer, and the buffer's bytes 0, 500, 501 and 502 then.
-fn lent_full(room: usize) {
+fn lent_full(rt: &impl Print, room: usize) -> io::Result<()> {
     let mut buf = [238u8; 503];
-    number(room);
-    io::write_all(1, b" bytes: ");
-    part(full_stages(), &mut buf, room);
-    byte(buf[0]);
-    byte(buf[500]);
-    byte(buf[501]);
-    byte(buf[502]);
-    io::write_all(1, b"\n");
+    number(rt, room)?;
+    rt.write_all(b" bytes: ")?;
+    part(rt, full_stages(), &mut buf, room)?;
+    byte(rt, buf[0])?;
+    byte(rt, buf[500])?;
+    byte(rt, buf[501])?;
+    byte(rt, buf[502])?;
+    rt.write_all(b"\n")
 }
 
-fn staged_ends() {
-    edge(b"version 2, full", full_stages(), 501, 0, 502);
-    edge(b"version 2, full, a byte less", full_stages(), 501, 0, 501);
-    edge(b"version 2, full, a byte more", full_stages(), 501, 0, 503);
+fn staged_ends(rt: &impl Print) -> io::Result<()> {
+    edge(rt, b"version 2, full", full_stages(), 501, 0, 502)?;
     edge(
+        rt,
+        b"version 2, full, a byte less",
+        full_stages(),
+        501,
+        0,
+        501,
+    )?;
+    edge(
+        rt,
+        b"version 2, full, a byte more",
+        full_stages(),
+        501,
+        0,
+        503,
+    )?;
+    edge(
+        rt,
         b"version 2, full, a set padding bit",
         full_stages(),
         501,
         1,
         502,
-    );
+    )
 }
 
-fn main() {
-    yard();
-    ends();
-    streams();
-    tuples();
-    lent(0);
-    lent(10);
-    lent(11);
-    lent(12);
-    staged();
-    versions();
-    as_version(0);
-    as_version(1);
-    as_version(2);
-    as_version(3);
-    with_cost(0);
-    with_cost(1);
-    lent_stages(23);
-    lent_stages(24);
-    lent_stages(25);
-    lent_full(501);
-    lent_full(502);
-    lent_full(503);
-    staged_ends();
+fn lents(rt: &impl Print) -> io::Result<()> {
+    lent(rt, 0)?;
+    lent(rt, 10)?;
+    lent(rt, 11)?;
+    lent(rt, 12)
+}
+
+fn two_staged(rt: &impl Print) -> io::Result<()> {
+    as_version(rt, 0)?;
+    as_version(rt, 1)?;
+    as_version(rt, 2)?;
+    as_version(rt, 3)?;
+    with_cost(rt, 0)?;
+    with_cost(rt, 1)
+}
+
+fn lents_staged(rt: &impl Print) -> io::Result<()> {
+    lent_stages(rt, 23)?;
+    lent_stages(rt, 24)?;
+    lent_stages(rt, 25)?;
+    lent_full(rt, 501)?;
+    lent_full(rt, 502)?;
+    lent_full(rt, 503)
+}
+
+fn main(rt: HostRuntime) -> io::Result<()> {
+    yard(&rt)?;
+    ends(&rt)?;
+    streams(&rt)?;
+    tuples(&rt)?;
+    lents(&rt)?;
+    staged(&rt)?;
+    versions(&rt)?;
+    two_staged(&rt)?;
+    lents_staged(&rt)?;
+    staged_ends(&rt)
 }

@@ -1,13 +1,15 @@
 // A state for each way of not being well formed: 12 from post, choose and unit.
 use crate::yard;
 use rules::State;
+use std::io;
 
-fn twelve(s: State) {
+fn twelve(rt: &impl Print, s: State) -> io::Result<()> {
     let r = scheduler::post(s, 0);
     let a = r.answer;
-    crate::say::post(a);
-    crate::say::choose(scheduler::choose(s));
-    yard::unit(s, false);
+    crate::say::post(rt, a)?;
+    crate::say::choose(rt, scheduler::choose(s))?;
+    yard::unit(rt, s, false)?;
+    Ok(())
 }
 
 // Two messages of set B pending at clock 1: stream 1 started, stream 2 not.
@@ -21,36 +23,42 @@ fn sound() -> State {
 }
 
 // The set, the count and the clock.
-fn counts() {
-    crate::say::words(b"set invalid, 65 messages, clock past the last\n");
+fn counts(rt: &impl Print) -> io::Result<()> {
+    crate::say::words(rt, b"set invalid, 65 messages, clock past the last\n")?;
     let mut s = sound();
     let mut x = s.set;
     x.count = 17;
     s.set = x;
-    twelve(s);
+    twelve(rt, s)?;
     let mut s = sound();
     s.count = 65;
-    twelve(s);
+    twelve(rt, s)?;
     let mut s = sound();
     s.clock = 4000000001;
-    twelve(s);
+    twelve(rt, s)
 }
 
 // A message's own rules.
-fn messages() {
-    crate::say::words(b"no such stream, used up, deadline below d, deadline past clock + d\n");
-    twelve(yard::with_message(sound(), 1, 3, 9, 0));
-    twelve(yard::with_message(sound(), 1, 2, 9, 2));
-    twelve(yard::with_message(sound(), 1, 2, 7, 0));
-    twelve(yard::with_message(sound(), 1, 2, 10, 0));
+fn messages(rt: &impl Print) -> io::Result<()> {
+    crate::say::words(
+        rt,
+        b"no such stream, used up, deadline below d, deadline past clock + d\n",
+    )?;
+    twelve(rt, yard::with_message(sound(), 1, 3, 9, 0))?;
+    twelve(rt, yard::with_message(sound(), 1, 2, 9, 2))?;
+    twelve(rt, yard::with_message(sound(), 1, 2, 7, 0))?;
+    twelve(rt, yard::with_message(sound(), 1, 2, 10, 0))
 }
 
 // The order, the started messages and the unused places.
-fn together() {
-    crate::say::words(b"posting order, two started, unused place\n");
-    twelve(yard::with_message(yard::with_message(sound(), 0, 1, 21, 1), 1, 2, 8, 0));
-    twelve(yard::with_message(sound(), 1, 0, 6, 1));
-    twelve(yard::with_message(sound(), 2, 0, 0, 1));
+fn together(rt: &impl Print) -> io::Result<()> {
+    crate::say::words(rt, b"posting order, two started, unused place\n")?;
+    twelve(
+        rt,
+        yard::with_message(yard::with_message(sound(), 0, 1, 21, 1), 1, 2, 8, 0),
+    )?;
+    twelve(rt, yard::with_message(sound(), 1, 0, 6, 1))?;
+    twelve(rt, yard::with_message(sound(), 2, 0, 0, 1))
 }
 
 // Stream 0 in its second stage with two of its three units used, stream 1 not started, at clock 3.
@@ -64,42 +72,43 @@ fn passed() -> State {
 }
 
 // The set's version and the stages of the messages.
-fn stages() {
-    crate::say::words(b"version 3, two stages in version 1\n");
+fn stages(rt: &impl Print) -> io::Result<()> {
+    crate::say::words(rt, b"version 3, two stages in version 1\n")?;
     let mut s = passed();
     let mut x = s.set;
     x.version = 3;
     s.set = x;
-    twelve(s);
+    twelve(rt, s)?;
     let mut s = passed();
     let mut x = s.set;
     x.version = 1;
     s.set = x;
-    twelve(s);
+    twelve(rt, s)?;
     crate::say::words(
+        rt,
         b"no such stage, used up in its stage, two started on one task, a stage in an unused place\n",
-    );
-    twelve(yard::in_stage(passed(), 0, 2));
-    twelve(yard::in_stage(passed(), 0, 0));
-    twelve(yard::with_message(passed(), 1, 1, 20, 1));
-    twelve(yard::in_stage(passed(), 2, 1));
+    )?;
+    twelve(rt, yard::in_stage(passed(), 0, 2))?;
+    twelve(rt, yard::in_stage(passed(), 0, 0))?;
+    twelve(rt, yard::with_message(passed(), 1, 1, 20, 1))?;
+    twelve(rt, yard::in_stage(passed(), 2, 1))
 }
 
 // The waits at the doors: set B's are at most 20.
-fn waits() {
-    crate::say::words(b"a wait too long, without a door, in an unused place\n");
-    twelve(yard::with_wait(sound(), 0, 21));
-    twelve(yard::with_wait(passed(), 0, 1));
-    twelve(yard::with_wait(sound(), 3, 1));
+fn waits(rt: &impl Print) -> io::Result<()> {
+    crate::say::words(rt, b"a wait too long, without a door, in an unused place\n")?;
+    twelve(rt, yard::with_wait(sound(), 0, 21))?;
+    twelve(rt, yard::with_wait(passed(), 0, 1))?;
+    twelve(rt, yard::with_wait(sound(), 3, 1))
 }
 
-pub fn each() {
-    crate::say::words(b"well formed\n");
-    crate::say::choose(scheduler::choose(sound()));
-    crate::say::choose(scheduler::choose(passed()));
-    counts();
-    messages();
-    together();
-    stages();
-    waits();
+pub fn each(rt: &impl Print) -> io::Result<()> {
+    crate::say::words(rt, b"well formed\n")?;
+    crate::say::choose(rt, scheduler::choose(sound()))?;
+    crate::say::choose(rt, scheduler::choose(passed()))?;
+    counts(rt)?;
+    messages(rt)?;
+    together(rt)?;
+    stages(rt)?;
+    waits(rt)
 }

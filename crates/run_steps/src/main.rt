@@ -1,5 +1,6 @@
 // Runs the steps at their edges and prints what they answer: the places, states that are not well formed, ways a cab has gone wrong, stages, doors, and two parties.
 #![tactic(auto)]
+
 mod broken;
 mod doors;
 mod parties;
@@ -9,13 +10,15 @@ mod stages;
 mod wrongs;
 mod yard;
 
-fn main() {
-    places::full();
-    places::at_cost();
-    places::last_clock();
-    broken::each();
-    wrongs::each();
-    stages::each();
-    doors::each();
-    parties::each();
+use std::io;
+
+fn main(rt: HostRuntime) -> io::Result<()> {
+    places::full(&rt)?;
+    places::at_cost(&rt)?;
+    places::last_clock(&rt)?;
+    broken::each(&rt)?;
+    wrongs::each(&rt)?;
+    stages::each(&rt)?;
+    doors::each(&rt)?;
+    parties::each(&rt)
 }

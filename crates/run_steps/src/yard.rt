@@ -1,5 +1,6 @@
 // Sets and states to run on.
 use rules::{Message, Set, Stage, State, Stream, Tuple, TuplePlace};
+use std::io;
 
 // Every 20 from 0.
 pub fn stream(task: usize, cost: u32, deadline: u32) -> Stream {
@@ -63,19 +64,19 @@ pub fn begin(x: Set) -> State {
 }
 
 // A post whose answer is printed.
-pub fn post(s: State, k: usize) -> State {
+pub fn post(rt: &impl Print, s: State, k: usize) -> io::Result<State> {
     let r = scheduler::post(s, k);
     let a = r.answer;
-    crate::say::post(a);
-    r.state
+    crate::say::post(rt, a)?;
+    Ok(r.state)
 }
 
 // A unit whose answer is printed.
-pub fn unit(s: State, done: bool) -> State {
+pub fn unit(rt: &impl Print, s: State, done: bool) -> io::Result<State> {
     let r = scheduler::unit(s, done);
     let a = r.answer;
-    crate::say::unit(a);
-    r.state
+    crate::say::unit(rt, a)?;
+    Ok(r.state)
 }
 
 pub fn with_message(s: State, at: usize, stream: usize, deadline: u32, used: u32) -> State {

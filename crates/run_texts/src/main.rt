@@ -1,5 +1,8 @@
 // Reads the texts of a file: good ones, and one for each fault.
 #![tactic(auto)]
-fn main() {
-    text_io::batch();
+
+use std::io;
+
+fn main(rt: HostRuntime) -> io::Result<()> {
+    text_io::batch(&rt)
 }

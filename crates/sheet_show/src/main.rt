@@ -1,5 +1,7 @@
 // Prints the file set.bin as a readable text.
 #![tactic(auto)]
-fn main() {
-    text_io::show();
+use std::io;
+
+fn main(rt: HostRuntime) -> io::Result<()> {
+    text_io::show(&rt)
 }

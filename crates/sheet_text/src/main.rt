@@ -1,5 +1,8 @@
 // Makes the file set.bin of a readable text from standard input.
 #![tactic(auto)]
-fn main() {
-    text_io::make();
+use std::io;
+
+fn main(rt: HostRuntime) -> io::Result<()> {
+    text_io::make(&rt)?;
+    Ok(())
 }

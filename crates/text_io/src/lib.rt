@@ -1,35 +1,38 @@
 // The reading and writing of the programs for readable sheets; what is read and written is decided by proved functions.
-// A function that writes answers whether all was written.
+// A write that fails is handed to the caller.
 #![tactic(auto)]
-use libc::{STDIN_FILENO, STDOUT_FILENO};
-use rules::{ReadAnswer, ReadResult, Refusal, Set, Verdict, WriteAnswer};
+
+use rules::{ReadAnswer, Refusal, Set, Verdict, WriteAnswer};
+use std::io::Read;
+use std::rt::Files;
+use std::{fs, io};
 use text_read::{Draft, Finding, TextRead};
 
-fn refuse(why: Refusal) -> bool {
-    file_io::say(answer_words::verdict_line(Verdict::Refused(why)))
+fn refuse(rt: &impl Print, why: Refusal) -> io::Result<()> {
+    file_io::say(rt, answer_words::verdict_line(Verdict::Refused(why)))
 }
 
 // ---- a set's text, from its sheet
 
-fn print_text(x: Set) -> bool {
-    let mut out = io::buffer();
+fn print_text(rt: &impl Print, x: Set) -> io::Result<()> {
+    let mut out = [0u8; file_io::BUFFER];
     match text_print::print(x, &mut out) {
         WriteAnswer::Wrote(n) => {
             let len = page::within(n, &out);
-            io::write_all(STDOUT_FILENO, &out[..len])
+            rt.write_all(&out[..len])
         }
-        WriteAnswer::Refused(why) => refuse(why),
+        WriteAnswer::Refused(why) => refuse(rt, why),
     }
 }
 
 // `sheet_show`: the file set.bin as text.
-pub fn show() -> bool {
-    let r = file_io::read_sheet();
+pub fn show(rt: &(impl Files + Print)) -> io::Result<()> {
+    let r = file_io::read_sheet(rt)?;
     let answer = r.answer;
     let set = r.set;
     match answer {
-        ReadAnswer::Read => print_text(set),
-        ReadAnswer::Refused(why) => refuse(why),
+        ReadAnswer::Read => print_text(rt, set),
+        ReadAnswer::Refused(why) => refuse(rt, why),
     }
 }
 
@@ -44,111 +47,111 @@ struct Ear {
 }
 
 // Reads once. An input that cannot be read is told, and no sheet is made of what came before.
-fn hear(e: Ear) -> Ear {
+fn hear(rt: &(impl Eprint + Alloc), input: &mut impl Read, e: Ear) -> io::Result<Ear> {
     let draft = e.draft;
     let mut bytes = [0u8; 512];
-    let got = libc::read(STDIN_FILENO, &mut bytes);
-    if got < 0 {
-        os::fail(b"standard input");
-        return Ear {
-            draft,
-            going: false,
-            whole: false,
-        };
-    }
-    let n = io::count(got, &bytes);
-    if n == 0 {
-        return Ear {
+    match input.read(&mut bytes) {
+        Ok(0) => Ok(Ear {
             draft,
             going: false,
             whole: true,
-        };
-    }
-    let next = text_read::feed(draft, &bytes[..n]);
-    Ear {
-        draft: next,
-        going: true,
-        whole: false,
+        }),
+        Ok(n) => Ok(Ear {
+            draft: text_read::feed(draft, &bytes[..n]),
+            going: true,
+            whole: false,
+        }),
+        Err(why) => {
+            file_io::fail(rt, "standard input", why)?;
+            Ok(Ear {
+                draft,
+                going: false,
+                whole: false,
+            })
+        }
     }
 }
 
-// A proved loop has to end, and nothing says that the input does: the turns are counted down from a number that no run uses up.
-fn listen() -> Ear {
+// A proved loop has to end, and nothing says that the input does: the turns are counted up to a number that no run uses up.
+fn listen(rt: &(impl Input + Eprint + Alloc)) -> io::Result<Ear> {
+    let mut input = rt.reader();
     let mut e = Ear {
         draft: text_read::start(),
         going: true,
         whole: false,
     };
-    let mut turns = u64::MAX;
-    while turns > 0 {
-        let going = e.going;
-        if !going {
-            return e;
+    for _ in 0..u64::MAX {
+        if !e.going {
+            break;
         }
-        e = hear(e);
-        turns -= 1;
+        e = hear(rt, &mut input, e)?;
     }
-    e
+    Ok(e)
 }
 
-fn keep(x: Set) -> bool {
+// Answers whether set.bin is the set's sheet.
+fn keep(rt: &(impl Files + Print + Eprint + Alloc), x: Set) -> io::Result<bool> {
     let count = x.count;
     let mut bytes = [0u8; rules::LONGEST_SHEET];
     match sheet_write::write(x, &mut bytes) {
         WriteAnswer::Wrote(n) => {
             let len = page::within(n, &bytes);
-            if file_io::save_sheet(&bytes[..len]) {
-                file_io::say(text_faults::made_line(count as u64, len as u64))
-            } else {
-                false
+            if !file_io::save_sheet(rt, &bytes[..len])? {
+                return Ok(false);
             }
+            file_io::say(rt, text_faults::made_line(count as u64, len as u64))?;
         }
-        WriteAnswer::Refused(why) => refuse(why),
+        WriteAnswer::Refused(why) => refuse(rt, why)?,
     }
+    Ok(true)
 }
 
 // `sheet_text`: a text from standard input as the file set.bin. A bad text leaves set.bin as it is.
-pub fn make() -> bool {
-    let e = listen();
+// Answers whether what the text reads as was told on standard output.
+pub fn make(rt: &(impl Files + Input + Print + Eprint + Alloc)) -> io::Result<bool> {
+    let e = listen(rt)?;
     let whole = e.whole;
     let draft = e.draft;
     if !whole {
-        return false;
+        return Ok(false);
     }
     let r = text_read::close(draft);
     let found = r.found;
     let set = r.set;
     match found {
-        Finding::Fine => keep(set),
-        Finding::Bad(n, why) => file_io::say(text_faults::fault_line(n, why)),
+        Finding::Fine => keep(rt, set),
+        Finding::Bad(n, why) => {
+            file_io::say(rt, text_faults::fault_line(n, why))?;
+            Ok(true)
+        }
     }
 }
 
 // ---- many texts from one file
 
 // A set's sheet in hex, and its text.
-fn print_both(x: Set) -> bool {
+fn print_both(rt: &impl Print, x: Set) -> io::Result<()> {
     let mut bytes = [0u8; rules::LONGEST_SHEET];
     match sheet_write::write(x, &mut bytes) {
         WriteAnswer::Wrote(n) => {
             let len = page::within(n, &bytes);
-            let mut out = io::buffer();
+            let mut out = [0u8; file_io::BUFFER];
             let end = page::within(page_hex::print(&bytes[..len], &mut out, 0), &out);
-            io::write_all(STDOUT_FILENO, &out[..end]);
-            file_io::say(line::put(line::blank(), b'\n'));
-            print_text(x)
+            rt.write_all(&out[..end])?;
+            file_io::say(rt, line::put(line::blank(), b'\n'))?;
+            print_text(rt, x)
         }
-        WriteAnswer::Refused(why) => refuse(why),
+        WriteAnswer::Refused(why) => refuse(rt, why),
     }
 }
 
 // What a text reads as: its set, or its first fault.
-fn print_found(r: TextRead) -> bool {
+fn print_found(rt: &impl Print, r: TextRead) -> io::Result<()> {
     let found = r.found;
     let set = r.set;
     match found {
-        Finding::Fine => print_both(set),
-        Finding::Bad(n, why) => file_io::say(text_faults::fault_line(n, why)),
+        Finding::Fine => print_both(rt, set),
+        Finding::Bad(n, why) => file_io::say(rt, text_faults::fault_line(n, why)),
     }
 }
 
@@ -160,52 +163,53 @@ struct Pile {
 }
 
 // A zero byte ends a text.
-fn take_byte(p: Pile, b: u8) -> Pile {
+fn take_byte(rt: &impl Print, p: Pile, b: u8) -> io::Result<Pile> {
     let draft = p.draft;
     let number = p.number;
     if b == 0 {
-        file_io::say(line::put(line::one(line::blank(), b"text", number), b'\n'));
-        print_found(text_read::close(draft));
-        return Pile {
+        let head = line::one(line::blank(), b"text", number);
+        file_io::say(rt, line::put(head, b'\n'))?;
+        print_found(rt, text_read::close(draft))?;
+        return Ok(Pile {
             draft: text_read::start(),
             number: number % 1000000 + 1,
-        };
+        });
     }
-    Pile {
+    Ok(Pile {
         draft: text_read::step(draft, b),
         number,
-    }
+    })
 }
 
-fn take_piece(p: Pile, piece: &[u8]) -> Pile {
+fn take_piece(rt: &impl Print, p: Pile, piece: &[u8]) -> io::Result<Pile> {
     let mut next = p;
-    let mut i = 0;
-    while i < piece.len() {
-        next = take_byte(next, piece[i]);
-        i += 1;
+    for b in piece {
+        next = take_byte(rt, next, *b)?;
     }
-    next
+    Ok(next)
 }
 
-// The texts of the file texts.txt, each ended by a zero byte: what is wrong with it, or its sheet and its text again.
-pub fn batch() {
-    let fd = os::open_read(b"texts.txt");
-    if fd < 0 {
-        os::fail(b"texts.txt");
-        return;
-    }
+// The texts of an open file.
+fn take_texts(rt: &impl Print, file: &mut impl Read) -> io::Result<()> {
     let mut p = Pile {
         draft: text_read::start(),
         number: 1,
     };
-    let mut turns: u64 = 0;
-    while turns < 1000000 {
+    for _ in 0..1000000 {
         let mut bytes = [0u8; 512];
-        let n = io::read_full(fd, &mut bytes);
+        let n = file_io::read_full(file, &mut bytes)?;
         if n == 0 {
-            return;
+            break;
         }
-        p = take_piece(p, &bytes[..n]);
-        turns += 1;
+        p = take_piece(rt, p, &bytes[..n])?;
+    }
+    Ok(())
+}
+
+// The texts of the file texts.txt, each ended by a zero byte: what is wrong with it, or its sheet and its text again.
+pub fn batch(rt: &(impl Files + Print + Eprint + Alloc)) -> io::Result<()> {
+    match fs::open(rt, "texts.txt") {
+        Ok(mut file) => take_texts(rt, &mut file),
+        Err(why) => file_io::fail(rt, "texts.txt", why),
     }
 }

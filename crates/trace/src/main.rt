@@ -1,5 +1,8 @@
 // Runs a trace from standard input on the set in set.bin.
 #![tactic(auto)]
-fn main() {
-    trace_io::run();
+
+use std::io;
+
+fn main(rt: HostRuntime) -> io::Result<()> {
+    trace_io::run(&rt)
 }
