@@ -1,5 +1,6 @@
 // The console's check in calls: what each command leaves of the position that the console holds, and what it prints.
 #![tactic(auto)]
+
 ghost use Rattle.std.specs.Prelude.{◌≡◌};
 ghost use Rattle.console_check.specs.CheckCommands.{first_position, Opens, Goes, Puts, Checked, OnLine};
 
