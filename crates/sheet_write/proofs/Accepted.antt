@@ -4,16 +4,15 @@
 use Prim.Native.Nat.{ℕ, zero, suc, ◌-◌, ◌≤◌, ◌<◌}
 use mathlib.Core.List.{List, [], ◌∷◌, ◌++◌, append_assoc, append-nil}
 use mathlib.Core.Path.{◌≡◌, refl, sym, ap, ap₂, ◌∙◌, subst}
-use mathlib.Core.Bool.{Bool, true, false, ◌&&◌, false≢true}
+use mathlib.Core.Bool.{Bool, true, false, false≢true}
 use native.Mathlib.Omega.{arith}
-use lib.ListN.{length, take, drop, get_or, replicate, length-append, length-replicate}
-use lib.Seq.{append_snoc, take-append_seam, drop-append_seam}
+use lib.ListN.{length, take, drop, replicate}
+use lib.Seq.{append_snoc, take-append_seam}
 use lib.Dec.{eqb, leb}
-use borrow.Author.Tests.{eq-eqb, eqb-false, eqb-true, le-leb, leb-true}
-use Rattle.laws.specs.Lists.{All, all, every, flat, scan, within}
+use borrow.Author.Tests.{eq-eqb, eqb-true, leb-true}
+use Rattle.laws.specs.Lists.{All, flat, within}
 use Rattle.laws.specs.Bits.{to_bits, value}
-use Rattle.laws.proofs.Sums.{Holds as Passes, all_map, and_parts}
-use Rattle.laws.proofs.Fields.{AreBits, IsBit, all_append, all_drop, all_replicate, taken_lt, taken_split}
+use Rattle.laws.proofs.Fields.{AreBits, IsBit, all_drop, taken_lt, taken_split}
 use Rattle.rules.specs.declared.Tuple.{Tuple}
 use Rattle.rules.specs.declared.Tuple.TheVariants.{Once, Every}
 use Rattle.rules.specs.declared.TuplePlace.{TuplePlace}
@@ -22,9 +21,9 @@ use Rattle.rules.specs.declared.Stream.{Stream}
 use Rattle.rules.specs.declared.Set.{Set}
 use Rattle.rules.specs.declared.Refusal.TheVariants.{BitsMissing, OutOfRule}
 use Rattle.rules.specs.declared.ReadResult.{ReadResult}
-use Rattle.rules.specs.Streams.{FourPlaces, Placed, cycle_ok, no_stage, no_stream, no_tuple, offset, offset_at, one_stage, set_tests, stage_ok, stage_unused, stream_ok, stream_tests, stream_unused, streams_of, tuple_ok, tuple_unused, tuples_ok, valid, version_ok}
+use Rattle.rules.specs.Streams.{Placed, no_stage, no_tuple, streams_of, valid}
 use Rattle.rules.specs.Sheet.{field, head_bits, in_rule, no_set, place_bits, read_deadline, read_end, read_head, read_stages, read_stream, read_streams, read_tuples, set_of, stage_bits, stream_bits, stream_of, tuple_bits, tuple_of}
-use Rattle.rules.specs.Valid.{Between, ValidCycle, ValidStage}
+use Rattle.rules.specs.Valid.{ValidStage}
 use Rattle.sheet_carried.proofs.Filled.{cond_elim}
 use Rattle.sheet_carried.proofs.Streams.{Chain, GoodStream, cycle_of_lem, offset_of, set_ok, set_placed, stream_four, stream_ok_lem, streams_of_lem, within_high, within_low}
 use Rattle.sheet_write.proofs.Back.{cost_next, count_next, cycle_next, deadline_next, head_by, head_next, offset_next, read_head_by, task_next, tuples_next}

@@ -3,15 +3,14 @@
 use Prim.Native.Nat.{ℕ, zero, suc, ◌-◌, ◌^◌, ◌≤◌, ◌<◌}
 use mathlib.Core.List.{List, [], ◌∷◌, ◌++◌, append_assoc, append-nil}
 use mathlib.Core.Path.{◌≡◌, refl, sym, ap, ap₂, ◌∙◌}
-use mathlib.Core.Bool.{Bool, true, false, cond, ◌&&◌}
+use mathlib.Core.Bool.{Bool, true, false, cond}
 use native.Mathlib.Omega.{arith}
 use lib.ListN.{length, length-replicate}
 use lib.Seq.{append_snoc}
 use lib.Dec.{eqb, leb}
-use borrow.Author.Tests.{eqb-true, le-leb, leb-true, lt-ltb, ne_eqb}
-use Rattle.laws.specs.Lists.{All, all, flat, scan, within}
+use borrow.Author.Tests.{eqb-true, le-leb, lt-ltb, ne_eqb}
+use Rattle.laws.specs.Lists.{All, all, flat, within}
 use Rattle.laws.specs.Bits.{to_bits, zeros}
-use Rattle.laws.proofs.Sums.{Holds as Passes, and_parts, every_all}
 use Rattle.laws.proofs.Fields.{AreBits, IsBit, all_append, all_take, field_first, field_fits, field_rest, to_bits_bits}
 use Rattle.laws.proofs.Packing.{pack_bits, pad_few, pad_of}
 use Rattle.rules.specs.declared.Tuple.{Tuple}
@@ -23,10 +22,10 @@ use Rattle.rules.specs.declared.Set.{Set}
 use Rattle.rules.specs.declared.Refusal.TheVariants.{BadVersion, OutOfRule}
 use Rattle.rules.specs.declared.ReadResult.{ReadResult}
 use Rattle.rules.specs.declared.ReadAnswer.TheVariants.{Read}
-use Rattle.rules.specs.Streams.{FourPlaces, Placed, cycle_ok, offset, offset_at, stages_of, streams_of, tuple_ok, tuples_of, tuples_ok, valid}
+use Rattle.rules.specs.Streams.{FourPlaces, Placed, offset, offset_at, stages_of, streams_of, tuples_of, valid}
 use Rattle.rules.specs.Sheet.{field, head_bits, in_rule, is_zero, no_set, place_bits, read_bits, read_deadline, read_end, read_head, read_of, read_stages, read_stream, read_streams, read_tuples, set_of, sheet_bits, sheet_of, stage_bits, stream_bits, stream_of, tuple_bits, tuple_of}
-use Rattle.rules.specs.Valid.{Between, FirstZero, ValidCycle, ValidPlace, ValidSet, ValidStage, ValidStream}
-use Rattle.rules.proofs.Valid.{valid_place, valid_set}
+use Rattle.rules.specs.Valid.{Between, ValidCycle, ValidSet, ValidStage, ValidStream}
+use Rattle.rules.proofs.Valid.{valid_set}
 use Rattle.sheet_carried.proofs.Streams.{Chain, chain_first, within_is}
 use Rattle.sheet_carried.proofs.Whole.{Staged, set_holds, set_staged, stream_holds, version_within, whole_set, whole_stream}
 
