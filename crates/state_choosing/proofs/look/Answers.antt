@@ -15,21 +15,21 @@ returns-then-not-is_valid c =
 
 pub returns-then-not-tested : goal.returns-then-not-tested
 returns-then-not-tested c =
-    look_ill _ (sym (rest_tells _ _ (sym c.is_valid.ensures ∙ c.if-not-is_valid.false) c.formed-tested.ensures) ∙ c.if-not-tested.true) _ (fails_later _ _ c.formed-tested.ensures (not-true _ c.if-not-tested.true))
+    look_ill _ (sym (rest_tells _ _ (sym c.is_valid.ensures ∙ c.if-not-is_valid.false) c.formed-tested.ensures) ∙ not-true _ c.if-not-tested.true) _ (fails_later _ _ c.formed-tested.ensures (not-true _ c.if-not-tested.true))
 
 pub returns-then-s-eq0 : goal.returns-then-s-eq0
 returns-then-s-eq0 c =
-    look_none _ (sym (rest_tells _ _ (sym c.is_valid.ensures ∙ c.if-not-is_valid.false) c.formed-tested.ensures) ∙ c.if-not-tested.false) c.if-s-eq0.true _
+    look_none _ (sym (rest_tells _ _ (sym c.is_valid.ensures ∙ c.if-not-is_valid.false) c.formed-tested.ensures) ∙ not-false _ c.if-not-tested.false) c.if-s-eq0.true _
     (sound_later _ _ c.formed-tested.ensures (not-false _ c.if-not-tested.false))
 
 pub served-best-requires : goal.served-best-requires
 served-best-requires c =
     (
-      sym (rest_tells _ _ (sym c.is_valid.ensures ∙ c.if-not-is_valid.false) c.formed-tested.ensures) ∙ c.if-not-tested.false,
+      sym (rest_tells _ _ (sym c.is_valid.ensures ∙ c.if-not-is_valid.false) c.formed-tested.ensures) ∙ not-false _ c.if-not-tested.false,
       ⊎_elim (λ (z : c.args.s.count ≤ 0). absurd (c.if-s-eq0.false (omega arith))) (λ (z : 0 < c.args.s.count). z) (le_or_lt c.args.s.count 0),
     )
 
 pub returns : goal.returns
 returns c =
-    look_one _ (sym (rest_tells _ _ (sym c.is_valid.ensures ∙ c.if-not-is_valid.false) c.formed-tested.ensures) ∙ c.if-not-tested.false) c.if-s-eq0.false _ c.served-best.ensures _
+    look_one _ (sym (rest_tells _ _ (sym c.is_valid.ensures ∙ c.if-not-is_valid.false) c.formed-tested.ensures) ∙ not-false _ c.if-not-tested.false) c.if-s-eq0.false _ c.served-best.ensures _
     (sound_later _ _ c.formed-tested.ensures (not-false _ c.if-not-tested.false))
