@@ -10,7 +10,7 @@ use lib.Seq.{drop-cons}
 use Rattle.laws.specs.Lists.{All, flat}
 use Rattle.laws.proofs.Fields.{IsByte, all_append}
 use Rattle.rules.specs.Sheet.{read_of}
-use Rattle.rules.specs.Pieces.{Piece, fed_from, joined, left_by}
+use Rattle.rules.specs.Pieces.{Piece, fed_from, joined}
 use Rattle.sheet_carried.specs.declared.Carried.{Carried}
 use Rattle.sheet_carried.specs.Reader.{start_of}
 use Rattle.sheet_read.specs.declared.FeedResult.{FeedResult}

@@ -1,5 +1,6 @@
 // The pieces of a sheet as an input brings them: each behind a byte that says how many bytes it has.
 #![tactic(auto)]
+
 ghost use Rattle.std.specs.Prelude.{◌≡◌, eqb};
 ghost use Rattle.cable_frames.specs.Frames.{first_frames, step_of, taken_of};
 
