@@ -1,6 +1,6 @@
 -- A call, or end, as one field; and what appending and finishing answer and leave.
 -- Assumes nothing.
-use Prim.Native.Nat.{ℕ, zero, suc, ◌+◌, ◌-◌, ◌*◌, ◌/◌, ◌%◌, ◌^◌, ◌≤◌, ◌<◌}
+use Prim.Native.Nat.{ℕ, zero, suc, ◌+◌, ◌-◌, ◌*◌, ◌/◌, ◌%◌, ◌^◌, ◌<◌}
 use native.Mathlib.Omega.{arith}
 use mathlib.Core.Bool.{Bool, true, false, cond}
 use mathlib.Core.List.{List, [], ◌∷◌, ◌++◌}
@@ -12,12 +12,12 @@ use Rattle.laws.proofs.Sums.{by_test}
 use Rattle.laws.proofs.Fields.{to_bits_length}
 use Rattle.rules.specs.declared.Call.{Call}
 use Rattle.rules.specs.declared.Call.TheVariants.{Posts, Units}
-use Rattle.rules.specs.declared.Refusal.TheVariants.{NoStream, ShortBuffer, IllFormed}
+use Rattle.rules.specs.declared.Refusal.TheVariants.{NoStream, IllFormed}
 use Rattle.rules.specs.declared.AppendAnswer.{AppendAnswer}
-use Rattle.rules.specs.declared.AppendAnswer.TheVariants.{Appended, Refused as NotAppended}
+use Rattle.rules.specs.declared.AppendAnswer.TheVariants.{Refused as NotAppended}
 use Rattle.rules.specs.declared.RecordAnswer.{RecordAnswer}
 use Rattle.rules.specs.declared.RecordAnswer.TheVariants.{Recorded, Refused as NotRecorded}
-use Rattle.rules.specs.Recordings.{Place, call_bits, recordable, place_in, place_after, fits, written, end_bits, append_of, appended_by, appended_to, finish_of, finished_by, finished_to}
+use Rattle.rules.specs.Recordings.{Place, call_bits, recordable, place_in, place_after, fits, end_bits, append_of, appended_by, appended_to, finish_of, finished_by, finished_to}
 use Rattle.record_call.specs.Places.{code_of, put_answer, put_buffer, ended_by}
 use Rattle.record_call.proofs.Widths.{width_post, width_unit}
 

@@ -2,9 +2,9 @@
 -- Assumes nothing.
 use Prim.Native.Nat.{ℕ, ◌+◌, ◌-◌, ◌*◌, ◌/◌, ◌%◌, ◌≤◌, ◌<◌}
 use native.Mathlib.Omega.{arith}
-use mathlib.Core.Bool.{Bool, true, false, cond}
+use mathlib.Core.Bool.{true, false}
 use mathlib.Core.List.{List}
-use mathlib.Core.Path.{◌≡◌, refl, ap, ap₂, sym, ◌∙◌}
+use mathlib.Core.Path.{◌≡◌, ap, sym, ◌∙◌}
 use borrow.Author.Tests.{leb-true, leb-false, le-leb, lt-leb}
 use lib.Dec.{leb}
 use lib.ListN.{length}
@@ -12,13 +12,13 @@ use lib.Seq.{paste}
 use Rattle.laws.specs.Bits.{bits, to_bits}
 use Rattle.laws.proofs.Sums.{by_test}
 use Rattle.laws.proofs.Fields.{AreBytes, bits_inj, to_bits_bits, to_bits_length}
-use Rattle.bits.specs.Places.{behind, put_of, put_by, put_bits}
+use Rattle.bits.specs.Places.{put_of, put_by, put_bits}
 use Rattle.bits.specs.declared.Placing.{Placing}
 use Rattle.bits.specs.declared.Placing.TheVariants.{Done, NoRoom, TooWide}
 use Rattle.rules.specs.declared.AppendAnswer.{AppendAnswer}
 use Rattle.rules.specs.declared.AppendAnswer.TheVariants.{Appended, Refused as NotAppended}
 use Rattle.rules.specs.declared.Refusal.TheVariants.{ShortBuffer}
-use Rattle.rules.specs.Recordings.{Place, place_after, fits, written}
+use Rattle.rules.specs.Recordings.{Place, place_after, fits}
 use Rattle.record_call.specs.Places.{place, put_answer, put_buffer}
 use Rattle.record_call.proofs.Written.{written_by}
 

@@ -2,18 +2,17 @@
 -- Assumes nothing.
 use Prim.Native.Nat.{ℕ, ◌+◌, ◌*◌, ◌≤◌, ◌<◌}
 use native.Mathlib.Omega.{arith}
-use mathlib.Core.Bool.{Bool, true, cond, ◌&&◌, ◌||◌}
+use mathlib.Core.Bool.{true}
 use mathlib.Core.List.{List, [], ◌++◌}
 use mathlib.Core.Path.{◌≡◌, refl, ap, ap₂, sym, ◌∙◌}
 use borrow.Author.Tests.{le-leb, lt-ltb}
-use lib.Dec.{leb, ltb, eqb}
 use lib.ListN.{length, take, drop, length-append}
 use lib.Seq.{paste, paste-zero, length-paste, take-length}
 use Rattle.laws.specs.Bits.{bits, bytes}
 use Rattle.laws.proofs.Fields.{AreBits, AreBytes, IsBit, all_append, all_take, all_drop, bits_bits, bits_inj, bits_length}
 use Rattle.laws.proofs.Packing.{bytes_length, bytes_bits, bytes_bytes, paste_more}
 use Rattle.rules.specs.declared.Call.{Call}
-use Rattle.rules.specs.Recordings.{Place, call_bits, recordable, place_in, bit_at, place_after, fits, written, append_of, appended_to}
+use Rattle.rules.specs.Recordings.{Place, call_bits, recordable, place_in, bit_at, place_after, written, append_of, appended_to}
 use Rattle.record_call.proofs.Widths.{some_width}
 
 module _ (s : List ℕ) (p : Place) (bs : List ℕ) where

@@ -1,5 +1,6 @@
 // The cab's recorder: a call, or end, goes to a place of a lent buffer. Only the bits that are written change.
 #![tactic(auto)]
+
 ghost use Rattle.std.specs.Prelude.{◌≡◌, true, ◌+◌, ◌-◌, ◌*◌, ◌^◌, ◌≤◌, ◌<◌, length};
 ghost use Rattle.laws.specs.Bits.{to_bits};
 ghost use Rattle.rules.specs.Recordings.{Place, call_bits, recordable, place_in, bit_at, append_of, appended_to, finish_of, finished_to};
