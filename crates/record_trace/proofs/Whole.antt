@@ -2,7 +2,7 @@
 -- Assumes nothing.
 use Prim.Native.Nat.{ℕ, ◌+◌, ◌-◌, ◌*◌, ◌/◌, ◌≤◌, ◌<◌}
 use native.Mathlib.Omega.{arith}
-use mathlib.Core.Bool.{Bool, true, false, cond, ◌||◌}
+use mathlib.Core.Bool.{Bool, true, false, ◌||◌}
 use mathlib.Core.List.{List}
 use mathlib.Core.Path.{◌≡◌, refl, ap, sym, ◌∙◌}
 use borrow.Author.Tests.{leb-true, leb-false, le-leb, lt-leb}
@@ -19,12 +19,12 @@ use Rattle.rules.specs.Recordings.{call_bits, recording_of, bit_at, place_after,
 use Rattle.record_call.specs.Places.{place}
 use Rattle.record_call.proofs.Written.{place_bit}
 use Rattle.record_call.proofs.Finishing.{bytes_are, finishes, finished}
-use Rattle.trace_bytes.specs.Scripts.{Script, script_of, hearing}
+use Rattle.trace_bytes.specs.Scripts.{Script, script_of}
 use Rattle.trace_bytes.proofs.Scripts.{script_heard}
 use Rattle.record_trace.specs.declared.Taking.{Taking}
 use Rattle.record_trace.specs.Traces.{trace_record_of, trace_recorded_to}
 use Rattle.record_trace.specs.Taking.{taking_first, taking_on, put_on}
-use Rattle.record_trace.proofs.Takings.{Within, on_within}
+use Rattle.record_trace.proofs.Takings.{on_within}
 use Rattle.record_trace.proofs.Scripts.{Taken, taken, puts}
 
 -- ---- whether there is room

@@ -1,6 +1,6 @@
 -- Document 02, request 1: a trace's recording.
 -- Assumes nothing.
-use Rattle.std.specs.Prelude.{ℕ, Bool, true, false, cond, List, [], ◌∷◌, length}
+use Rattle.std.specs.Prelude.{ℕ, cond, List, length}
 use Rattle.rules.specs.declared.Refusal.TheVariants.{BadByte}
 use Rattle.rules.specs.declared.RecordAnswer.{RecordAnswer}
 use Rattle.rules.specs.declared.RecordAnswer.TheVariants.{Refused as NotRecorded}

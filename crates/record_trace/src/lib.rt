@@ -1,5 +1,6 @@
 // A trace's recording, in a lent buffer.
 #![tactic(auto)]
+
 ghost use Rattle.std.specs.Prelude.{◌≡◌, ◌+◌, ◌^◌, ◌<◌, length, leb};
 ghost use Rattle.laws.specs.Bits.{bytes_for};
 ghost use Rattle.record_trace.specs.Traces.{trace_record_of, trace_recorded_to};
