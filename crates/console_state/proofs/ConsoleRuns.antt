@@ -2,15 +2,15 @@
 -- Assumes nothing.
 use mathlib.Core.Bool.{true, false}
 use mathlib.Core.List.{List, [], ◌∷◌, ◌++◌}
-use mathlib.Core.Path.{◌≡◌, refl, ap, ap₂, sym, ◌∙◌}
+use mathlib.Core.Path.{◌≡◌, refl, ap₂, sym, ◌∙◌}
 use Prim.Native.Nat.{ℕ}
 use Rattle.laws.specs.Lists.{flat}
 use Rattle.rules.specs.declared.Call.{Call}
 use Rattle.rules.specs.declared.Call.TheVariants.{Posts, Units}
 use Rattle.rules.specs.declared.Set.{Set}
 use Rattle.rules.specs.declared.State.{State}
-use Rattle.rules.specs.Steps.{start_for, call_of}
-use Rattle.rules.specs.Runs.{Run, Step, step_to, step_of, begin_for, start_at, run_from, run_for, steps_from}
+use Rattle.rules.specs.Steps.{call_of}
+use Rattle.rules.specs.Runs.{Run, step_to, step_of, begin_for, run_from, run_for, steps_from}
 use Rattle.rules.proofs.Events.{step_state}
 use Rattle.answer_words.specs.Words.{line_of_step}
 use Rattle.console_state.specs.declared.Terms.{Terms}

@@ -1,5 +1,6 @@
 // The console's commands that change the state, or what a start uses: what each leaves of them, and what it prints.
 #![tactic(auto)]
+
 ghost use Rattle.std.specs.Prelude.{◌≡◌};
 ghost use Rattle.ascii.specs.Decimal.{letters};
 ghost use Rattle.line.specs.Line.{holding};
