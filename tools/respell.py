@@ -117,16 +117,18 @@ def main():
     for n in every:
         spelled[new_name(n)].add(n)
 
-    def turned_name(n):
+    def turned_name(n, key):
         """Where a lemma's name falls together with a definition's, the lemma gets '_lem'."""
         new = new_name(n)
+        if key[1].startswith("specs."):
+            return new
         others = spelled[new] - {n}
         lemma = "-" in n or (n == new and "_" in n)
         return new + "_lem" if lemma and any(re.search("[a-z][A-Z]", o) and "-" not in o or ("-" in n and "-" not in o) for o in others) else new
 
     pub = {}
     for key, (names, hand) in own.items():
-        pub[key] = {n: turned_name(n) for n in names if turned_name(n) != n}
+        pub[key] = {n: turned_name(n, key) for n in names if turned_name(n, key) != n}
     sources = list(files(".antt")) + list(files(".rt"))
     turned = collections.Counter()
     clash = []

@@ -28,7 +28,7 @@ use Rattle.rules.specs.Recordings.{Place, bit_at, call_bits, place_in, recordabl
 use Rattle.promise_steps.specs.Refusals.{Twelve}
 use Rattle.promise_steps.proofs.Refusals.{NotOfRecordings, call_own, twelve}
 use Rattle.promise_replay.specs.Replays.{AllStepsStand, mark_by}
-use Rattle.promise_replay.specs.Stops.{Early, no_kind, no_stream_lem, Trails, step_says, At, StepTwelve, StepThirteen, StepFourteen, Then, StopsAtThirteen, StopsAtFourteen}
+use Rattle.promise_replay.specs.Stops.{Early, no_kind, no_stream, Trails, step_says, At, StepTwelve, StepThirteen, StepFourteen, Then, StopsAtThirteen, StopsAtFourteen}
 use Rattle.promise_replay.proofs.Tapes.{all_steps_stand, tape_of_lem}
 
 -- ---- marks
@@ -49,7 +49,7 @@ module _ (bs : List ℕ) (there : 2 ≤ length bs) where
   marked_kind : (k : ℕ) → k < 4 → value (take 2 bs) ≡ k → Marked bs (kind_mark k (drop 2 bs))
   marked_kind zero h e = by_test (leb 4 (length (drop 2 bs)))
       (λ y. rw y (goes (Makes (Posts (value (take 4 (drop 2 bs))))) refl))
-      (λ y. rw y (early (no_stream_lem there e (omega (arith, leb-false 4 (length (drop 2 bs)) y, length-drop 2 bs)))))
+      (λ y. rw y (early (no_stream there e (omega (arith, leb-false 4 (length (drop 2 bs)) y, length-drop 2 bs)))))
   marked_kind (suc zero) h e = goes (Makes (Units false)) refl
   marked_kind (suc (suc zero)) h e = goes (Makes (Units true)) refl
   marked_kind (suc (suc (suc zero))) h e = by_test (ltb (length (drop 2 bs)) 8 && all is_zero (drop 2 bs))
@@ -81,7 +81,7 @@ never_twelve bs m (trails t) f = omega arith
 early_mark : (bs : List ℕ) → Early bs → mark_of bs ≡ Refused StopsEarly
 unfolding mark_of
 early_mark bs (no_kind h) = rw (lt-leb 2 (length bs) h)
-early_mark bs (no_stream_lem h e f) = rw (le-leb 2 (length bs) h, e, lt-leb 4 (length (drop 2 bs)) (omega (arith, length-drop 2 bs)))
+early_mark bs (no_stream h e f) = rw (le-leb 2 (length bs) h, e, lt-leb 4 (length (drop 2 bs)) (omega (arith, length-drop 2 bs)))
 
 trails_mark : (bs : List ℕ) → Trails bs → mark_of bs ≡ Refused Trailing
 unfolding mark_of

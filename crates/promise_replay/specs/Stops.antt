@@ -14,7 +14,7 @@ use Rattle.rules.specs.Recordings.{Place, bit_at, call_bits, place_in, recordabl
 -- "13 for a recording that stops before end": fewer than 2 bits are left, or a post has fewer than 4 behind its kind
 pub data Early (bs : List ℕ) : Type 0 where
   no_kind : length bs < 2 → Early bs
-  no_stream_lem : 2 ≤ length bs → value (take 2 bs) ≡ 0 → length bs < 6 → Early bs
+  no_stream : 2 ≤ length bs → value (take 2 bs) ≡ 0 → length bs < 6 → Early bs
 
 -- "14 for set padding or further bytes": behind end are 8 bits or more, or one that is set
 pub record Trails (bs : List ℕ) : Type 0 where

@@ -13,7 +13,7 @@ use Rattle.line.specs.Line.{holding}
 use Rattle.trace_steps.specs.Pieces.{bytes_of}
 use Rattle.replay_lines.specs.declared.Replaying.{Replaying}
 use Rattle.replay_lines.specs.Replaying.{next_replaying, next_line, replaying_after, line_after, replaying_on, lines_on, lines_fit, PageFilled}
-use Rattle.replay_lines.specs.Printed.{PagesWritten, halts, goes_on_lem}
+use Rattle.replay_lines.specs.Printed.{PagesWritten, halts, goes_on}
 
 -- the bytes of a line that holds some
 pub line_bytes : (l : Line) (w : List ℕ) → l ≡ holding w → bytes_of l ≡ w
@@ -73,7 +73,7 @@ module _ (recording : List ℕ) where
   pub pages_stop : {r : Replaying} {w : List ℕ} → PagesWritten recording r w → Stops r w
   unfolding replaying_on lines_on
   pages_stop (halts {r} e) = record { steps = 0; stopped = e; lines = refl }
-  pages_stop (goes_on_lem {r} {next} {out} {page} {len} {w} a b) =
+  pages_stop (goes_on {r} {next} {out} {page} {len} {w} a b) =
       let s = pages_stop b in
       record {
         steps = lines_fit out + s.steps;
@@ -94,4 +94,4 @@ module _ (recording : List ℕ) where
   pages_some zero r e = ([], halts e)
   pages_some (suc n) r e =
       let rest = pages_some n (replaying_after recording r) e in
-      (_, goes_on_lem {next = replaying_after recording r} {out = small} (record { replaying = refl; size = refl; whole = refl }) rest.1)
+      (_, goes_on {next = replaying_after recording r} {out = small} (record { replaying = refl; size = refl; whole = refl }) rest.1)

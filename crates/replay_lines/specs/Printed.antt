@@ -10,7 +10,7 @@ use Rattle.replay_lines.specs.Replaying.{Begun, PageFilled}
 -- what is written, of each page its front, until the replay has stopped
 pub data PagesWritten (recording : List ℕ) : Replaying → List ℕ → Type 0 where
   halts : {r : Replaying} → r.live ≡ false → PagesWritten recording r []
-  goes_on_lem : {r next : Replaying} {out page : List ℕ} {len : ℕ} {w : List ℕ} → PageFilled recording r out next len page
+  goes_on : {r next : Replaying} {out page : List ℕ} {len : ℕ} {w : List ℕ} → PageFilled recording r out next len page
       → PagesWritten recording next w → PagesWritten recording r (take len page ++ w)
 
 -- the whole: the first line, and the pages from there

@@ -17,9 +17,9 @@ use Rattle.line.specs.Line.{holding}
 use Rattle.trace_bytes.specs.Scripts.{script_of}
 use Rattle.trace_steps.specs.declared.Tracing.{Tracing}
 use Rattle.trace_steps.specs.declared.Turn.{Turn}
-use Rattle.trace_steps.specs.Turns.{verdict_line, Beginning, was_read, tracing_from, tracing_on, text_on, text_end, text_to_end, PieceTraced}
+use Rattle.trace_steps.specs.Turns.{tracing_after, verdict_line, Beginning, was_read, tracing_from, tracing_on, text_on, text_end, text_to_end, PieceTraced}
 use Rattle.trace_steps.specs.Trace.{steps_printed, behind_verdict, TraceOf}
-use Rattle.trace_steps.specs.Pieces.{bytes_of, joined_of, Written, halts, ends, goes_on_lem, MadeOf}
+use Rattle.trace_steps.specs.Pieces.{bytes_of, joined_of, Written, halts, ends, goes_on, MadeOf}
 use Rattle.trace_steps.proofs.Once.{trace_once}
 use Rattle.trace_steps.proofs.IsRun.{dead_rest, trace_is_run}
 
@@ -32,12 +32,12 @@ line_bytes l w e = ap bytes_of e ∙ take_at w _ (length w) refl
 tracing_cut : (t : Tracing) (p l : List ℕ) → tracing_on t (p ++ l) ≡ tracing_on (tracing_on t p) l
 unfolding tracing_on
 tracing_cut t [] l = refl
-tracing_cut t (b ∷ p) l = tracing_cut _ p l
+tracing_cut t (b ∷ p) l = tracing_cut (tracing_after t b) p l
 
 text_cut : (t : Tracing) (p l : List ℕ) → text_on t (p ++ l) ≡ text_on t p ++ text_on (tracing_on t p) l
 unfolding text_on tracing_on
 text_cut t [] l = refl
-text_cut t (b ∷ p) l = rw (text_cut _ p l, append_assoc)
+text_cut t (b ∷ p) l = rw (text_cut (tracing_after t b) p l, append_assoc)
 
 rest_cut : (t : Tracing) (p l : List ℕ) → text_to_end t (p ++ l) ≡ text_on t p ++ text_to_end (tracing_on t p) l
 rest_cut t p l = rw (text_cut t p l, tracing_cut t p l, append_assoc)
@@ -52,7 +52,7 @@ written_text : {t : Tracing} {ps : List (List ℕ)} {w : List ℕ} → Written t
 unfolding text_on tracing_on
 written_text (halts {t} {ps} e) = sym (dead_rest t e (joined_of ps))
 written_text (ends {t} l e) = line_bytes l (text_end t) e
-written_text (goes_on_lem {t} {next} {p} {out} {page} {len} {ps} {w} h a b) =
+written_text (goes_on {t} {next} {p} {out} {page} {len} {ps} {w} h a b) =
     ap₂ ◌++◌ (piece_text t next p out page len h a)
     (written_text b ∙ ap (λ (u : Tracing). text_to_end u (joined_of ps)) (a.room h).0)
     ∙ sym (rest_cut t p (joined_of ps))
@@ -92,7 +92,7 @@ written_some t (p ∷ ps) =
     let out : List ℕ = zeros (length p * 128) in
     let room : length p * 128 ≤ length out = omega (arith, length-replicate {A = ℕ} (length p * 128) 0) in
     let more : (w : List ℕ) × Written (tracing_on t p) ps w = written_some (tracing_on t p) ps in
-    (_, goes_on_lem room (piece_some t p out room) more.1)
+    (_, goes_on room (piece_some t p out room) more.1)
 
 pub made_some : (sheet : List ℕ) (pieces : List (List ℕ)) (first : Turn) → Beginning (read_of sheet) first → (out : List ℕ) × MadeOf sheet pieces out
 made_some sheet pieces first b =

@@ -23,7 +23,7 @@ joined_of (p ∷ ps) = p ++ joined_of ps
 pub data Written : Tracing → List (List ℕ) → List ℕ → Type 0 where
   halts : {t : Tracing} {ps : List (List ℕ)} → t.live ≡ false → Written t ps []
   ends : {t : Tracing} (l : Line) → Ending t l → Written t [] (bytes_of l)
-  goes_on_lem : {t next : Tracing} {p out page : List ℕ} {len : ℕ} {ps : List (List ℕ)} {w : List ℕ} → length p * line_room ≤ length out
+  goes_on : {t next : Tracing} {p out page : List ℕ} {len : ℕ} {ps : List (List ℕ)} {w : List ℕ} → length p * line_room ≤ length out
       → PieceTraced t p out next len page → Written next ps w → Written t (p ∷ ps) (take len page ++ w)
 
 -- the whole: the first line, and what is written of the pieces from there
