@@ -1,13 +1,12 @@
 -- The console's page: `close` is `read` of the joined bytes.
 -- Assumes nothing.
 use Prim.Native.Nat.{ℕ}
-use mathlib.Core.Path.{◌≡◌, refl, sym, ap, ◌∙◌}
+use mathlib.Core.Path.{◌≡◌, refl, ap, ◌∙◌}
 use mathlib.Core.Bool.{true}
 use mathlib.Core.List.{List, [], ◌∷◌, ◌++◌}
 use Rattle.laws.specs.Lists.{All}
 use Rattle.laws.specs.Bits.{bits}
 use Rattle.laws.proofs.Fields.{IsByte, all_append, bits_append}
-use Rattle.rules.specs.declared.Set.{Set}
 use Rattle.rules.specs.Sheet.{read_of}
 use Rattle.rules.specs.Pieces.{Piece, fed_from, joined}
 use Rattle.sheet_carried.specs.declared.Carried.{Carried}

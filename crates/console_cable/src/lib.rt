@@ -1,5 +1,6 @@
 // The console's service cable: what each command leaves of what is carried and of the set, and what it prints.
 #![tactic(auto)]
+
 ghost use Rattle.std.specs.Prelude.{◌≡◌};
 ghost use Rattle.sheet_carried.specs.Reader.{start_of};
 ghost use Rattle.sheet_read.specs.Cable.{feed_of};
