@@ -45,6 +45,7 @@ pub pair_in : (ns : List ℕ) (ms : List Message) {m : Message} → length ns �
 unfolding paired
 pair_in [] ms e (Memᴰ.head q) = absurd (omega arith)
 pair_in [] ms e (Memᴰ.tail i) = absurd (omega arith)
+pair_in (n ∷ ns) [] {m = m} e x3 = elim x3 [ ]
 pair_in (n ∷ ns) (x ∷ ms) e (Memᴰ.head q) = record { number = n; here = Memᴰ.head (ap (name n) q) }
 pair_in (n ∷ ns) (x ∷ ms) e (Memᴰ.tail i) =
     let h : Has (paired ns ms) _ = pair_in ns ms (omega arith) i in
