@@ -3,7 +3,7 @@
 use Prim.Native.Nat.{ℕ, ◌+◌, ◌≤◌}
 use native.Mathlib.Omega.{arith}
 use mathlib.Core.Path.{◌≡◌}
-use mathlib.Core.List.{List, [], ◌∷◌, ◌++◌}
+use mathlib.Core.List.{List, [], ◌++◌}
 use lib.ListN.{length, length-append}
 use Rattle.rules.specs.declared.Message.{Message}
 use Rattle.rules.specs.declared.Places.{Places}
@@ -12,7 +12,6 @@ use Rattle.ascii.specs.Decimal.{letters, decimal_of, spaced}
 use Rattle.line.specs.Line.{line_room, holding, put_of, puts}
 use Rattle.ascii.proofs.Digits.{digits_short}
 use Rattle.line.proofs.Puts.{then}
-use Rattle.answer_words.specs.Words.{line_of}
 use Rattle.answer_words.proofs.Lengths.{two, line_short}
 use Rattle.answer_words.proofs.Ends.{ended}
 use Rattle.console_ask.specs.Questions.{message_text, staged_text, door_text, owns_text, room_text}

@@ -10,7 +10,7 @@ use Rattle.rules.specs.declared.Verdict.{Verdict as Judgement}
 use Rattle.rules.specs.Numbers.{verdict_says}
 use Rattle.rules.proofs.Verdicts.{verdict_unique}
 use Rattle.answer_words.specs.Words.{says, line_of}
-use Rattle.page.specs.Pages.{room_for, Onto}
+use Rattle.page.specs.Pages.{room_for}
 use Rattle.page.proofs.Pieces.{onto_once}
 use Rattle.console_names.specs.declared.Question.{Question}
 use Rattle.console_names.specs.declared.Question.TheVariants.{Write, Valid, Limit, Demand, Jitter, Verdict, Choose, State as Shown, Formed}

@@ -1,5 +1,6 @@
 // The console's questions: what each prints, put on a page.
 #![tactic(auto)]
+
 ghost use Rattle.std.specs.Prelude.{◌≡◌, true, ◌++◌, ◌≤◌, length, replicate};
 ghost use Rattle.ascii.specs.Decimal.{decimal_of, spaced};
 ghost use Rattle.line.specs.Line.{holding};

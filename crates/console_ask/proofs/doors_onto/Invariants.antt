@@ -1,0 +1,12 @@
+use Prim.Native.Nat.{◌-◌}
+use mathlib.Core.Path.{◌≡◌}
+use lib.ListN.{length}
+use Rattle.console_ask.specs.Questions.{door_line}
+use Rattle.console_ask.proofs.States.{Printing}
+use Rattle.console_ask.proofs.doors_onto.Given as goal
+
+abbrev pub invariant-loop-i : goal.invariant-loop-i
+invariant-loop-i l = (length l.waits ≡ 16) × Printing 16 door_line l.waits l.initial.out l.at l.out l.end l.i
+
+abbrev pub decreases-loop-i : goal.decreases-loop-i
+decreases-loop-i l = 16 - l.i
