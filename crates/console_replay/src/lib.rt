@@ -1,5 +1,6 @@
 // The console's replay and its recordings: what each command leaves of what the console holds, and what it prints.
 #![tactic(auto)]
+
 ghost use Rattle.std.specs.Prelude.{◌≡◌, ◌≤◌, true, length, take, replicate};
 ghost use Rattle.rules.specs.Recordings.{replay_step};
 ghost use Rattle.record_call.specs.Places.{place};
