@@ -61,22 +61,18 @@ fn cut(rt: &impl Print, bytes: &[u8], at: usize) -> io::Result<()> {
 }
 
 fn every_cut(rt: &impl Print, bytes: &[u8]) -> io::Result<()> {
-    let mut at = 0;
-    while at < bytes.len() {
+    for at in 0..bytes.len() {
         cut(rt, bytes, at)?;
-        at += 1;
     }
-    cut(rt, bytes, at)
+    cut(rt, bytes, bytes.len())
 }
 
 fn byte_by_byte(rt: &impl Print, bytes: &[u8]) -> io::Result<()> {
     rt.write_all(b"byte by byte: ")?;
     let mut c = sheet_read::cable();
-    let mut i = 0;
-    while i < bytes.len() {
-        let piece = [bytes[i]];
+    for b in bytes {
+        let piece = [*b];
         c = fed(c, &piece);
-        i += 1;
     }
     close(rt, c)
 }

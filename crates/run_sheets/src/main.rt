@@ -280,10 +280,8 @@ fn staged(rt: &impl Print) -> io::Result<()> {
 // The first `n` bytes of a buffer.
 fn first(rt: &impl Print, buf: &[u8], n: usize) -> io::Result<()> {
     if n <= buf.len() {
-        let mut k: usize = 0;
-        while k < n {
-            byte(rt, buf[k])?;
-            k += 1;
+        for b in &buf[..n] {
+            byte(rt, *b)?;
         }
     }
     rt.write_all(b"\n")
