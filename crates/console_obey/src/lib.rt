@@ -1,6 +1,7 @@
 // The console's desk: a line's command is obeyed, and what it prints goes on the page. Which command a line is is decided in
 // `console_parse`, what it leaves and prints in the crate of its group.
 #![tactic(auto)]
+
 ghost use Rattle.std.specs.Prelude.{◌≡◌, true, ◌≤◌, length};
 ghost use Rattle.ascii.specs.Hex.{unhexed};
 ghost use Rattle.page.specs.Pages.{room_for};
