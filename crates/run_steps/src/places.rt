@@ -5,11 +5,9 @@ use std::io;
 
 pub fn fill(s: State, n: usize) -> State {
     let mut now = s;
-    let mut k: usize = 0;
-    while k < n {
+    for _ in 0..n {
         let r = scheduler::post(now, 0);
         now = r.state;
-        k = k + 1;
     }
     now
 }
