@@ -1,5 +1,6 @@
 // Questions about a sheet for a caller in another language: bytes come in, one number goes out.
 #![tactic(auto)]
+
 ghost use Rattle.std.specs.Prelude.{◌≡◌, ◌<◌, ◌≤◌};
 ghost use Rattle.laws.specs.Bits.{bits};
 ghost use Rattle.rules.specs.Sheet.{read_of};
