@@ -1,7 +1,7 @@
 -- A hex digit, by the side of `9` on which it lies: its value, and the byte of a value.
 -- Assumes nothing.
 use Prim.Native.Nat.{ℕ, ◌+◌, ◌-◌, ◌%◌, ◌≤◌, ◌<◌}
-use mathlib.Core.Path.{◌≡◌, refl, sym, ◌∙◌}
+use mathlib.Core.Path.{◌≡◌}
 use borrow.Author.Tests.{le-leb, lt-leb}
 use Rattle.ascii.specs.Hex.{hex_of, hex_digit}
 

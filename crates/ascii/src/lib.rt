@@ -1,5 +1,6 @@
 // Bytes as digits and words.
 #![tactic(auto)]
+
 ghost use Rattle.std.specs.Prelude.{◌≡◌, ◌-◌, ◌%◌};
 ghost use Rattle.ascii.specs.Decimal.{is_digit};
 ghost use Rattle.ascii.specs.Hex.{is_hex, hex_of, hex_digit};

@@ -1,6 +1,6 @@
 -- A field is the bytes that it touches as one number, without the bits in front and behind: once for every place and width.
 -- Assumes nothing.
-use Prim.Native.Nat.{ℕ, zero, suc, ◌+◌, ◌*◌, ◌/◌, ◌%◌, ◌^◌, ◌<◌, ◌≤◌, ◌-◌, min}
+use Prim.Native.Nat.{ℕ, ◌+◌, ◌*◌, ◌/◌, ◌%◌, ◌^◌, ◌<◌, ◌≤◌, ◌-◌}
 use mathlib.Core.Path.{◌≡◌, refl, sym, ap, ap₂, ◌∙◌}
 use mathlib.Core.List.{List, [], ◌∷◌, ◌++◌, append-nil}
 use native.Mathlib.Omega.{arith}
@@ -10,7 +10,7 @@ use lib.ListN.{length, get_or, take, drop, length-drop, take-append-drop}
 use lib.Seq.{take-suc, get_or-drop, length-take-le, drop-drop, drop-append-le, take-append-le, take-add}
 use lib.Pow.{mod-pow-add, shl-shr, shr-shr, pow_mono}
 use Rattle.laws.specs.Bits.{bits, onto, to_bits, value}
-use Rattle.laws.proofs.Fields.{AreBits, AreBytes, IsBit, IsByte, all_drop, all_take, bits_append, bits_bits, bits_length, onto_append, onto_to_bits, onto_value, taken_lt, value_back, value_front, value_lt}
+use Rattle.laws.proofs.Fields.{AreBits, IsBit, all_drop, bits_append, bits_bits, bits_length, onto_append, onto_to_bits, onto_value, taken_lt, value_back, value_front, value_lt}
 use Rattle.laws.proofs.Packing.{drop_bits}
 use Rattle.bits.specs.Places.{field_at, word_of}
 

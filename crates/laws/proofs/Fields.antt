@@ -4,11 +4,11 @@ use Prim.Native.Nat.{ℕ, zero, suc, ◌+◌, ◌*◌, ◌/◌, ◌%◌, ◌^◌
 use mathlib.Core.Path.{◌≡◌, refl, sym, ap, ap₂, ◌∙◌}
 use mathlib.Core.List.{List, [], ◌∷◌, ◌++◌, append_assoc}
 use native.Mathlib.Omega.{arith}
-use native.Mathlib.Nat.{pow-zero, pow-suc, mul_assoc, mod-lt, mod-eq_of_lt, add-mul, mul_comm, zero-add, zero-div, div-div-eq-div-mul, pow-succ'}
-use lib.ListN.{length, get_or, take, drop, set, replicate, length-append, length-drop, length-take, take-append-drop}
+use native.Mathlib.Nat.{pow-suc, mul_assoc, mod-lt, mod-eq_of_lt, add-mul, mul_comm, zero-add, zero-div}
+use lib.ListN.{length, get_or, take, drop, replicate, length-append, length-drop, take-append-drop}
 use lib.Seq.{take_at, drop_at, length-take-le}
 use lib.Arith.{digits_lt}
-use lib.Pow.{mod-pow-add, pow_pos, pow-add, high, low}
+use lib.Pow.{mod-pow-add, high, low}
 use Rattle.laws.specs.Lists.{All}
 use Rattle.laws.specs.Bits.{bits, onto, value, to_bits, zeros}
 

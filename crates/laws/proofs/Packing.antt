@@ -1,13 +1,13 @@
 -- Bits as bytes: zero bits to the end of the last byte, and buffers that are written from the front.
 -- Assumes nothing.
-use Prim.Native.Nat.{ℕ, zero, suc, ◌+◌, ◌*◌, ◌/◌, ◌^◌, ◌<◌, ◌≤◌, ◌-◌}
+use Prim.Native.Nat.{ℕ, zero, suc, ◌+◌, ◌*◌, ◌^◌, ◌<◌, ◌≤◌, ◌-◌}
 use mathlib.Core.Path.{◌≡◌, refl, sym, ap, ap₂, ◌∙◌}
 use mathlib.Core.List.{List, [], ◌∷◌, ◌++◌, append_assoc}
 use native.Mathlib.Omega.{arith}
 use lib.ListN.{length, take, drop, length-append, length-drop, length-replicate}
 use lib.Seq.{paste, take-paste, drop-paste, take-length, drop-append-add, drop-drop, drop-nil, take-add, take-append-add, length-take-le}
-use Rattle.laws.specs.Bits.{bits, bytes, bytes_for, pack, to_bits, value, zeros}
-use Rattle.laws.proofs.Fields.{AreBits, AreBytes, IsBit, IsByte, all_append, all_drop, all_take, are_bits_zeros, bits_append, bits_back, bits_inj, bits_length, taken_back, to_bits_length, value_lt}
+use Rattle.laws.specs.Bits.{bits, bytes, bytes_for, pack, to_bits, zeros}
+use Rattle.laws.proofs.Fields.{AreBits, AreBytes, IsBit, IsByte, all_append, all_drop, all_take, are_bits_zeros, bits_append, bits_inj, bits_length, taken_back, to_bits_length, value_lt}
 
 -- ---- packing
 

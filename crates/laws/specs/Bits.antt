@@ -1,6 +1,6 @@
 -- Numbers as bits, most significant first, and strings of bytes as strings of bits.
 -- Assumes nothing.
-use Rattle.std.specs.Prelude.{ℕ, zero, suc, ◌+◌, ◌*◌, ◌/◌, ◌%◌, ◌^◌, ◌-◌, List, [], ◌∷◌, ◌++◌, length, take, drop, replicate}
+use Rattle.std.specs.Prelude.{ℕ, zero, suc, ◌+◌, ◌*◌, ◌/◌, ◌%◌, ◌^◌, List, [], ◌∷◌, ◌++◌, length, take, drop, replicate}
 
 -- the w lowest bits of a number: a field of width w
 unfoldable pub to_bits : ℕ → ℕ → List ℕ

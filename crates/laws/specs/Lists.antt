@@ -1,6 +1,6 @@
 -- Words about lists and tests that the rules are written in. No cranes here.
 -- Assumes nothing.
-use Rattle.std.specs.Prelude.{ℕ, zero, suc, ◌+◌, max, Bool, true, false, cond, ◌&&◌, ◌||◌, List, [], ◌∷◌, ◌++◌, leb, ltb, eqb}
+use Rattle.std.specs.Prelude.{ℕ, zero, suc, ◌+◌, max, Bool, true, false, cond, ◌&&◌, ◌||◌, List, [], ◌∷◌, ◌++◌, leb}
 
 -- all the tests of a list pass; the last stands alone, as in `a && (b && c)`
 abbrev pub every : List Bool → Bool

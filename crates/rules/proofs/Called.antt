@@ -7,7 +7,7 @@ use Rattle.laws.specs.Lists.{All}
 use Rattle.rules.specs.declared.Set.{Set}
 use Rattle.rules.specs.declared.OpenResult.{OpenResult}
 use Rattle.rules.specs.declared.GoResult.{GoResult}
-use Rattle.rules.specs.Streams.{empty_set, no_streams}
+use Rattle.rules.specs.Streams.{empty_set}
 use Rattle.rules.specs.Load.{greatest_deadline, stream_offset, greatest_offset, last_length}
 use Rattle.rules.specs.Numbers.{Says, open_says, go_says, overload, refused, opened, tested, tested_accept, tested_late}
 use Rattle.rules.specs.Resumed.{at, no_position, OpenOf, GoOf}

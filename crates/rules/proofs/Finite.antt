@@ -4,10 +4,10 @@ use Prim.Native.Nat.{ℕ, zero, suc, ◌+◌, ◌-◌, ◌*◌, ◌/◌, ◌≤�
 use native.Mathlib.Nat.{le_refl, mul-add, mul-div_cancel', add-mul-div_left}
 use native.Mathlib.Omega.{arith}
 use native.Mathlib.Decide.{dec_le}
-use mathlib.Core.Path.{◌≡◌, refl, ap, ◌∙◌}
+use mathlib.Core.Path.{◌≡◌, ap, ◌∙◌}
 use mathlib.Core.List.{List}
 use mathlib.Core.Bool.{false}
-use lib.Dec.{leb, eqb}
+use lib.Dec.{leb}
 use borrow.Author.Tests.{le-leb, lt-leb}
 use Rattle.laws.specs.Lists.{below, any, sum, top, All}
 use Rattle.laws.proofs.Sums.{all_map, all_zip, all_each, sum_split, sum_zero, sum_mul, top_each, top_zero, cond_zero, any_none, and_no}
@@ -16,7 +16,7 @@ use Rattle.rules.specs.declared.Tuple.TheVariants.{Once, Every}
 use Rattle.rules.specs.declared.TuplePlace.{TuplePlace}
 use Rattle.rules.specs.declared.Stream.{Stream}
 use Rattle.rules.specs.Streams.{tuples_of, offset, offset_at, events_of, events, limit}
-use Rattle.rules.specs.Load.{cost_in, due, has, urgent, blocks_for, blocks, blocking, demand, CycleIn, PlaceIn, CyclesIn, Common, rate_of, rate, stream_load, load, deadline_of, greatest_deadline, stream_offset, greatest_offset, last_length}
+use Rattle.rules.specs.Load.{cost_in, due, has, urgent, blocks, blocking, demand, CycleIn, PlaceIn, CyclesIn, Common, rate_of, rate, stream_load, load, deadline_of, greatest_deadline, stream_offset, greatest_offset, last_length}
 use Rattle.rules.specs.Valid.{ValidPlace, ValidCycle, ValidStream}
 
 -- ---- one H more

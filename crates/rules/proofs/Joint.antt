@@ -1,8 +1,8 @@
 -- Request 8, computed: set B with its middle stream theirs and one place for each party; starts at their edges; states that break a party's rule.
 -- Assumes nothing.
 use Prim.Native.Nat.{ℕ}
-use mathlib.Core.Bool.{Bool, true, false}
-use mathlib.Core.List.{List, [], ◌∷◌, ◌++◌}
+use mathlib.Core.Bool.{true, false}
+use mathlib.Core.List.{List, [], ◌∷◌}
 use mathlib.Core.Path.{◌≡◌, refl}
 use lib.IntN.{pos}
 use lib.ListN.{replicate}
@@ -14,9 +14,9 @@ use Rattle.rules.specs.declared.Places.{Places}
 use Rattle.rules.specs.declared.Set.{Set}
 use Rattle.rules.specs.declared.State.{State}
 use Rattle.rules.specs.Streams.{empty_set}
-use Rattle.rules.specs.Parties.{ours, all_ours, all_places}
+use Rattle.rules.specs.Parties.{ours}
 use Rattle.rules.specs.States.{with_messages, well_formed}
-use Rattle.rules.specs.Steps.{fresh, fresh_for, start_for, new_message, added}
+use Rattle.rules.specs.Steps.{fresh, fresh_for, start_for, new_message}
 use Rattle.rules.specs.Numbers.{Says, refused, started, posted, done, start_says}
 use Rattle.rules.specs.Runs.{Start, answers_for, steps_for}
 use Rattle.rules.specs.Sheet.{set_of}

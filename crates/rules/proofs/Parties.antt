@@ -1,12 +1,11 @@
 -- Laws about the two parties: whose a stream is, and how many messages each has.
 -- Assumes nothing.
 use Prim.Native.Nat.{ℕ, zero, suc, ◌+◌, ◌-◌, ◌≤◌}
-use mathlib.Core.Bool.{Bool, true, false, cond, false≢true}
+use mathlib.Core.Bool.{true, cond, false≢true}
 use mathlib.Core.List.{List, [], ◌∷◌, ◌++◌}
 use mathlib.Core.Path.{◌≡◌, refl, ap, sym, ◌∙◌}
 use native.Mathlib.Omega.{arith}
-use borrow.Author.Tests.{le-leb}
-use lib.ListN.{length, get_or, take, drop, replicate, length-append, length-replicate}
+use lib.ListN.{length, take, drop, replicate, length-append, length-replicate}
 use lib.Seq.{length-take-le, drop-append_seam}
 use Rattle.laws.specs.Lists.{all, sum, count}
 use Rattle.laws.proofs.Gates.{sum_last}
@@ -21,7 +20,7 @@ use Rattle.rules.specs.declared.Call.{Call}
 use Rattle.rules.specs.declared.StartResult.{StartResult}
 use Rattle.rules.specs.Streams.{Placed, valid}
 use Rattle.rules.specs.Steps.{start_of, start_for}
-use Rattle.rules.specs.Runs.{Run, Start, Starts, alone, start_at, begin_for, run_from, run_for, begin, run_of}
+use Rattle.rules.specs.Runs.{Run, Starts, alone, start_at, begin_for, run_from, run_for, begin, run_of}
 use Rattle.rules.proofs.Valid.{valid_set}
 
 pub same_self : (p : Party) → same p p ≡ true

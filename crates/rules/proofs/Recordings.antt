@@ -6,11 +6,8 @@ use mathlib.Core.List.{List, [], ◌∷◌}
 use mathlib.Core.Path.{◌≡◌, refl}
 use Rattle.rules.specs.declared.Call.{Call}
 use Rattle.rules.specs.declared.Call.TheVariants.{Posts, Units}
-use Rattle.rules.specs.declared.Refusal.{Refusal}
 use Rattle.rules.specs.declared.Refusal.TheVariants.{NoStream, ShortBuffer, IllFormed, StopsEarly, Trailing}
-use Rattle.rules.specs.declared.AppendAnswer.{AppendAnswer}
 use Rattle.rules.specs.declared.AppendAnswer.TheVariants.{Appended, Refused as NotAppended}
-use Rattle.rules.specs.declared.RecordAnswer.{RecordAnswer}
 use Rattle.rules.specs.declared.RecordAnswer.TheVariants.{Recorded, Refused as NotRecorded}
 use Rattle.rules.specs.Steps.{fresh}
 use Rattle.rules.specs.Numbers.{Says, refused, posted, ended, replay_says}

@@ -6,7 +6,6 @@ use native.Mathlib.Decide.{dec_lt}
 use mathlib.Core.Path.{◌≡◌, refl, ap, ap₂, subst, sym, ◌∙◌}
 use mathlib.Core.List.{List, [], ◌∷◌}
 use mathlib.Core.Bool.{Bool, true, false, cond}
-use mathlib.Core.Logic.{◌⊎◌, inl, inr}
 use lib.Dec.{leb, ltb}
 use borrow.Author.Tests.{leb-true, leb-false, ltb-true, ltb-false}
 use Rattle.laws.specs.Lists.{sum}
@@ -25,9 +24,8 @@ use Rattle.rules.specs.declared.GoAnswer.{GoAnswer}
 use Rattle.rules.specs.declared.GoAnswer.TheVariants.{Next, Falls, Refused as GoRefused}
 use Rattle.rules.specs.declared.GoResult.{GoResult}
 use Rattle.rules.specs.Streams.{streams_of, valid}
-use Rattle.rules.specs.Valid.{Between}
-use Rattle.rules.specs.Load.{demand, load, last_length, longest_h, Opens, JudgedByH, VerdictIf, VerdictOf, NoneLate, FirstLate}
-use Rattle.rules.specs.Resumed.{Lengths, at, no_position, Resumes, AtOpening, StopsWith, OpenBy, OpenOf, Barred, stopped, before, behind, GoesOn, past, FallsFrom, Ends, GoBy, GoOf, Only12, PositionsKept, TwelveExactly, Underway, Stand, next, fallen, Calls, none, goes, falls, itself, together, AnyDivision, NoVerdictYet, LongEnough, OneCall}
+use Rattle.rules.specs.Load.{demand, load, last_length, longest_h, Opens, JudgedByH, VerdictOf, NoneLate, FirstLate}
+use Rattle.rules.specs.Resumed.{Lengths, at, no_position, Resumes, AtOpening, StopsWith, OpenBy, OpenOf, Barred, stopped, before, behind, GoesOn, past, FallsFrom, Ends, GoBy, GoOf, PositionsKept, TwelveExactly, Underway, next, fallen, Calls, none, goes, falls, together, AnyDivision, NoVerdictYet, LongEnough, OneCall}
 use Rattle.rules.proofs.Valid.{valid_set}
 use Rattle.rules.proofs.Cycles.{h_of, h_of_lem}
 use Rattle.rules.proofs.Judge.{Fits, fits_one, accepts, is_late, overloads}

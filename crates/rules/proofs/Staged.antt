@@ -12,7 +12,6 @@ use Rattle.rules.specs.declared.Tuple.TheVariants.{Once}
 use Rattle.rules.specs.declared.Stage.{Stage}
 use Rattle.rules.specs.declared.Stream.{Stream}
 use Rattle.rules.specs.declared.Set.{Set}
-use Rattle.rules.specs.declared.Message.{Message}
 use Rattle.rules.specs.declared.Call.{Call}
 use Rattle.rules.specs.declared.Call.TheVariants.{Posts, Units}
 use Rattle.rules.specs.Streams.{no_streams, valid}
@@ -21,7 +20,7 @@ use Rattle.rules.specs.Steps.{fresh}
 use Rattle.rules.specs.Load.{greatest_deadline, stream_offset, greatest_offset, last_length}
 use Rattle.rules.specs.Sheet.{stream_of, set_of}
 use Rattle.rules.specs.Runs.{Accepted, Departure, accepts, leaves, Run, finished, cut as left_cut, departures, run_of, LeftInTime, answers_of}
-use Rattle.rules.specs.Numbers.{Says, accept, late, overload, posted, ran, passed, done, cut}
+use Rattle.rules.specs.Numbers.{accept, late, overload, posted, ran, passed, done, cut}
 use Rattle.rules.proofs.Examples.{stage, staged, stream, each, computed}
 use Rattle.rules.proofs.Cycles.{h_of}
 use Rattle.rules.proofs.Judge.{judge_from, judge_by, judge}

@@ -1,16 +1,15 @@
 -- The stages of a stream: what its cost and what it blocks are at most; a stage of it among them.
 -- Assumes nothing.
-use Prim.Native.Nat.{ℕ, zero, suc, ◌+◌, ◌-◌, ◌*◌, ◌≤◌, ◌<◌}
+use Prim.Native.Nat.{ℕ, zero, suc, ◌-◌, ◌*◌, ◌≤◌, ◌<◌}
 use native.Mathlib.Omega.{arith}
 use native.Mathlib.Nat.{le_refl, mul-le-mul_right}
-use mathlib.Core.Bool.{Bool, true, false, cond, ◌||◌}
+use mathlib.Core.Bool.{Bool, true, false, ◌||◌}
 use mathlib.Core.List.{List, [], ◌∷◌}
-use mathlib.Core.Path.{◌≡◌, refl, ap, sym, ◌∙◌}
+use mathlib.Core.Path.{◌≡◌, refl, ap}
 use borrow.Author.Tests.{eq-eqb}
-use lib.Dec.{eqb}
-use lib.ListN.{length, get_or, take, length-take}
+use lib.ListN.{length, get_or, length-take}
 use lib.Seq.{get_or-take}
-use Rattle.laws.specs.Lists.{any, sum, top, All}
+use Rattle.laws.specs.Lists.{any, sum, top}
 use Rattle.laws.proofs.Sums.{all_map, all_at, sum_le, top_le, top_each, cond_le}
 use Rattle.rules.specs.declared.Stage.{Stage}
 use Rattle.rules.specs.declared.Stream.{Stream}

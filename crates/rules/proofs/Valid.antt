@@ -6,9 +6,9 @@ use mathlib.Core.Path.{◌≡◌}
 use mathlib.Core.List.{List, [], ◌∷◌}
 use mathlib.Core.Bool.{Bool, true}
 use lib.Dec.{leb, eqb}
-use lib.ListN.{length, get_or, take, drop, length-take}
+use lib.ListN.{length, get_or, take, length-take}
 use borrow.Author.Tests.{leb-true, eqb-true}
-use Rattle.laws.specs.Lists.{within, all, All, scan}
+use Rattle.laws.specs.Lists.{within, All, scan}
 use Rattle.laws.proofs.Sums.{and_parts, every_all, Holds, all_all}
 use Rattle.rules.specs.declared.Tuple.{Tuple}
 use Rattle.rules.specs.declared.Tuple.TheVariants.{Once, Every}
@@ -17,7 +17,7 @@ use Rattle.rules.specs.declared.Stage.{Stage}
 use Rattle.rules.specs.declared.Stream.{Stream}
 use Rattle.rules.specs.declared.Set.{Set}
 use Rattle.rules.specs.Valid.{Between, ValidCycle, ValidPlace, FirstZero, ValidStage, ValidStream, ValidSet}
-use Rattle.rules.specs.Streams.{no_tuple, stages_of, tuples_of, streams_of, offset, offset_at, cycle_ok, tuple_ok, tuples_ok, tuple_unused, stage_ok, stream_tests, stream_ok, stream_unused, set_tests, valid}
+use Rattle.rules.specs.Streams.{no_tuple, stages_of, tuples_of, streams_of, offset, offset_at, cycle_ok, tuple_ok, tuples_ok, stage_ok, stream_tests, stream_ok, set_tests, valid}
 
 between : (a x b : ℕ) → within a x b ≡ true → Between a x b
 between a x b e =

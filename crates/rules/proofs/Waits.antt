@@ -1,10 +1,10 @@
 -- The waits at the doors: what a unit leaves of them, that post and unit keep their rules, and how large they are.
 -- Assumes nothing.
-use Prim.Native.Nat.{ℕ, zero, suc, ◌+◌, ◌-◌, ◌≤◌, ◌<◌}
+use Prim.Native.Nat.{ℕ, zero, suc, ◌+◌, ◌≤◌, ◌<◌}
 use native.Mathlib.Omega.{arith}
-use mathlib.Core.Bool.{Bool, true, false, cond, false≢true}
+use mathlib.Core.Bool.{false}
 use mathlib.Core.List.{List, [], ◌∷◌}
-use mathlib.Core.Path.{◌≡◌, refl, ap, sym, subst, ◌∙◌}
+use mathlib.Core.Path.{◌≡◌, refl, ap, sym, subst}
 use borrow.Author.Tests.{ltb-true, ltb-false, leb-true, leb-false, eqb-true}
 use lib.Dec.{ltb, leb, eqb}
 use lib.ListN.{length, get_or}
@@ -16,7 +16,7 @@ use Rattle.rules.specs.declared.TuplePlace.{TuplePlace}
 use Rattle.rules.specs.declared.Stream.{Stream}
 use Rattle.rules.specs.declared.Door.{Door}
 use Rattle.rules.specs.declared.Door.TheVariants.{Unguarded, Single, Spaced}
-use Rattle.rules.specs.Streams.{no_tuple, no_stream, tuples_of, offset}
+use Rattle.rules.specs.Streams.{no_tuple, no_stream, offset}
 use Rattle.rules.specs.Doors.{tuple_at, door_of_one, door_of_two, door_of, slack, larger, shut, wait_after, wait_later, waits_later, most_wait}
 use Rattle.rules.specs.Valid.{Between, ValidCycle, ValidPlace, ValidStream}
 

@@ -1,9 +1,8 @@
 -- Worked steps that fix what set B's trace leaves open: ties, the cut, the laxity of a late message, both ends of a window, whose task blocks, and
 -- the first four of document 01's "Ways a cab has gone wrong", each computed from the definitions. The fifth is a row of the yard's second table.
 -- Assumes nothing.
-use Prim.Native.Nat.{ℕ}
 use native.Mathlib.Omega.{arith}
-use mathlib.Core.Bool.{Bool, true, false}
+use mathlib.Core.Bool.{true, false}
 use mathlib.Core.List.{List, [], ◌∷◌}
 use mathlib.Core.Path.{◌≡◌, refl}
 use lib.IntN.{pos, negsuc}
@@ -16,7 +15,7 @@ use Rattle.rules.specs.Load.{demand}
 use Rattle.rules.specs.Sheet.{stream_of, set_of}
 use Rattle.rules.specs.declared.Call.TheVariants.{Posts, Units}
 use Rattle.rules.specs.Runs.{Accepted, Departure, cut as left_cut, departures, run_of, LeftInTime, in_window, answers_of, missed_in}
-use Rattle.rules.specs.Numbers.{Says, posted, ran, done, cut, idle, refused}
+use Rattle.rules.specs.Numbers.{posted, ran, done, cut, idle, refused}
 use Rattle.rules.proofs.Examples.{set_b, stage, stream, each, computed}
 
 -- "Messages of a task served in order of arrival: the March fault." "Taking a message before its first unit."

@@ -1,19 +1,17 @@
 -- Document 01's yard examples W1 to W12, as one table under one statement; and a second table, of what the W examples leave open.
 -- Assumes nothing.
-use Prim.Native.Nat.{ℕ, zero, suc, ◌+◌, ◌≤◌}
+use Prim.Native.Nat.{ℕ, zero, suc, ◌+◌}
 use native.Mathlib.Omega.{arith}
 use native.Mathlib.Nat.{dvd_refl}
 use native.Mathlib.Numerals.{add-one}
-use mathlib.Core.Path.{◌≡◌, refl, ap, sym, subst, ◌∙◌}
+use mathlib.Core.Path.{◌≡◌, refl, ap, sym, ◌∙◌}
 use mathlib.Core.List.{List, [], ◌∷◌}
 use Rattle.laws.specs.Lists.{All}
-use Rattle.rules.specs.declared.Tuple.{Tuple}
 use Rattle.rules.specs.declared.Tuple.TheVariants.{Once, Every}
 use Rattle.rules.specs.declared.Stream.{Stream}
 use Rattle.rules.specs.declared.Set.{Set}
 use Rattle.rules.specs.declared.ReadAnswer.TheVariants.{Read}
 use Rattle.rules.specs.declared.ReadResult.{ReadResult}
-use Rattle.rules.specs.declared.CountAnswer.TheVariants.{Number}
 use Rattle.rules.specs.declared.Verdict.{Verdict}
 use Rattle.rules.specs.Streams.{no_tuple, no_stage, empty_set, streams_of, jitter_of}
 use Rattle.rules.specs.Load.{demand, demand_of, greatest_deadline, stream_offset, greatest_offset, last_length, VerdictOf}

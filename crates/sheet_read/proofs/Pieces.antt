@@ -4,10 +4,6 @@ use Prim.Native.Nat.{ℕ}
 use mathlib.Core.List.{List, [], ◌∷◌, ◌++◌, append_assoc, append-nil}
 use mathlib.Core.Path.{◌≡◌, refl, sym, ap, ◌∙◌, subst}
 use mathlib.Core.Bool.{true, false}
-use base.Fml.{Fml}
-use mir.Val.{Val}
-use denote.Shadow.{shadow}
-use denote.Array.{each}
 use Rattle.laws.specs.Lists.{All, flat}
 use Rattle.laws.specs.Bits.{bits}
 use Rattle.laws.proofs.Sums.{by_test}
@@ -26,14 +22,6 @@ use Rattle.sheet_carried.proofs.Exact.{complete, left_exactly}
 use Rattle.sheet_carried.specs.Left.{LeftExactly}
 use Rattle.sheet_read.specs.Cable.{SheetPieces, closed_of, feed_of, sheet_cable}
 use Rattle.sheet_read.proofs.ByField.{by_field_lem}
-
--- what the machine's array of structs says of each of its elements, as a property of the list
-pub each_all : {A : Type 0} (own : A → List Val → Fml) (P : A → Type 0) (l : List A) (us : List Val) → shadow (each A own l us)
-    → ((x : A) (u : Val) → shadow (own x (u ∷ [])) → P x) → All P l
-each_all own P [] [] s h = tt
-each_all own P [] (u ∷ us) s h = tt
-each_all own P (x ∷ l) [] s h = absurd s
-each_all own P (x ∷ l) (u ∷ us) s h = (h x u s.0, each_all own P l us s.1 h)
 
 -- what bytes leave keeps what the reader's states keep
 pub left_kept : (c : Carried) → Boxed c → could_be_left c ≡ true → Kept c

@@ -1,5 +1,6 @@
 // Streams and sets: is a set valid, and what is read of it.
 #![tactic(auto)]
+
 ghost use Rattle.std.specs.Prelude.{◌≡◌, true, cond, ◌&&◌, eqb, drop, ◌-◌};
 ghost use Rattle.laws.specs.Lists.{all};
 ghost use Rattle.rules.specs.Streams.{offset, cycle_ok, tuple_ok, tuples_ok, tuple_unused, tuples_of, stage_ok, stage_unused, stages_of, stream_ok, stream_unused, one_stage, streams_of, valid, no_tuple, no_stage, no_stream, empty_set, stream_at};

@@ -1,4 +1,3 @@
-use Prim.Native.Nat.{◌-◌}
 use mathlib.Core.Path.{refl, sym, ◌∙◌}
 use Rattle.ascii.proofs.Sames.{other_length, go_on, differ, all_same}
 use native.Mathlib.Omega.{arith}

@@ -5,7 +5,8 @@ use Rattle.rules.specs.declared.ReadAnswer.TheVariants.{Refused}
 use Rattle.rules.specs.Streams.{FourPlaces}
 use Rattle.rules.specs.contracts.Stream.{the_row}
 use Rattle.sheet_carried.specs.Left.{Boxed}
-use Rattle.sheet_read.proofs.Pieces.{each_all, close_takes, close_twelve, left_kept}
+use Rattle.laws.proofs.Arrays.{each_all}
+use Rattle.sheet_read.proofs.Pieces.{close_takes, close_twelve, left_kept}
 use Rattle.sheet_read.proofs.close.Goals as goal
 
 pub close-requires : goal.close-requires
@@ -17,7 +18,7 @@ close-requires c =
       tuples = c.well_formed.0.1.1.1.1.1.0.1.0.1;
       placed = record {
         sixteen = set.1.1.1.0.1.0.1;
-        four = each_all the_row.own_val FourPlaces c.args.c.set.streams _ set.1.1.1.0.1.1 (λ s u h. record { stages = h.1.1.1.0.1.0.1; tuples = h.1.1.1.1.1.1.0.1.0.1 });
+        four = each_all the_row.own_val c.args.c.set.streams _ set.1.1.1.0.1.1 FourPlaces (λ s u h. record { stages = h.1.1.1.0.1.0.1; tuples = h.1.1.1.1.1.1.0.1.0.1 });
       };
     } in
     left_kept c.args.c boxed (sym c.could_be_left.ensures ∙ c.if-could_be_left.true)

@@ -4,7 +4,8 @@ use Rattle.rules.specs.Streams.{FourPlaces}
 use Rattle.rules.specs.contracts.Stream.{the_row}
 use Rattle.sheet_carried.specs.declared.Carried.{Carried}
 use Rattle.sheet_carried.specs.Left.{Boxed}
-use Rattle.sheet_read.proofs.Pieces.{each_all, feed_takes, feed_twelve, left_kept}
+use Rattle.laws.proofs.Arrays.{each_all}
+use Rattle.sheet_read.proofs.Pieces.{feed_takes, feed_twelve, left_kept}
 use Rattle.sheet_read.proofs.feed.Goals as goal
 
 pub feed-requires : goal.feed-requires
@@ -16,7 +17,7 @@ feed-requires c =
       tuples = c.well_formed.0.1.1.1.1.1.0.1.0.1;
       placed = record {
         sixteen = set.1.1.1.0.1.0.1;
-        four = each_all the_row.own_val FourPlaces c.args.c.set.streams _ set.1.1.1.0.1.1 (λ s u h. record { stages = h.1.1.1.0.1.0.1; tuples = h.1.1.1.1.1.1.0.1.0.1 });
+        four = each_all the_row.own_val c.args.c.set.streams _ set.1.1.1.0.1.1 FourPlaces (λ s u h. record { stages = h.1.1.1.0.1.0.1; tuples = h.1.1.1.1.1.1.0.1.0.1 });
       };
     } in
     left_kept c.args.c boxed (sym c.could_be_left.ensures ∙ c.if-could_be_left.true)

@@ -2,11 +2,9 @@ use native.Mathlib.Omega.{arith}
 use mathlib.Core.Bool.{Bool, true, cond, ◌&&◌}
 use mathlib.Core.List.{List, [], ◌∷◌}
 use mathlib.Core.Path.{◌≡◌, refl, sym, ap, ◌∙◌}
-use Prim.Native.Nat.{◌-◌}
 use lib.Dec.{leb, eqb}
 use lib.ListN.{drop}
 use Rattle.laws.specs.Lists.{all}
-use Rattle.laws.proofs.Parts.{sized}
 use Rattle.laws.proofs.Fits.{fits_from, fits_start, fits_go, fits_end, scan_all, and_assoc, and_true}
 use Rattle.rules.specs.declared.Stream.{Stream}
 use Rattle.rules.specs.declared.Set.{Set}

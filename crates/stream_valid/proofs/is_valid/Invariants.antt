@@ -32,6 +32,5 @@ invariant-loop-k l = (length l.x.streams ≡ 16)
     × (((l.ok && fits_from test nothing stream_unused l.k l.n 0 l.x.streams) ≡ places_ok l.x)
     × ((l.single && fits_from one nothing free l.k l.n 0 l.x.streams) ≡ all one_stage (streams_of l.x)))
 
-
 abbrev pub decreases-loop-k : goal.decreases-loop-k
 decreases-loop-k l = 16 - l.k

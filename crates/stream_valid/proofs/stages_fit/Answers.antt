@@ -1,10 +1,8 @@
 use native.Mathlib.Omega.{arith}
 use mathlib.Core.Bool.{◌&&◌}
 use mathlib.Core.Path.{◌≡◌, refl}
-use Prim.Native.Nat.{◌-◌}
 use lib.ListN.{drop}
 use Rattle.laws.specs.Lists.{all}
-use Rattle.laws.proofs.Parts.{sized}
 use Rattle.laws.proofs.Fits.{fits_from, fits_start, fits_go, fits_end, scan_all}
 use Rattle.rules.specs.declared.Stream.{Stream}
 use Rattle.rules.specs.Streams.{stage_ok, stage_unused, stages_of}

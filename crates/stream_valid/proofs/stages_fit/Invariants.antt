@@ -19,6 +19,5 @@ abbrev pub invariant-loop-k : goal.invariant-loop-k
 invariant-loop-k l = (length l.s.stages ≡ 4)
     × ((l.ok && fits_from test nothing stage_unused l.k l.n 0 l.s.stages) ≡ (all stage_ok (stages_of l.s) && all stage_unused (drop l.s.depth l.s.stages)))
 
-
 abbrev pub decreases-loop-k : goal.decreases-loop-k
 decreases-loop-k l = 4 - l.k

@@ -1,6 +1,6 @@
 use native.Mathlib.Omega.{arith}
 use mathlib.Core.Path.{◌∙◌}
-use Rattle.laws.proofs.Parts.{sized, past, get_d_any}
+use Rattle.laws.proofs.Parts.{past, get_d_any}
 use Rattle.rules.specs.Streams.{no_stream}
 use Rattle.stream_valid.proofs.stream_at.Goals as goal
 

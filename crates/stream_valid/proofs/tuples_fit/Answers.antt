@@ -1,7 +1,5 @@
 use native.Mathlib.Omega.{arith}
 use mathlib.Core.Path.{refl}
-use Prim.Native.Nat.{◌-◌}
-use Rattle.laws.proofs.Parts.{sized}
 use Rattle.laws.proofs.Fits.{fits_start, fits_go, fits_end}
 use Rattle.rules.specs.Streams.{tuple_ok, offset_at, tuple_unused, tuples_ok, no_tuple}
 use Rattle.stream_valid.proofs.tuples_fit.Goals as goal

@@ -1,7 +1,5 @@
 use native.Mathlib.Omega.{arith}
 use mathlib.Core.Path.{refl}
-use Prim.Native.Nat.{◌-◌}
-use Rattle.laws.proofs.Parts.{sized}
 use Rattle.laws.proofs.Fits.{and_go, and_end}
 use Rattle.rules.specs.Streams.{tuple_unused, no_tuple}
 use Rattle.stream_valid.proofs.tuples_unused.Goals as goal
