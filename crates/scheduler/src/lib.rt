@@ -1,5 +1,6 @@
 // The steps of the scheduler: start, post, choose and unit.
 #![tactic(auto)]
+
 ghost use Rattle.std.specs.Prelude.{◌≡◌, ◌<◌};
 ghost use Rattle.rules.specs.Steps.{fresh_for, start_refused, start_for, start_of, post_of, choose_of, laxity_of, unit_of, call_of};
 ghost use Rattle.scheduler.specs.Serving.{work_of, served_answer, stepped_on};

@@ -1,26 +1,25 @@
 -- The place of the choice is the one that document 01's words name.
 -- Assumes nothing.
-use Prim.Native.Nat.{ℕ, zero, suc, ◌+◌, ◌≤◌, ◌<◌}
-use mathlib.Core.Bool.{Bool, true, false, cond, not, ◌&&◌, false≢true}
-use mathlib.Core.Logic.{◌⊎◌, ⊎_elim}
+use Prim.Native.Nat.{ℕ, zero, suc, ◌≤◌, ◌<◌}
+use mathlib.Core.Bool.{Bool, true, false, not, ◌&&◌, false≢true}
+use mathlib.Core.Logic.{⊎_elim}
 use mathlib.Core.List.{List, [], ◌∷◌}
-use mathlib.Core.Path.{◌≡◌, refl, ap, sym, ◌∙◌}
+use mathlib.Core.Path.{◌≡◌, refl, sym, ◌∙◌}
 use native.Mathlib.Omega.{arith}
 use native.Mathlib.Nat.{eq-or-lt_of_le}
-use borrow.Author.Tests.{ltb-true, ltb-false, lt-ltb, le-ltb, eqb-true, eqb-false, eq-eqb}
+use borrow.Author.Tests.{ltb-true, ltb-false, lt-ltb, le-ltb, eqb-true, eq-eqb}
 use lib.Dec.{ltb, eqb}
-use lib.ListN.{length, get_or, take}
+use lib.ListN.{length}
 use lib.Seq.{length-take-le, get_or-take}
 use Rattle.laws.specs.Lists.{find}
 use Rattle.laws.proofs.Sums.{and_parts, by_test}
-use Rattle.laws.proofs.Parts.{find_le, find_passes, find_before, find_within, first_by_none, first_by_first}
+use Rattle.laws.proofs.Parts.{find_passes, find_before, find_within, first_by_none, first_by_first}
 use Rattle.laws.proofs.Gates.{le_or_lt}
 use Rattle.rules.specs.declared.Set.{Set}
 use Rattle.rules.specs.declared.Message.{Message}
 use Rattle.rules.specs.declared.State.{State}
-use Rattle.rules.specs.Streams.{stream_at}
 use Rattle.rules.specs.States.{no_message, pending, task_of, started_of, well_formed}
-use Rattle.rules.specs.Steps.{sooner, never, task_deadline, ahead, running_task, turn_of, started_at, due_of, urgent_at, served_at, place_of, message_at}
+use Rattle.rules.specs.Steps.{never, task_deadline, ahead, running_task, turn_of, started_at, due_of, urgent_at, served_at, place_of, message_at}
 use Rattle.rules.proofs.Ahead.{Before, NotBefore, ahead_yes, ahead_no, ahead_order}
 use Rattle.state_formed.proofs.WellFormed.{well_formed_lem, in_range, stands, task_in, message_stream}
 use Rattle.state_choosing.specs.Words.{at, DeadlineOf, Served}

@@ -1,5 +1,6 @@
 // Which pending message is served.
 #![tactic(auto)]
+
 ghost use Rattle.std.specs.Prelude.{◌≡◌, true, ◌<◌};
 ghost use Rattle.rules.specs.States.{well_formed};
 ghost use Rattle.rules.specs.Steps.{message_at, choose_of};

@@ -1,14 +1,14 @@
 -- The pass over the pending messages: what holds before the place k, and what each turn of the loop finds.
 -- Assumes nothing.
 use Prim.Native.Nat.{ℕ, ◌+◌, ◌-◌, ◌≤◌, ◌<◌}
-use mathlib.Core.Bool.{Bool, true, false, cond, ◌&&◌}
+use mathlib.Core.Bool.{Bool, true, false, ◌&&◌}
 use mathlib.Core.Logic.{inl}
 use mathlib.Core.List.{List}
 use mathlib.Core.Path.{◌≡◌, refl, ap, sym, ◌∙◌}
 use native.Mathlib.Omega.{arith}
 use borrow.Author.Tests.{ltb-true, ltb-false, le-leb}
 use lib.Dec.{ltb, leb}
-use lib.ListN.{length, get_or, take, drop, set, replicate}
+use lib.ListN.{length, get_or, drop, set, replicate}
 use Rattle.laws.specs.Lists.{below, all, scan}
 use Rattle.laws.proofs.Sums.{and_parts, by_test, all_at}
 use Rattle.laws.proofs.Parts.{part, part_all, scan_go, scan_no, scan_end, get_d_any}

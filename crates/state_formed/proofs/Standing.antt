@@ -1,14 +1,13 @@
 -- What the test of a pending message says, as propositions, and the test as the code makes it.
 -- Assumes nothing.
 use Prim.Native.Nat.{ℕ, ◌+◌, ◌-◌, ◌≤◌, ◌<◌}
-use mathlib.Core.Bool.{Bool, true, false, ◌&&◌}
-use mathlib.Core.List.{List, [], ◌∷◌}
-use mathlib.Core.Path.{◌≡◌, refl, ap, sym, ◌∙◌}
+use mathlib.Core.Bool.{true, false, ◌&&◌}
+use mathlib.Core.Path.{◌≡◌, ap}
 use native.Mathlib.Omega.{arith}
 use borrow.Author.Tests.{ltb-true, ltb-false, leb-true, lt-ltb, le-ltb, le-leb}
 use lib.Dec.{ltb, leb}
-use lib.ListN.{length, get_or, take, drop, get_or-eq_default}
-use Rattle.laws.specs.Lists.{every, within}
+use lib.ListN.{length, get_or-eq_default}
+use Rattle.laws.specs.Lists.{within}
 use Rattle.laws.proofs.Sums.{and_parts, by_test}
 use Rattle.laws.proofs.Parts.{every_at_lem, leb_less}
 use Rattle.rules.specs.declared.Set.{Set}

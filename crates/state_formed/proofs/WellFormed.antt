@@ -1,13 +1,13 @@
 -- What the test of a well formed state says, as propositions, and what its messages have.
 -- Assumes nothing.
 use Prim.Native.Nat.{ℕ, ◌+◌, ◌-◌, ◌≤◌, ◌<◌}
-use mathlib.Core.Bool.{Bool, true, false, false≢true}
+use mathlib.Core.Bool.{true, false, false≢true}
 use mathlib.Core.List.{List, [], ◌∷◌}
 use mathlib.Core.Path.{◌≡◌, refl, ap, sym, ◌∙◌}
 use native.Mathlib.Omega.{arith}
 use borrow.Author.Tests.{leb-true, le-leb, eqb-true}
 use lib.Dec.{eqb}
-use lib.ListN.{length, get_or, take, drop}
+use lib.ListN.{length, get_or, drop}
 use lib.Seq.{get_or-take, get_or-drop, length-take-le}
 use Rattle.laws.specs.Lists.{below, all, every}
 use Rattle.laws.proofs.Parts.{every_at_lem, all_any, scan_at, get_d_any}
@@ -22,9 +22,9 @@ use Rattle.rules.specs.declared.Party.TheVariants.{Ours, Theirs}
 use Rattle.rules.specs.Parties.{together, owner_unused, places_of}
 use Rattle.state_parties.specs.declared.Held.{Held}
 use Rattle.state_parties.specs.Shares.{held_in}
-use Rattle.rules.specs.States.{held_by, no_message, pending, stages_in, stage_of, task_of, posted_at, message_ok, messages_ok, started_once, message_unused, wait_ok, last_clock, state_tests, well_formed}
+use Rattle.rules.specs.States.{held_by, no_message, pending, stages_in, stage_of, task_of, posted_at, message_ok, messages_ok, started_once, message_unused, wait_ok, state_tests, well_formed}
 use Rattle.rules.specs.Steps.{message_at}
-use Rattle.rules.specs.Valid.{ValidStage, ValidStream, ValidSet}
+use Rattle.rules.specs.Valid.{ValidStage, ValidStream}
 use Rattle.rules.proofs.Valid.{valid_set}
 use Rattle.rules.proofs.Parties.{held_both}
 use Rattle.rules.specs.Doors.{waits_later}

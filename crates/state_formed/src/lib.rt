@@ -1,5 +1,6 @@
 // Is a state well formed? And the readers that the steps use.
 #![tactic(auto)]
+
 ghost use Rattle.std.specs.Prelude.{◌≡◌};
 ghost use Rattle.rules.specs.States.{no_message, message_unused, well_formed};
 ghost use Rattle.state_formed.specs.InRange.{failing, tested_of, whole_of};

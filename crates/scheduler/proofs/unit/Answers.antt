@@ -1,9 +1,5 @@
 use native.Mathlib.Omega.{arith}
-use Prim.Native.Nat.{◌-◌}
-use mathlib.Core.Path.{◌≡◌, refl, sym, ◌∙◌}
-use Rattle.laws.proofs.Parts.{sized}
-use Rattle.rules.specs.Doors.{waits_later}
-use Rattle.rules.specs.Steps.{served_of, unit_of}
+use mathlib.Core.Path.{refl, sym, ◌∙◌}
 use Rattle.state_choosing.proofs.Looking.{looked_found, looked_later}
 use Rattle.scheduler.proofs.Serving.{moving_go, moved_up, leaves, stays, unit_by_lem, serving, told, idles}
 use Rattle.scheduler.proofs.unit.Goals as goal

@@ -1,6 +1,4 @@
 use native.Mathlib.Omega.{arith}
-use Prim.Native.Nat.{◌-◌}
-use mathlib.Core.Logic.{⊎_elim}
 use Rattle.state_choosing.proofs.Passing.{first_start, first_new, first_old, second_start, second_fresh, second_other, serve_started, serve_best, message_in, stream_in_lem, stage_in_lem}
 use Rattle.state_choosing.proofs.served.Goals as goal
 use Rattle.state_choosing.proofs.served.Goals.{then-goes_first, else-goes_first, then-m-gt0+else-g-task, else-m-gt0}
@@ -53,8 +51,8 @@ loop-k-preserved c =
     let test = c.loop-k-test in
     let goes = c.goes_first in
     elim c.if-goes_first.branch [
-      then-goes_first w ↦ rw (w.best-is, w.deadline-is, w.task-is, w.cost-is, w.last-is) (first_new loop.invariant test.true goes.ensures w.if-goes_first.true)
-    | else-goes_first w ↦ rw (w.best-is, w.deadline-is, w.task-is, w.cost-is, w.last-is) (first_old loop.invariant test.true goes.ensures w.if-goes_first.false)
+      | then-goes_first w ↦ rw (w.best-is, w.deadline-is, w.task-is, w.cost-is, w.last-is) (first_new loop.invariant test.true goes.ensures w.if-goes_first.true)
+      | else-goes_first w ↦ rw (w.best-is, w.deadline-is, w.task-is, w.cost-is, w.last-is) (first_old loop.invariant test.true goes.ensures w.if-goes_first.false)
     ]
 
 pub loop-k-2-init : goal.loop-k-2-init
@@ -104,8 +102,8 @@ loop-k-2-preserved c =
     let loop = c.loop-k-2 in
     let test = c.loop-k-2-test in
     elim c.if-m-gt0.branch [
-      then-m-gt0+else-g-task w ↦ second_other loop.invariant test.true w.if-m-gt0.true w.if-g-task.false
-    | else-m-gt0 w ↦ second_fresh loop.invariant test.true w.if-m-gt0.false
+      | then-m-gt0+else-g-task w ↦ second_other loop.invariant test.true w.if-m-gt0.true w.if-g-task.false
+      | else-m-gt0 w ↦ second_fresh loop.invariant test.true w.if-m-gt0.false
     ]
 
 pub returns : goal.returns

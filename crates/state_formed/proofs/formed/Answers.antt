@@ -1,13 +1,11 @@
 use native.Mathlib.Omega.{arith}
-use borrow.Author.Tests.{lt-leb, not-true, not-false}
+use borrow.Author.Tests.{lt-leb}
 use mathlib.Core.Bool.{Bool, ◌&&◌}
-use mathlib.Core.Logic.{⊎_elim}
 use mathlib.Core.Path.{◌≡◌, refl, sym, ap, ◌∙◌}
-use Prim.Native.Nat.{ℕ, ◌-◌, ◌≤◌}
+use Prim.Native.Nat.{ℕ, ◌≤◌}
 use lib.ListN.{length, drop}
 use mathlib.Core.List.{List}
 use Rattle.laws.specs.Lists.{below, all}
-use Rattle.laws.proofs.Parts.{sized}
 use Rattle.laws.proofs.Fits.{and_go, and_end}
 use Rattle.laws.proofs.Arrays.{each_all}
 use Rattle.rules.specs.States.{no_message, pending, message_unused, wait_ok}
@@ -128,10 +126,10 @@ loop-k-preserved c =
     let loop = c.loop-k in
     let less = c.less-at in
     elim c.if-m-t.branch [
-      then-m-t+else-counts-t-gt0 w ↦ rw w.counts-is
-      (pass_go _ loop.k _ _ loop.invariant c.loop-k-test.true c.if-not-i-set.false less.result less.ensures c.if-not-ok.false w.if-m-t.true w.if-counts-t-gt0.false)
-    | else-m-t w ↦ rw w.counts-is
-      (pass_past _ loop.k _ _ loop.invariant c.loop-k-test.true c.if-not-i-set.false less.result less.ensures c.if-not-ok.false w.if-m-t.false)
+      | then-m-t+else-counts-t-gt0 w ↦ rw w.counts-is
+          (pass_go _ loop.k _ _ loop.invariant c.loop-k-test.true c.if-not-i-set.false less.result less.ensures c.if-not-ok.false w.if-m-t.true w.if-counts-t-gt0.false)
+      | else-m-t w ↦ rw w.counts-is
+          (pass_past _ loop.k _ _ loop.invariant c.loop-k-test.true c.if-not-i-set.false less.result less.ensures c.if-not-ok.false w.if-m-t.false)
     ]
 
 pub loop-k-2-init : goal.loop-k-2-init

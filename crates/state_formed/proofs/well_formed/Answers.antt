@@ -1,4 +1,3 @@
-use borrow.Author.Tests.{not-true, not-false}
 use mathlib.Core.Path.{sym, ◌∙◌}
 use Rattle.state_formed.proofs.WellFormed.{set_fails, rest_tells}
 use Rattle.state_formed.proofs.well_formed.Goals as goal
