@@ -1,5 +1,6 @@
 // Checks the set in set.bin.
 #![tactic(auto)]
+
 use std::io;
 
 fn main(rt: HostRuntime) -> io::Result<()> {

@@ -1,5 +1,6 @@
 // The console: every public function from the keyboard.
 #![tactic(auto)]
+
 use std::io;
 
 fn main(rt: HostRuntime) -> io::Result<()> {

@@ -3,7 +3,7 @@
 use Prim.Native.Nat.{ℕ, zero, suc, ◌+◌, ◌-◌, ◌≤◌, ◌<◌}
 use native.Mathlib.Omega.{arith}
 use native.Mathlib.Numerals.{add-one}
-use mathlib.Core.Path.{◌≡◌, refl, sym, ap, ◌∙◌}
+use mathlib.Core.Path.{◌≡◌, refl, sym, ◌∙◌}
 use mathlib.Core.Bool.{Bool, true, false, cond, ◌&&◌}
 use mathlib.Core.List.{List, [], ◌∷◌, ◌++◌, map}
 use mathlib.Core.Logic.{◌⊎◌, ⊎_elim}
@@ -17,7 +17,6 @@ use Rattle.console_names.specs.declared.Command.{Command}
 use Rattle.console_names.specs.declared.Command.TheVariants.{Unknown}
 use Rattle.console_names.specs.declared.Text.{Text}
 use Rattle.console_parse.specs.declared.Order.{Order}
-use Rattle.console_parse.specs.declared.Next.{Next}
 use Rattle.console_parse.specs.declared.Next.TheVariants.{Is as IsTo, Bad as BadNext}
 use Rattle.console_parse.specs.Bytes.{front, behind, is_number}
 use Rattle.console_parse.specs.Lines.{text_ok, text_start, order_at, numbers_ok, values_of, rest_of, asked}

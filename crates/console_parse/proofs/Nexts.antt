@@ -1,20 +1,18 @@
 -- What stands behind a word: a number behind its space, or a text behind its own.
 -- Assumes nothing.
-use Prim.Native.Nat.{ℕ, zero, suc, ◌+◌, ◌-◌, ◌≤◌, ◌<◌}
+use Prim.Native.Nat.{ℕ, ◌+◌, ◌-◌, ◌≤◌, ◌<◌}
 use native.Mathlib.Omega.{arith}
 use native.Mathlib.Numerals.{add-one}
-use mathlib.Core.Path.{◌≡◌, refl, sym, ap, ◌∙◌}
-use mathlib.Core.Bool.{Bool, true, false, cond, ◌&&◌}
-use mathlib.Core.List.{List, [], ◌∷◌}
+use mathlib.Core.Path.{◌≡◌, refl, sym, ◌∙◌}
+use mathlib.Core.Bool.{Bool, true, false, cond}
+use mathlib.Core.List.{List}
 use lib.ListN.{length, get_or, take, drop, drop_of_length-le, length-drop}
 use lib.Seq.{drop-cons, take_all}
-use lib.Dec.{eqb, ltb}
 use borrow.Author.Tests.{eq-eqb, ne_eqb, lt-ltb}
 use Rattle.console_names.specs.declared.Text.{Text}
 use Rattle.ascii.specs.Decimal.{read_on}
 use Rattle.console_parse.specs.declared.Got.{Got}
 use Rattle.console_parse.specs.declared.Got.TheVariants.{Is, Bad}
-use Rattle.console_parse.specs.declared.Next.{Next}
 use Rattle.console_parse.specs.declared.Next.TheVariants.{Is as IsTo, Bad as BadNext}
 use Rattle.console_parse.specs.Bytes.{front, is_number}
 use Rattle.console_parse.specs.Lines.{is_text, text_ok}

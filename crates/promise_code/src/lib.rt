@@ -1,5 +1,6 @@
 // Demand 3 of the code itself: a set is judged, started and run with the library's functions, and the contract carries the promise.
 #![tactic(auto)]
+
 ghost use Rattle.promise_code.specs.Promised.{Promised};
 ghost use Rattle.scheduler_run.specs.Calls.{calls_of};
 

@@ -3,13 +3,11 @@
 -- Assumes nothing.
 use Prim.Native.Nat.{ℕ, zero, suc, ◌+◌, ◌-◌, ◌/◌, ◌≤◌, ◌<◌}
 use mathlib.Core.Bool.{Bool, true, false, cond}
-use mathlib.Core.Path.{◌≡◌, refl, subst, ◌∙◌}
+use mathlib.Core.Path.{refl, subst, ◌∙◌}
 use native.Mathlib.Omega.{arith}
 use lib.Dec.{leb, le→leb}
-use lib.ListN.{length}
 use Rattle.laws.specs.Lists.{within, sum, count}
 use Rattle.laws.proofs.Gates.{cond_yes}
-use Rattle.rules.specs.declared.Stream.{Stream}
 use Rattle.rules.specs.declared.Verdict.TheVariants.{Accept}
 use Rattle.rules.specs.Streams.{Placed, FourPlaces, no_stream, stream_at, events, limit}
 use Rattle.rules.specs.Load.{VerdictOf}

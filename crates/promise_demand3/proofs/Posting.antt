@@ -1,8 +1,8 @@
 -- An accepted post is one of the deadline argument: a message with the next number goes last. Assumes nothing.
 use Prim.Native.Nat.{ℕ, ◌+◌, ◌<◌}
 use mathlib.Core.Bool.{true}
-use mathlib.Core.List.{List, [], ◌∷◌, ◌++◌}
-use mathlib.Core.Path.{◌≡◌, refl, sym, ap, subst, ◌∙◌}
+use mathlib.Core.List.{[], ◌∷◌, ◌++◌}
+use mathlib.Core.Path.{◌≡◌, refl, ap, subst, ◌∙◌}
 use native.Mathlib.Omega.{arith}
 use lib.ListN.{length, length-append}
 use Rattle.rules.specs.declared.Set.{Set}
@@ -10,7 +10,7 @@ use Rattle.rules.specs.declared.PostResult.{PostResult}
 use Rattle.rules.specs.Streams.{Placed, stream_at, valid}
 use Rattle.rules.specs.States.{pending}
 use Rattle.rules.specs.Steps.{new_message, added}
-use Rattle.rules.specs.Runs.{Run, accepted, departures, new_post, after_post}
+use Rattle.rules.specs.Runs.{Run, accepted, new_post, after_post}
 use Rattle.rules.proofs.Events.{accepted_more, departures_same}
 use Rattle.promise_deadlines.specs.Model.{New, post}
 use Rattle.promise_steps.specs.Formed.{Formed}

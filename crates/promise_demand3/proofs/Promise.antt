@@ -24,7 +24,7 @@ use Rattle.rules.specs.States.{no_message, pending}
 use Rattle.rules.specs.Steps.{place_of, laxity_of, unit_of}
 use Rattle.rules.specs.Load.{demand, VerdictIf, VerdictOf}
 use Rattle.rules.specs.declared.Call.{Call}
-use Rattle.rules.specs.Runs.{Accepted, Departure, Run, accepted, departures, step_of, Start, Starts, begin_for, run_from, run_for, KeepsLimits, KeepsOpenLimits, EachHasDoor, LeftInTime, AllLeave, Demand3, AcceptIsEnough, DoorKeeps, overdue, missed_now, missed_from}
+use Rattle.rules.specs.Runs.{Accepted, Departure, Run, accepted, departures, step_of, Start, Starts, begin_for, run_from, run_for, KeepsLimits, KeepsOpenLimits, EachHasDoor, AllLeave, Demand3, AcceptIsEnough, DoorKeeps, overdue, missed_now, missed_from}
 use Rattle.promise_deadlines.specs.Model.{Keeps, Fits, Left}
 use Rattle.promise_deadlines.specs.Machine.{Moment, outset, Reached, NoneDue, AllLeft, runs, Following}
 use Rattle.promise_deadlines.proofs.Identity.{once, named, gone}

@@ -13,7 +13,7 @@ use lib.Seq.{length-take-le}
 use Rattle.laws.proofs.Gates.{le_or_lt, Each, mem_here}
 use Rattle.rules.specs.declared.Set.{Set}
 use Rattle.rules.specs.declared.Message.{Message}
-use Rattle.rules.specs.Streams.{Placed, stream_at, valid}
+use Rattle.rules.specs.Streams.{Placed, valid}
 use Rattle.rules.specs.States.{no_message, pending, stages_in, cost_of}
 use Rattle.rules.specs.Steps.{never, place_of, turn_of, gained, passed_on, stayed, departed}
 use Rattle.rules.specs.Runs.{How, Departure, Run, accepted, departures, new_departure, after_leaving, after_moving, AtCost}

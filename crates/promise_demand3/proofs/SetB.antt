@@ -2,7 +2,6 @@
 -- comes to the same task; it runs on, which the blocking of task 0 covers, and the urgent one leaves at its very deadline.
 -- Assumes nothing.
 use Prim.Native.Nat.{ℕ, zero, suc}
-use mathlib.Core.Bool.{true}
 use mathlib.Core.Path.{◌≡◌, refl, subst, ◌∙◌}
 use native.Mathlib.Omega.{arith}
 use lib.ListN.{length}

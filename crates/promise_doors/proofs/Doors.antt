@@ -1,6 +1,6 @@
 -- The door in every run: 15 is given exactly when the post would break its stream's limit, and the accepted posts of a stream with a door keep it.
 -- Assumes nothing.
-use Prim.Native.Nat.{ℕ, ◌+◌, ◌≤◌, ◌<◌}
+use Prim.Native.Nat.{ℕ, ◌+◌, ◌<◌}
 use mathlib.Core.Bool.{Bool, true, false, false≢true}
 use mathlib.Core.List.{List, [], ◌∷◌, ◌++◌}
 use mathlib.Core.Logic.{⊎_elim, ◌≢◌, ◌↔◌}
@@ -11,7 +11,6 @@ use lib.Seq.{get_or-set_same, get_or-set_other}
 use Rattle.laws.proofs.Gates.{eq_or_ne}
 use Rattle.laws.proofs.Sums.{all_at, by_test}
 use Rattle.rules.specs.declared.Set.{Set}
-use Rattle.rules.specs.declared.State.{State}
 use Rattle.rules.specs.declared.Call.{Call}
 use Rattle.rules.specs.declared.Call.TheVariants.{Posts, Units}
 use Rattle.rules.specs.declared.Door.{Door}
@@ -21,11 +20,11 @@ use Rattle.rules.specs.declared.StartAnswer.TheVariants.{Started}
 use Rattle.rules.specs.declared.PostResult.{PostResult}
 use Rattle.rules.specs.declared.UnitResult.{UnitResult}
 use Rattle.rules.specs.Streams.{Placed, FourPlaces, no_stream, stream_at, limit, valid}
-use Rattle.rules.specs.Doors.{door_of, guarded, has_door, shut, wait_after, wait_later, waits_later}
+use Rattle.rules.specs.Doors.{door_of, guarded, has_door, shut, wait_after, waits_later}
 use Rattle.rules.specs.Parties.{owners_for}
 use borrow.Author.Tests.{le-leb}
 use Rattle.rules.specs.Steps.{fresh_for, start_for, post_of, unit_of, door_at, wait_at}
-use Rattle.rules.specs.Runs.{Accepted, Run, accepted, accepted_of, new_post, after_post, after_unit, step_of, Start, Starts, begin_for, run_from, run_for, KeepsLimit, Breaks, ComesEarly, DoorExact, DoorKeeps}
+use Rattle.rules.specs.Runs.{Accepted, Run, accepted, accepted_of, new_post, after_post, after_unit, step_of, Start, Starts, begin_for, run_from, run_for, KeepsLimit, ComesEarly, DoorExact, DoorKeeps}
 use Rattle.rules.proofs.Events.{accepted_more, accepted_same}
 use Rattle.rules.proofs.Valid.{valid_set}
 use Rattle.rules.proofs.Waits.{ValidDoor, later_at, door_valid}

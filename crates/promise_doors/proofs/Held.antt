@@ -7,10 +7,10 @@ use native.Mathlib.Omega.{arith}
 use mathlib.Core.Bool.{Bool, true, false, cond, ◌&&◌, false≢true}
 use mathlib.Core.List.{List, [], ◌∷◌, ◌++◌}
 use mathlib.Core.Logic.{◌⊎◌, inl, inr, ⊎_elim, ◌≢◌, ◌↔◌}
-use mathlib.Core.Path.{◌≡◌, refl, ap, sym, ◌∙◌}
-use borrow.Author.Tests.{le-leb, lt-leb, eq-eqb, ne_eqb, lt-ltb, ltb-true, ltb-false}
+use mathlib.Core.Path.{◌≡◌, refl, sym, ◌∙◌}
+use borrow.Author.Tests.{le-leb, lt-leb, eq-eqb, ne_eqb, ltb-true, ltb-false}
 use lib.Dec.{leb, eqb}
-use Rattle.laws.specs.Lists.{within, count}
+use Rattle.laws.specs.Lists.{count}
 use Rattle.laws.proofs.Gates.{le_or_lt, eq_or_ne, sum_last}
 use Rattle.laws.proofs.Parts.{count_none}
 use Rattle.laws.proofs.Sums.{by_test}

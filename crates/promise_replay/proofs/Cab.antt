@@ -1,30 +1,29 @@
 -- The replay of a recording gives the cab's answers, call by call, then end, and the cab's last state. Assumes nothing.
-use Prim.Native.Nat.{ℕ, zero, suc, ◌+◌, ◌-◌, ◌*◌, ◌/◌, ◌%◌, ◌≤◌, ◌<◌}
+use Prim.Native.Nat.{ℕ, suc, ◌+◌, ◌-◌, ◌*◌, ◌≤◌, ◌<◌}
 use native.Mathlib.Omega.{arith}
-use mathlib.Core.Bool.{Bool, true, false, cond, ◌&&◌, ◌||◌}
+use mathlib.Core.Bool.{true}
 use mathlib.Core.List.{List, [], ◌∷◌, ◌++◌, map, append_assoc}
 use mathlib.Core.Path.{◌≡◌, refl, ap, ap₂, sym, subst, ◌∙◌}
-use borrow.Author.Tests.{le-leb, lt-ltb, le-ltb, ltb-false, eq-eqb}
-use lib.Dec.{ltb, leb, eqb}
-use lib.ListN.{length, take, drop, length-append}
+use borrow.Author.Tests.{le-leb, lt-ltb, ltb-false, eq-eqb}
+use lib.Dec.{ltb}
+use lib.ListN.{length, drop, length-append}
 use lib.Seq.{drop_at}
 use Rattle.laws.specs.Lists.{all, flat}
 use Rattle.laws.specs.Bits.{to_bits, bits, zeros}
 use Rattle.laws.proofs.Sums.{and_parts, by_test}
 use Rattle.laws.proofs.Fields.{bits_length}
 use Rattle.rules.specs.declared.Call.{Call}
-use Rattle.rules.specs.declared.Mark.{Mark}
-use Rattle.rules.specs.declared.Mark.TheVariants.{Makes, Ends}
+use Rattle.rules.specs.declared.Mark.TheVariants.{Makes}
 use Rattle.rules.specs.declared.ReadAnswer.{ReadAnswer}
 use Rattle.rules.specs.declared.ReadAnswer.TheVariants.{Read, Refused}
 use Rattle.rules.specs.declared.State.{State}
 use Rattle.rules.specs.declared.ReadResult.{ReadResult}
 use Rattle.rules.specs.declared.ReplayResult.{ReplayResult}
 use Rattle.rules.specs.States.{well_formed}
-use Rattle.rules.specs.Steps.{start_for, call_of}
+use Rattle.rules.specs.Steps.{start_for}
 use Rattle.rules.specs.Sheet.{read_of}
-use Rattle.rules.specs.Numbers.{Says, ended, replay_says}
-use Rattle.rules.specs.Runs.{Run, Step, said_at, step_to, step_of, Start, Starts, Boxed, start_at, begin_for, run_from, run_for, steps_from, steps_for, answers_for}
+use Rattle.rules.specs.Numbers.{Says, replay_says}
+use Rattle.rules.specs.Runs.{Run, said_at, step_to, step_of, Start, Starts, Boxed, start_at, begin_for, run_from, run_for, steps_from, steps_for, answers_for}
 use Rattle.rules.specs.Recordings.{Place, call_bits, recordable, recording_of, place_in, bit_at, place_after, mark_of, replay_by, replay_step, begun_by, replay_start, first_place, place_of_result, replay_answers, replay_state, Stop, ends, refused, tape_of}
 use Rattle.rules.proofs.Events.{step_state}
 use Rattle.sheet_write.specs.Answers.{ReadPlaced}
@@ -32,7 +31,7 @@ use Rattle.sheet_write.proofs.Back.{read_back}
 use Rattle.sheet_write.proofs.Rounds.{read_placed}
 use Rattle.promise_steps.specs.Formed.{Formed, StartGives}
 use Rattle.promise_steps.proofs.Runs.{empty_formed, start_gives, step_keeps}
-use Rattle.promise_replay.specs.Replays.{cab_start, IsTheCabs, ReplayIsTheCabs, ReplayBegins, AllStepsStand, mark_by, stop_says, StepsAre, AnyRecording}
+use Rattle.promise_replay.specs.Replays.{cab_start, ReplayIsTheCabs, ReplayBegins, AllStepsStand, mark_by, stop_says, AnyRecording}
 use Rattle.promise_replay.proofs.Tapes.{all_steps_stand}
 use Rattle.promise_replay.proofs.Reading.{mark_call, mark_end, padding, padding_few, recording_bits}
 

@@ -2,12 +2,11 @@
 -- Assumes nothing.
 use Prim.Native.Nat.{ℕ, zero, suc}
 use native.Mathlib.Omega.{arith}
-use mathlib.Core.Bool.{Bool, true, false}
+use mathlib.Core.Bool.{true, false}
 use mathlib.Core.List.{List, [], ◌∷◌, ◌++◌, append_assoc, append-nil}
-use mathlib.Core.Path.{◌≡◌, refl, ap, ap₂, sym, subst, ◌∙◌}
+use mathlib.Core.Path.{◌≡◌, refl, ap, ap₂, sym, ◌∙◌}
 use lib.ListN.{length}
 use Rattle.laws.specs.Lists.{flat}
-use Rattle.laws.specs.Bits.{bits}
 use Rattle.rules.specs.declared.Call.{Call}
 use Rattle.rules.specs.declared.Mark.TheVariants.{Makes}
 use Rattle.rules.specs.declared.Set.{Set}
@@ -26,12 +25,9 @@ use Rattle.trace_steps.specs.Pieces.{bytes_of}
 use Rattle.trace_steps.specs.Turns.{verdict_line, was_read}
 use Rattle.trace_steps.specs.Trace.{behind_verdict}
 use Rattle.replay_lines.specs.declared.Replaying.{Replaying}
-use Rattle.replay_lines.specs.declared.ReplayTurn.{ReplayTurn}
-use Rattle.replay_lines.specs.Replaying.{Begun, replaying_from, behind_step, replaying_after, line_after, replaying_on, lines_on}
+use Rattle.replay_lines.specs.Replaying.{replaying_from, behind_step, replaying_after, line_after, replaying_on, lines_on}
 use Rattle.replay_lines.specs.Replay.{stop_line, replay_printed}
-use Rattle.replay_lines.specs.Printed.{PagesWritten, ReplayMade}
-use Rattle.replay_lines.proofs.Pages.{line_bytes, dead_stays, dead_lines, Stops, pages_stop, pages_some}
-use Rattle.promise_steps.specs.Formed.{Formed}
+use Rattle.replay_lines.proofs.Pages.{line_bytes, dead_stays, dead_lines, pages_stop, pages_some}
 use Rattle.promise_steps.proofs.Runs.{alone_gives}
 use Rattle.promise_replay.specs.Replays.{mark_by, Stopped, AllStepsStand}
 use Rattle.promise_replay.specs.Prints.{ReplayPrints, ReplayStops}

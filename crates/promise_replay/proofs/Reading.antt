@@ -1,24 +1,21 @@
 -- Calls as bits, and what the bits say: the calls, and the end. Assumes nothing.
-use Prim.Native.Nat.{ℕ, zero, suc, ◌+◌, ◌-◌, ◌*◌, ◌/◌, ◌%◌, ◌^◌, ◌≤◌, ◌<◌}
+use Prim.Native.Nat.{ℕ, zero, suc, ◌+◌, ◌-◌, ◌^◌, ◌<◌}
 use native.Mathlib.Omega.{arith}
-use mathlib.Core.Bool.{Bool, true, false, cond, ◌&&◌}
-use mathlib.Core.List.{List, [], ◌∷◌, ◌++◌, append_assoc}
-use mathlib.Core.Path.{◌≡◌, refl, ap, sym, ◌∙◌}
+use mathlib.Core.Bool.{true, false}
+use mathlib.Core.List.{List, ◌++◌, append_assoc}
+use mathlib.Core.Path.{◌≡◌, refl, ap, ◌∙◌}
 use borrow.Author.Tests.{ltb-true, le-leb, lt-ltb}
-use lib.Dec.{ltb, leb, eqb}
-use lib.ListN.{length, take, drop, length-append, length-replicate}
+use lib.ListN.{length, length-replicate}
 use Rattle.laws.specs.Lists.{all, flat}
-use Rattle.laws.specs.Bits.{to_bits, value, bits, zeros, pack}
-use Rattle.laws.proofs.Sums.{and_parts}
-use Rattle.laws.proofs.Fields.{AreBits, all_append, IsBit, to_bits_bits, to_bits_length, field_first, field_rest, field_fits}
+use Rattle.laws.specs.Bits.{to_bits, bits, zeros}
+use Rattle.laws.proofs.Fields.{all_append, IsBit, to_bits_bits, field_first, field_rest, field_fits}
 use Rattle.laws.proofs.Packing.{pad_of, pad_few, pack_bits}
 use Rattle.rules.specs.declared.Call.{Call}
 use Rattle.rules.specs.declared.Call.TheVariants.{Posts, Units}
-use Rattle.rules.specs.declared.Mark.{Mark}
 use Rattle.rules.specs.declared.Mark.TheVariants.{Makes, Ends}
 use Rattle.rules.specs.Sheet.{is_zero}
-use Rattle.record_call.proofs.Widths.{call_bits_lem, calls_bits}
-use Rattle.rules.specs.Recordings.{call_kind, stream_field, call_bits, recordable, recording_of, end_mark, post_mark, kind_mark, mark_of}
+use Rattle.record_call.proofs.Widths.{calls_bits}
+use Rattle.rules.specs.Recordings.{call_kind, stream_field, call_bits, recordable, recording_of, post_mark, kind_mark, mark_of}
 
 -- ---- a call's bits say the call
 

@@ -1,24 +1,22 @@
 -- The cab's recorder leaves the recording of the calls that it was given. Assumes nothing.
 use Prim.Native.Nat.{ℕ, ◌+◌, ◌*◌, ◌≤◌, ◌<◌}
 use native.Mathlib.Omega.{arith}
-use mathlib.Core.Bool.{Bool, true, ◌&&◌}
+use mathlib.Core.Bool.{true}
 use mathlib.Core.List.{List, [], ◌∷◌, ◌++◌}
 use mathlib.Core.Path.{◌≡◌, refl, ap, sym, subst, ◌∙◌}
 use borrow.Author.Tests.{le-leb}
 use lib.ListN.{length, length-append}
 use Rattle.laws.specs.Lists.{all, flat}
-use Rattle.laws.specs.Bits.{bytes_for}
 use Rattle.laws.proofs.Sums.{and_parts}
 use Rattle.laws.proofs.Fields.{AreBytes}
 use Rattle.rules.specs.declared.Call.{Call}
 use Rattle.rules.specs.declared.AppendAnswer.TheVariants.{Appended}
-use Rattle.rules.specs.declared.RecordAnswer.{RecordAnswer}
 use Rattle.rules.specs.Numbers.{record_says}
-use Rattle.rules.specs.Recordings.{Place, call_bits, recordable, recording_of, bit_at, place_after, first_place, fits, written, append_of, appended_to, finish_of, finished_to}
+use Rattle.rules.specs.Recordings.{Place, call_bits, recordable, bit_at, place_after, first_place, written, append_of, appended_to}
 use Rattle.record_call.proofs.Widths.{call_bits_lem, calls_bits, some_width}
 use Rattle.record_call.proofs.Written.{place_same, place_more, place_bit, place_there, written_none, written_more, written_bytes, written_length, appended_is}
 use Rattle.record_call.proofs.Finishing.{bytes_are, finishes, finished}
-use Rattle.promise_replay.specs.Recorder.{Appends, none, one_more, LeavesRecording, RecorderRecords}
+use Rattle.promise_replay.specs.Recorder.{Appends, none, one_more, RecorderRecords}
 
 -- a call with room is appended
 answers : (s : List ℕ) (p : Place) (c : Call) → p.bit < 8 → recordable c ≡ true → bit_at p + length (call_bits c) ≤ 8 * length s

@@ -1,12 +1,11 @@
 -- When a replay says 12, 13 and 14. Assumes nothing.
 use Prim.Native.Nat.{ℕ, zero, suc, ◌+◌, ◌-◌, ◌≤◌, ◌<◌}
 use native.Mathlib.Omega.{arith}
-use mathlib.Core.Bool.{Bool, true, false, cond, ◌&&◌, false≢true, true≢false}
+use mathlib.Core.Bool.{true, false, ◌&&◌, true≢false}
 use mathlib.Core.List.{List, ◌++◌}
-use mathlib.Core.Logic.{◌↔◌}
 use mathlib.Core.Path.{◌≡◌, refl, ap, sym, ◌∙◌}
 use borrow.Author.Tests.{leb-true, leb-false, le-leb, lt-leb}
-use lib.Dec.{ltb, leb, eqb}
+use lib.Dec.{ltb, leb}
 use lib.ListN.{length, take, drop, length-drop}
 use lib.Seq.{drop_at}
 use Rattle.laws.specs.Lists.{all, flat}
@@ -18,13 +17,13 @@ use Rattle.rules.specs.declared.Call.TheVariants.{Posts, Units}
 use Rattle.rules.specs.declared.Mark.{Mark}
 use Rattle.rules.specs.declared.Mark.TheVariants.{Makes, Ends, Refused}
 use Rattle.rules.specs.declared.Refusal.{Refusal}
-use Rattle.rules.specs.declared.Refusal.TheVariants.{IllFormed, StopsEarly, Trailing}
+use Rattle.rules.specs.declared.Refusal.TheVariants.{StopsEarly, Trailing}
 use Rattle.rules.specs.declared.State.{State}
 use Rattle.rules.specs.States.{well_formed}
 use Rattle.rules.specs.Steps.{call_of}
 use Rattle.rules.specs.Sheet.{is_zero}
-use Rattle.rules.specs.Numbers.{Says, number, call_says, replay_says, ended, refused}
-use Rattle.rules.specs.Recordings.{Place, bit_at, call_bits, place_in, recordable, end_mark, post_mark, kind_mark, mark_of, replay_by, replay_step, Stop, ends, refused as stopped, Tape, tape_of}
+use Rattle.rules.specs.Numbers.{number, call_says, replay_says, refused}
+use Rattle.rules.specs.Recordings.{Place, bit_at, call_bits, place_in, kind_mark, mark_of, replay_by, replay_step, refused as stopped, Tape, tape_of}
 use Rattle.promise_steps.specs.Refusals.{Twelve}
 use Rattle.promise_steps.proofs.Refusals.{NotOfRecordings, call_own, twelve}
 use Rattle.promise_replay.specs.Replays.{AllStepsStand, mark_by}

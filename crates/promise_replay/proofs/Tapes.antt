@@ -21,7 +21,7 @@ use Rattle.rules.specs.declared.Call.TheVariants.{Posts, Units}
 use Rattle.rules.specs.declared.Refusal.{Refusal}
 use Rattle.rules.specs.declared.Refusal.TheVariants.{StopsEarly, Trailing}
 use Rattle.rules.specs.Sheet.{is_zero}
-use Rattle.rules.specs.Recordings.{end_mark, post_mark, kind_mark, call_bits, call_kind, stream_field, recordable, recording_of, mark_of, Tape, Stop, ends, refused, behind, tape_by, tape_from, tape_of}
+use Rattle.rules.specs.Recordings.{end_mark, post_mark, kind_mark, call_bits, call_kind, stream_field, recordable, recording_of, mark_of, Stop, ends, refused, behind, tape_by, tape_from, tape_of}
 use Rattle.promise_replay.specs.Replays.{mark_by, TapeBack, RecordingBack, AllStepsStand}
 use Rattle.record_call.proofs.Widths.{calls_bits}
 use Rattle.promise_replay.proofs.Reading.{mark_call, mark_end, padding, padding_few, recording_bits}

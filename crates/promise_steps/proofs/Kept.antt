@@ -19,7 +19,7 @@ use Rattle.rules.specs.declared.UnitResult.{UnitResult}
 use Rattle.rules.specs.Streams.{Placed}
 use Rattle.rules.specs.States.{no_message, pending, party_of, held_by, stages_in, task_of, cost_of, message_unused, wait_ok, last_clock, Housed}
 use Rattle.rules.specs.Doors.{shut, waits_later}
-use Rattle.rules.specs.Steps.{door_at, wait_at, new_message, added, post_of, place_of, message_at, turn_of, ticked, gained, passed_on, stayed, departed, unit_of}
+use Rattle.rules.specs.Steps.{door_at, wait_at, new_message, added, post_of, place_of, turn_of, ticked, gained, passed_on, stayed, departed, unit_of}
 use Rattle.rules.proofs.Valid.{valid_set}
 use Rattle.rules.proofs.Waits.{later_length}
 use Rattle.rules.proofs.Parties.{same_is}

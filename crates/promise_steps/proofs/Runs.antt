@@ -1,5 +1,5 @@
 -- Every state that calls from a start can leave is well formed. Assumes nothing.
-use Prim.Native.Nat.{ℕ, zero, suc, ◌+◌, ◌≤◌}
+use Prim.Native.Nat.{ℕ, zero, suc, ◌≤◌}
 use mathlib.Core.Bool.{Bool, true}
 use mathlib.Core.List.{List, [], ◌∷◌}
 use mathlib.Core.Path.{◌≡◌, refl, sym, subst}
@@ -8,7 +8,6 @@ use lib.ListN.{drop, replicate}
 use Rattle.laws.specs.Lists.{All, all, sum, count, scan}
 use Rattle.laws.proofs.Sums.{by_test}
 use Rattle.rules.specs.declared.Set.{Set}
-use Rattle.rules.specs.declared.State.{State}
 use Rattle.rules.specs.Streams.{Placed, FourPlaces, no_stream, empty_set, stage_unused, tuple_unused, stream_unused, version_ok, valid}
 use Rattle.rules.specs.States.{messages_ok, started_once, message_unused, most_pending}
 use Rattle.rules.specs.Steps.{fresh, fresh_for, start_for, start_of, post_of, unit_of, call_of}

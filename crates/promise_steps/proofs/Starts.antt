@@ -1,16 +1,16 @@
 -- When a start is refused, by the paper's numbers, and that a refused one is the start of the empty set. Assumes nothing.
 use Prim.Native.Nat.{ℕ}
-use mathlib.Core.Bool.{Bool, true, false}
-use mathlib.Core.Path.{◌≡◌, refl, ap, sym, ◌∙◌}
+use mathlib.Core.Bool.{true, false}
+use mathlib.Core.Path.{◌≡◌, ap, sym, ◌∙◌}
 use native.Mathlib.Omega.{arith}
 use borrow.Author.Tests.{lt-leb, leb-false}
 use lib.Dec.{leb}
 use Rattle.laws.proofs.Sums.{by_test}
-use Rattle.rules.specs.Streams.{empty_set, valid}
+use Rattle.rules.specs.Streams.{valid}
 use Rattle.rules.specs.Parties.{together}
 use Rattle.rules.specs.States.{most_pending}
-use Rattle.rules.specs.Steps.{fresh, start_for}
-use Rattle.rules.specs.Numbers.{Says, refused, started}
+use Rattle.rules.specs.Steps.{start_for}
+use Rattle.rules.specs.Numbers.{refused, started}
 use Rattle.rules.specs.Runs.{Start}
 use Rattle.promise_steps.specs.Refusals.{says_to_start, Seven, Sixteen, TooManyPlaces, RefusedStart}
 use Rattle.promise_steps.proofs.Refusals.{no_of}

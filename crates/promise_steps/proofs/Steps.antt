@@ -1,25 +1,23 @@
 -- What document 01 says of the steps, as theorems: a started message is never put back, a place freed takes the next post, and the laxity.
 -- Assumes nothing.
 use Prim.Native.Nat.{ℕ, zero, suc, ◌+◌, ◌-◌, ◌≤◌, ◌<◌}
-use mathlib.Core.Bool.{Bool, true, false, cond, ◌&&◌}
-use mathlib.Core.Logic.{◌⊎◌, inl, inr, ⊎_elim}
-use mathlib.Core.List.{List, [], ◌∷◌, ◌++◌}
+use mathlib.Core.Bool.{Bool, true, false}
 use mathlib.Core.Path.{◌≡◌, refl, ap, sym, ◌∙◌}
 use native.Mathlib.Omega.{arith}
-use borrow.Author.Tests.{lt-ltb, le-ltb, ltb-true, ltb-false, eq-eqb, eqb-true, eqb-false}
-use lib.Dec.{ltb, leb, eqb}
-use lib.IntN.{ℤ, pos, negsuc, ◌-ℤ◌}
-use lib.ListN.{length, get_or, take, drop}
+use borrow.Author.Tests.{lt-ltb, le-ltb, ltb-true, ltb-false, eq-eqb}
+use lib.Dec.{ltb}
+use lib.IntN.{pos, negsuc}
+use lib.ListN.{length}
 use Rattle.laws.specs.Lists.{count}
 use Rattle.laws.proofs.Sums.{by_test}
 use Rattle.laws.proofs.Parts.{count_two}
 use Rattle.rules.specs.declared.State.{State}
 use Rattle.rules.specs.declared.PostAnswer.TheVariants.{Posted}
-use Rattle.rules.specs.States.{no_message, pending, party_of, held_by, task_of, started_of, well_formed}
+use Rattle.rules.specs.States.{no_message, pending, party_of, held_by, task_of, started_of}
 use Rattle.rules.specs.Doors.{shut}
 use Rattle.rules.specs.Steps.{door_at, wait_at, new_message, added, post_of, message_at, place_of, departed, laxity_of, unit_of}
 use Rattle.state_formed.proofs.WellFormed.{well_formed_lem, in_range, task_in}
-use Rattle.state_choosing.specs.Words.{at, Served}
+use Rattle.state_choosing.specs.Words.{at}
 use Rattle.state_choosing.proofs.Choice.{choice, place_in, all_pending, pending_at}
 use Rattle.promise_steps.proofs.Started.{once}
 use Rattle.promise_steps.specs.Formed.{Formed, UnitKeeps}

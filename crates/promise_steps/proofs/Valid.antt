@@ -1,5 +1,5 @@
 -- The streams of a valid set, by their numbers. Assumes nothing.
-use Prim.Native.Nat.{ℕ, ◌≤◌, ◌<◌}
+use Prim.Native.Nat.{ℕ, ◌<◌}
 use mathlib.Core.Bool.{true}
 use mathlib.Core.List.{Memᴰ}
 use mathlib.Core.Path.{◌≡◌, subst}

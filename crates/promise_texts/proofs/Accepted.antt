@@ -2,8 +2,8 @@
 -- Assumes nothing.
 use Prim.Native.Nat.{ℕ, zero, suc, ◌+◌, ◌-◌, ◌*◌, ◌≤◌, ◌<◌}
 use native.Mathlib.Omega.{arith}
-use mathlib.Core.Path.{◌≡◌, refl, sym, ap, ◌∙◌}
-use mathlib.Core.Bool.{Bool, true, false, cond, ◌&&◌}
+use mathlib.Core.Path.{◌≡◌, refl, ap, ◌∙◌}
+use mathlib.Core.Bool.{true, false, cond}
 use mathlib.Core.List.{List, [], ◌∷◌, ◌++◌, append-nil}
 use lib.ListN.{length, drop, length-append}
 use lib.Seq.{append_snoc}
@@ -21,8 +21,8 @@ use Rattle.rules.specs.declared.JitterAnswer.{JitterAnswer}
 use Rattle.rules.specs.declared.JitterAnswer.TheVariants.{Tuples, Refused as NoTuples}
 use Rattle.rules.specs.declared.Refusal.TheVariants.{OutOfRule}
 use Rattle.rules.specs.Streams.{offset, offset_at, jitter_ok, jitter_of}
-use Rattle.rules.specs.Sheet.{stream_of, set_of}
-use Rattle.rules.specs.Valid.{Between, ValidCycle, ValidPlace, ValidStage}
+use Rattle.rules.specs.Sheet.{stream_of}
+use Rattle.rules.specs.Valid.{Between, ValidCycle, ValidStage}
 use Rattle.sheet_carried.proofs.Filled.{cond_elim}
 use Rattle.sheet_carried.proofs.Streams.{Chain, GoodStream, set_ok, set_placed, stream_four, stream_ok_lem}
 use Rattle.ascii.specs.Decimal.{letters, read_on}
@@ -41,7 +41,7 @@ use Rattle.text_line.specs.declared.LineRead.{LineRead}
 use Rattle.text_line.specs.Lines.{digits, starts_at, ended_at, number_at, field_at, by_field, by_stage, by_tuple, every_at, tuple_at, is_stream, bad, added, finished, tuples_at, by_jitter, alone, jitter_said, each_way_at, jitter_at, limit_at, with_deadline, deadline_at, stages_end, space_at, cost_at, pair_at, staged, most_stages, too_many, stages_at, saying, version_text, line_read, longest}
 use Rattle.text_line.specs.Lines as lines
 use Rattle.text_tidy.specs.Tidied.{tidied}
-use Rattle.text_read.specs.declared.Finding.TheVariants.{Fine, Bad}
+use Rattle.text_read.specs.declared.Finding.TheVariants.{Fine}
 use Rattle.text_read.specs.declared.TextRead.{TextRead}
 use Rattle.text_read.specs.Texts.{first_line, more_lines, line_says, by_said, untold, following, is_bad, lines_read, text_read}
 use Rattle.promise_texts.specs.Returns.{Fit, ReadValid}

@@ -1,18 +1,18 @@
 -- A word and a number that stand in a line are read there.
 -- Assumes nothing.
-use Prim.Native.Nat.{ℕ, zero, suc, ◌+◌, ◌-◌, ◌*◌, ◌/◌, ◌%◌, ◌^◌, ◌≤◌, ◌<◌}
+use Prim.Native.Nat.{ℕ, zero, suc, ◌+◌, ◌-◌, ◌/◌, ◌%◌, ◌^◌, ◌≤◌, ◌<◌}
 use native.Mathlib.Omega.{arith}
 use mathlib.Core.Path.{◌≡◌, refl, sym, ap, ◌∙◌}
-use mathlib.Core.Bool.{Bool, true, false, cond, ◌&&◌}
+use mathlib.Core.Bool.{Bool, true, false, ◌&&◌}
 use mathlib.Core.List.{List, [], ◌∷◌, ◌++◌, append_assoc, append-nil}
 use lib.ListN.{length, take, drop, length-append}
 use lib.Seq.{take-append_seam, drop-append_seam}
-use lib.Dec.{leb, ltb, eqb}
-use borrow.Author.Tests.{le-leb, eq-eqb, ltb-true, ltb-false}
-use Rattle.laws.specs.Lists.{all, within}
+use lib.Dec.{leb, ltb}
+use borrow.Author.Tests.{le-leb, eq-eqb, ltb-true}
+use Rattle.laws.specs.Lists.{all}
 use Rattle.laws.proofs.Sums.{by_test, and_parts}
 use Rattle.laws.proofs.Gates.{all_last}
-use Rattle.ascii.specs.Decimal.{digits_of, decimal_of, read_on, is_digit}
+use Rattle.ascii.specs.Decimal.{digits_of, decimal_of, is_digit}
 use Rattle.ascii.proofs.Digits.{digits_back}
 use Rattle.ascii.specs.Same.{same}
 use Rattle.text_line.specs.declared.NumberRead.TheVariants.{Is, Missing}

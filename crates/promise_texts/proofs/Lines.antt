@@ -1,13 +1,13 @@
 -- A valid stream's own line says that stream.
 -- Assumes nothing.
-use Prim.Native.Nat.{ℕ, zero, suc, ◌+◌, ◌-◌, ◌≤◌, ◌<◌, ◌^◌}
+use Prim.Native.Nat.{ℕ, zero, suc, ◌+◌, ◌-◌, ◌≤◌, ◌<◌}
 use native.Mathlib.Omega.{arith}
 use mathlib.Core.Path.{◌≡◌, refl, sym, ap, ap₂, ◌∙◌}
-use mathlib.Core.Bool.{Bool, true, false, cond}
+use mathlib.Core.Bool.{true, false}
 use mathlib.Core.List.{List, [], ◌∷◌, ◌++◌, append_assoc, append-nil}
 use lib.ListN.{length, take, set, replicate, length-append, length-take}
 use lib.Seq.{set-append_seam, append_snoc}
-use lib.Dec.{leb, ltb, eqb}
+use lib.Dec.{leb, eqb}
 use borrow.Author.Tests.{le-leb, lt-leb, lt-ltb, ne_eqb, leb-true}
 use Rattle.laws.specs.Lists.{All, flat, scan}
 use Rattle.laws.proofs.Sums.{by_test, and_parts}
@@ -16,17 +16,16 @@ use Rattle.rules.specs.declared.Tuple.TheVariants.{Once, Every}
 use Rattle.rules.specs.declared.TuplePlace.{TuplePlace}
 use Rattle.rules.specs.declared.Stage.{Stage}
 use Rattle.rules.specs.declared.Stream.{Stream}
-use Rattle.rules.specs.Streams.{no_stage, no_tuple, no_stream, offset, offset_at, stages_of, tuples_of, tuple_ok, tuples_ok}
+use Rattle.rules.specs.Streams.{no_stage, no_tuple, offset, offset_at, stages_of, tuples_of, tuple_ok, tuples_ok}
 use Rattle.rules.specs.Sheet.{stream_of}
 use Rattle.rules.specs.Valid.{Between, ValidCycle, ValidPlace, ValidStage, ValidStream, FirstZero}
 use Rattle.rules.proofs.Valid.{valid_place, valid_stream}
 use Rattle.sheet_carried.proofs.Whole.{stream_holds, whole_stream}
 use Rattle.ascii.specs.Decimal.{letters, decimal_of}
 use Rattle.ascii.specs.Same.{same}
-use Rattle.text_line.specs.declared.LineRead.{LineRead}
-use Rattle.text_line.specs.declared.StageRead.TheVariants.{Is as IsStage, Missing as NoStage}
+use Rattle.text_line.specs.declared.StageRead.TheVariants.{Is as IsStage}
 use Rattle.text_line.specs.declared.TupleRead.TheVariants.{Is as IsTuple}
-use Rattle.text_line.specs.Lines.{lead, digits, stage_text, tuple_text, place_text, stages_text, limit_text, stream_text, version_text, by_field, by_stage, by_tuple, space_at, cost_at, pair_at, staged, most_stages, stages_end, stages_at, every_at, tuple_at, tuples_at, added, limit_at, deadline_at, line_read, is_stream}
+use Rattle.text_line.specs.Lines.{lead, digits, stage_text, tuple_text, place_text, stages_text, limit_text, version_text, by_field, by_stage, by_tuple, space_at, cost_at, pair_at, staged, most_stages, stages_at, every_at, tuple_at, tuples_at, added, limit_at, deadline_at, line_read, is_stream}
 use Rattle.text_line.specs.Lines as lines
 use Rattle.promise_texts.specs.Returns.{LineReturns}
 use Rattle.promise_texts.proofs.Fields.{starts, field_here, starts_not, field_not}

@@ -1,14 +1,14 @@
 -- A stream's own line, and the line for the version, are tidy and hold no newline.
 -- Assumes nothing.
-use Prim.Native.Nat.{ℕ, zero, suc, ◌+◌, ◌≤◌, ◌<◌}
+use Prim.Native.Nat.{ℕ, ◌+◌, ◌≤◌}
 use native.Mathlib.Omega.{arith}
 use mathlib.Core.Path.{◌≡◌, refl, sym, ap, ◌∙◌}
 use mathlib.Core.Bool.{Bool, true, false, cond, ◌&&◌, not, false≢true}
 use mathlib.Core.List.{List, [], ◌∷◌, ◌++◌, append_assoc}
 use lib.ListN.{length}
 use lib.Dec.{leb, eqb}
-use borrow.Author.Tests.{leb-true, le-leb, lt-leb, eqb-true, ne_eqb, not-true}
-use Rattle.laws.specs.Lists.{all, flat, within}
+use borrow.Author.Tests.{leb-true, le-leb, eqb-true, ne_eqb, not-true}
+use Rattle.laws.specs.Lists.{all, flat}
 use Rattle.laws.proofs.Sums.{by_test, and_parts}
 use Rattle.rules.specs.declared.Tuple.{Tuple}
 use Rattle.rules.specs.declared.Tuple.TheVariants.{Once, Every}

@@ -1,14 +1,14 @@
 -- A valid set's own text reads as that set; with a sheet between, text and sheet stay the same.
 -- Assumes nothing.
-use Prim.Native.Nat.{ℕ, zero, suc, ◌+◌, ◌-◌, ◌≤◌, ◌<◌}
+use Prim.Native.Nat.{ℕ, ◌+◌, ◌-◌, ◌≤◌}
 use native.Mathlib.Omega.{arith}
 use mathlib.Core.Path.{◌≡◌, refl, sym, ap, ◌∙◌}
-use mathlib.Core.Bool.{true, false, cond}
+use mathlib.Core.Bool.{true}
 use mathlib.Core.Logic.{◌⊎◌, inl, inr, ⊎_elim}
 use mathlib.Core.List.{List, [], ◌∷◌, ◌++◌, append-nil}
-use lib.ListN.{length, take, length-append, length-take}
+use lib.ListN.{length, length-append}
 use lib.Seq.{append_snoc}
-use lib.Dec.{ltb, leb, eqb}
+use lib.Dec.{leb, eqb}
 use borrow.Author.Tests.{lt-ltb, le-leb, eqb-true, eqb-false}
 use Rattle.laws.specs.Lists.{All, all, flat}
 use Rattle.laws.proofs.Sums.{by_test, and_parts}
@@ -17,10 +17,9 @@ use Rattle.rules.specs.declared.Stream.{Stream}
 use Rattle.rules.specs.declared.Set.{Set}
 use Rattle.rules.specs.declared.ReadResult.{ReadResult}
 use Rattle.rules.specs.declared.ReadAnswer.{ReadAnswer}
-use Rattle.rules.specs.declared.ReadAnswer.TheVariants.{Read}
 use Rattle.rules.specs.Streams.{FourPlaces, Placed, streams_of, stream_ok, valid}
 use Rattle.rules.specs.Sheet.{set_of, sheet_of, read_of}
-use Rattle.rules.specs.Valid.{ValidSet, ValidStream}
+use Rattle.rules.specs.Valid.{ValidSet}
 use Rattle.rules.proofs.Valid.{valid_stream, valid_set, streams_few}
 use Rattle.sheet_carried.proofs.Whole.{Staged, set_holds, whole_set, version_within, set_staged}
 use Rattle.sheet_write.proofs.Back.{read_back}

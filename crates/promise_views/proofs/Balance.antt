@@ -1,8 +1,8 @@
 -- The accepted messages of a kind of streams are those that left and those that are pending. Assumes nothing.
 use Prim.Native.Nat.{ℕ, ◌+◌, ◌≤◌, ◌<◌}
-use mathlib.Core.Bool.{Bool, cond}
+use mathlib.Core.Bool.{Bool}
 use mathlib.Core.List.{List, [], ◌∷◌, ◌++◌}
-use mathlib.Core.Path.{◌≡◌, refl, ap, sym, ◌∙◌}
+use mathlib.Core.Path.{◌≡◌, refl, ap}
 use native.Mathlib.Omega.{arith}
 use Rattle.laws.specs.Lists.{sum, count}
 use Rattle.laws.proofs.Gates.{sum_last}
@@ -16,9 +16,9 @@ use Rattle.rules.specs.declared.UnitResult.{UnitResult}
 use Rattle.rules.specs.Streams.{valid}
 use lib.Dec.{leb}
 use Rattle.rules.specs.Parties.{together}
-use Rattle.rules.specs.States.{pending, party_of, most_pending}
+use Rattle.rules.specs.States.{party_of, most_pending}
 use Rattle.rules.specs.Steps.{start_for, post_of, unit_of, call_of, place_of, message_at, stayed, departed}
-use Rattle.rules.specs.Runs.{Accepted, Departure, leaves, Run, accepted_of, departures_of, accepted, departures, new_post, new_departure, after_post, after_unit, step_of, Start, Boxed, begin_for, run_from, run_for}
+use Rattle.rules.specs.Runs.{Accepted, Departure, leaves, Run, accepted_of, departures_of, accepted, departures, new_post, after_post, after_unit, step_of, Start, Boxed, begin_for, run_from, run_for}
 use Rattle.rules.proofs.Events.{accepted_more, accepted_same, departures_more, departures_same, step_state}
 use Rattle.state_formed.proofs.WellFormed.{well_formed_lem, place_room}
 use Rattle.state_choosing.proofs.Choice.{place_in}

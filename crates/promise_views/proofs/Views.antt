@@ -30,7 +30,7 @@ use borrow.Author.Tests.{le-leb}
 use Rattle.rules.specs.Doors.{shut}
 use Rattle.rules.specs.Steps.{door_at, wait_at, new_message, fresh_for, start_for, post_of, unit_of, place_of, message_at, stayed, departed}
 use Rattle.rules.specs.Numbers.{Says, refused, posted, post_says}
-use Rattle.rules.specs.Runs.{Accepted, leaves, Run, accepted_of, accepted, in_window, new_post, ComesEarly, DoorExact, after_post, after_unit, step_of, Start, Starts, begin_for, run_from, run_for}
+use Rattle.rules.specs.Runs.{Accepted, Run, accepted_of, accepted, in_window, new_post, ComesEarly, DoorExact, after_post, after_unit, step_of, Start, Starts, begin_for, run_from, run_for}
 use Rattle.rules.proofs.Events.{accepted_more, accepted_same}
 use Rattle.state_formed.proofs.WellFormed.{well_formed_lem, place_room}
 use Rattle.promise_steps.specs.Formed.{Formed, RunKeeps, TimeIsClock}
@@ -39,10 +39,10 @@ use Rattle.promise_steps.proofs.Cases.{PostCase, refuses, accepts, post_case, Se
 use Rattle.promise_steps.proofs.Refusals.{one, two, fifteen, post_accepted}
 use Rattle.promise_steps.proofs.Runs.{run_keeps, time_is_clock}
 use Rattle.promise_doors.proofs.Doors.{door_exact}
-use Rattle.promise_views.specs.Views.{Kind, Sight, asks, loses, loss_of, sight_of, view_from, view_of, reply_of, replies_from, replies_of, owned_by, Isolated}
+use Rattle.promise_views.specs.Views.{Kind, Sight, loses, loss_of, sight_of, view_from, view_of, reply_of, replies_from, replies_of, owned_by, Isolated}
 use Rattle.promise_steps.proofs.Pending.{one as one_of, held, held_added, held_stayed, held_departed}
 use Rattle.promise_views.proofs.Balance.{place_low}
-use Rattle.promise_views.proofs.Ledger.{Known, known, known_in, Ledger, empty, noted, lost, TooSoon, Tells, unknown, early, full, taken, Reply, Told, told_same}
+use Rattle.promise_views.proofs.Ledger.{Known, known, known_in, Ledger, empty, noted, lost, TooSoon, Tells, unknown, early, full, taken, Told, told_same}
 
 module _ (z : Start) (starts : Starts z) (p : Party) where
   abbrev mine : Kind

@@ -1,5 +1,6 @@
 // Replays the recording from standard input on the set in set.bin.
 #![tactic(auto)]
+
 use std::io;
 
 fn main(rt: HostRuntime) -> io::Result<()> {

@@ -1,6 +1,6 @@
 -- How a replay begins: the trace program's first line, and the replay at the start of the set.
 -- Assumes nothing.
-use mathlib.Core.Path.{◌≡◌, ap}
+use mathlib.Core.Path.{ap}
 use Rattle.rules.specs.declared.ReadResult.{ReadResult}
 use Rattle.trace_steps.specs.declared.Tracing.{Tracing}
 use Rattle.trace_steps.specs.declared.Turn.{Turn}

@@ -2,8 +2,8 @@
 -- before it, and with a padding bit set; a sheet that is refused; and a message that passes on to its next stage.
 -- Assumes nothing.
 use Prim.Native.Nat.{ℕ}
-use mathlib.Core.List.{List, [], ◌∷◌}
-use mathlib.Core.Path.{◌≡◌, refl}
+use mathlib.Core.List.{[], ◌∷◌}
+use mathlib.Core.Path.{refl}
 use Rattle.rules.specs.declared.Refusal.TheVariants.{BitsMissing}
 use Rattle.rules.specs.declared.Verdict.TheVariants.{Accept, Refused}
 use Rattle.rules.specs.Load.{last_length, greatest_deadline, stream_offset, greatest_offset}

@@ -1,6 +1,6 @@
 -- A step's turn, and the turns that fill a page.
 -- Assumes nothing.
-use Prim.Native.Nat.{ℕ, zero, suc, ◌+◌, ◌-◌, ◌*◌, ◌/◌, ◌≤◌, ◌<◌}
+use Prim.Native.Nat.{ℕ, suc, ◌+◌, ◌-◌, ◌*◌, ◌≤◌, ◌<◌}
 use native.Mathlib.Omega.{arith}
 use mathlib.Core.Path.{◌≡◌, refl, sym, ap, ap₂, ◌∙◌}
 use mathlib.Core.Bool.{Bool, true, false, cond}
@@ -19,7 +19,7 @@ use Rattle.page.specs.Pages.{appended, end_of}
 use Rattle.page.proofs.Rooms.{end_at, holds_then, same_size, rest_stays}
 use Rattle.replay_lines.specs.declared.Replaying.{Replaying}
 use Rattle.replay_lines.specs.declared.ReplayTurn.{ReplayTurn}
-use Rattle.replay_lines.specs.Replaying.{step_of_replay, goes_on, behind_step, next_replaying, next_line, replaying_after, line_after, replaying_on, lines_on, lines_fit, PageFilled}
+use Rattle.replay_lines.specs.Replaying.{step_of_replay, goes_on, next_replaying, next_line, replaying_after, line_after, replaying_on, lines_on, lines_fit, PageFilled}
 
 -- a step, from its answer and its line
 pub step_turn : (recording : List ℕ) (r : Replaying) (q : ReplayResult) (l : Line) (live : Bool) → q ≡ step_of_replay recording r

@@ -1,5 +1,6 @@
 // The replay program: the steps of a recording, and all that is printed.
 #![tactic(auto)]
+
 ghost use Rattle.std.specs.Prelude.{◌≡◌, ◌++◌};
 ghost use Rattle.line.specs.Line.{holding};
 ghost use Rattle.replay_lines.specs.Replaying.{Begun, goes_on, next_replaying, next_line, replaying_after, line_after, PageFilled};

@@ -1,5 +1,6 @@
 // The office reader: a lent recording together with the place in it. The work of a step stands in `replay_step`.
 #![tactic(auto)]
+
 ghost use Rattle.std.specs.Prelude.{◌≡◌};
 ghost use Rattle.replay_reader.specs.Readers.{at_start, next_of};
 

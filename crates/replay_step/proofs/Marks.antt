@@ -1,27 +1,26 @@
 -- What taking fields at a place of a recording tells of the bits there: a law for each way out.
 -- Assumes nothing.
-use Prim.Native.Nat.{ℕ, zero, suc, ◌+◌, ◌-◌, ◌*◌, ◌/◌, ◌%◌, ◌^◌, ◌≤◌, ◌<◌, min}
-use mathlib.Core.Bool.{Bool, true, false, cond, not, ◌&&◌, ◌||◌, false≢true}
-use mathlib.Core.List.{List, [], ◌∷◌, ◌++◌}
-use mathlib.Core.Path.{◌≡◌, refl, ap, ap₂, sym, ◌∙◌}
+use Prim.Native.Nat.{ℕ, zero, suc, ◌+◌, ◌-◌, ◌*◌, ◌/◌, ◌%◌, ◌≤◌, ◌<◌, min}
+use mathlib.Core.Bool.{Bool, true, false, ◌&&◌}
+use mathlib.Core.List.{List, [], ◌∷◌}
+use mathlib.Core.Path.{◌≡◌, refl, ap, sym, ◌∙◌}
 use native.Mathlib.Omega.{arith}
-use borrow.Author.Tests.{leb-true, leb-false, le-leb, lt-leb, lt-ltb, le-ltb, ltb-true, ltb-false, eq-eqb, ne_eqb, eqb-true, eqb-false}
-use lib.ListN.{length, take, drop, length-drop, length-append}
+use borrow.Author.Tests.{leb-true, leb-false, le-leb, lt-leb, lt-ltb, le-ltb, ltb-true, ltb-false, eq-eqb, ne_eqb}
+use lib.ListN.{length, take, drop, length-drop}
 use lib.Seq.{take_all, drop-drop}
 use lib.Dec.{ltb, leb, eqb}
 use Rattle.laws.specs.Lists.{all}
-use Rattle.laws.specs.Bits.{to_bits, onto, value, bits}
+use Rattle.laws.specs.Bits.{onto, value, bits}
 use Rattle.laws.proofs.Sums.{by_test, and_parts}
-use Rattle.laws.proofs.Fields.{bits_length, to_bits_length}
+use Rattle.laws.proofs.Fields.{bits_length}
 use Rattle.rules.specs.declared.State.{State}
 use Rattle.rules.specs.declared.Call.{Call}
 use Rattle.rules.specs.declared.Call.TheVariants.{Posts, Units}
 use Rattle.rules.specs.declared.CallResult.{CallResult}
 use Rattle.rules.specs.declared.Mark.{Mark}
 use Rattle.rules.specs.declared.Mark.TheVariants.{Makes, Ends, Refused}
-use Rattle.rules.specs.declared.Refusal.{Refusal}
 use Rattle.rules.specs.declared.Refusal.TheVariants.{StopsEarly, Trailing, IllFormed}
-use Rattle.rules.specs.declared.ReplayAnswer.TheVariants.{Called, Ended, Refused as NoStep}
+use Rattle.rules.specs.declared.ReplayAnswer.TheVariants.{Called, Refused as NoStep}
 use Rattle.rules.specs.declared.ReplayResult.{ReplayResult}
 use Rattle.rules.specs.declared.ReplayStart.{ReplayStart}
 use Rattle.rules.specs.declared.Owner.{Owner}
@@ -33,11 +32,11 @@ use Rattle.rules.specs.declared.StartResult.{StartResult}
 use Rattle.rules.specs.Sheet.{is_zero, read_of}
 use Rattle.rules.specs.States.{well_formed}
 use Rattle.rules.specs.Steps.{fresh, start_of, start_for, call_of}
-use Rattle.rules.specs.Recordings.{Place, call_bits, place_in, bit_at, place_after, end_mark, post_mark, kind_mark, mark_of, replay_by, replay_step, replay_start, begun_by}
+use Rattle.rules.specs.Recordings.{call_bits, place_in, place_after, end_mark, post_mark, kind_mark, mark_of, replay_by, replay_step, replay_start, begun_by}
 use Rattle.bits.specs.declared.Gathered.{Gathered}
 use Rattle.bits.specs.declared.Taken.{Taken}
 use Rattle.bits.specs.declared.Taken.TheVariants.{Field, Missing, TooWide}
-use Rattle.bits.specs.Places.{field_at, gather_of, got_of, take_of}
+use Rattle.bits.specs.Places.{field_at, gather_of, take_of}
 use Rattle.record_call.specs.Places.{place}
 use Rattle.record_call.proofs.Widths.{Inside, inside}
 use Rattle.replay_step.specs.Steps.{Behind}

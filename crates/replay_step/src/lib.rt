@@ -1,5 +1,6 @@
 // A step of a replay: what the bits at a place of a recording say, and the call that they make.
 #![tactic(auto)]
+
 ghost use Rattle.std.specs.Prelude.{◌≡◌, ◌++◌, ◌+◌, ◌≤◌, ◌<◌, ◌^◌, length, drop};
 ghost use Rattle.laws.specs.Bits.{bits};
 ghost use Rattle.rules.specs.Recordings.{Place, bit_at, place_after, end_mark, post_mark, kind_mark, mark_of, replay_step, begun_as, begun_by, replay_start};

@@ -1,5 +1,6 @@
 // The trace program on a sheet with a byte too many.
 #![tactic(auto)]
+
 use std::io;
 
 fn main(rt: HostRuntime) -> io::Result<()> {

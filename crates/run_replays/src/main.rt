@@ -1,5 +1,6 @@
 // Replays the stored cases: sheets and recordings, whose expected output the second program wrote.
 #![tactic(auto)]
+
 use case_io::Kind;
 use std::io;
 

@@ -1,10 +1,10 @@
 -- A call more behind a run's calls, and what its moments tell.
 -- Assumes nothing.
-use Prim.Native.Nat.{ℕ, suc, ◌+◌, ◌≤◌, ◌<◌}
+use Prim.Native.Nat.{ℕ, ◌+◌, ◌≤◌, ◌<◌}
 use native.Mathlib.Numerals.{add-one}
 use native.Mathlib.Omega.{arith}
-use mathlib.Core.Bool.{Bool, true, false, cond, not, ◌||◌}
-use mathlib.Core.List.{List, [], ◌∷◌, ◌++◌, map}
+use mathlib.Core.Bool.{Bool, true, false, not, ◌||◌}
+use mathlib.Core.List.{List, [], ◌∷◌, ◌++◌}
 use mathlib.Core.Path.{◌≡◌, refl, ap, ap₂, sym, ◌∙◌}
 use borrow.Author.Tests.{ltb-true, ltb-false, le-leb, lt-leb, lt-ltb, le-ltb}
 use lib.Dec.{ltb, leb, eqb}
@@ -13,15 +13,13 @@ use lib.Seq.{take-suc, take_all}
 use Rattle.laws.specs.Lists.{any}
 use Rattle.laws.proofs.Sums.{by_test, any_take}
 use Rattle.rules.specs.declared.State.{State}
-use Rattle.rules.specs.declared.Message.{Message}
 use Rattle.rules.specs.declared.Call.{Call}
-use Rattle.rules.specs.declared.Call.TheVariants.{Posts, Units}
 use Rattle.rules.specs.declared.Set.{Set}
 use Rattle.rules.specs.declared.StartResult.{StartResult}
 use Rattle.rules.specs.declared.PostResult.{PostResult}
 use Rattle.rules.specs.declared.UnitResult.{UnitResult}
-use Rattle.rules.specs.States.{no_message, pending}
-use Rattle.rules.specs.Steps.{sooner, start_of, post_of, unit_of, call_of}
+use Rattle.rules.specs.States.{no_message}
+use Rattle.rules.specs.Steps.{start_of, post_of, unit_of, call_of}
 use Rattle.rules.specs.Runs.{Run, step_of, start_at, begin, run_from, run_of, overdue, missed_now, missed_from, missed_in}
 use Rattle.rules.proofs.Events.{step_state}
 use Rattle.scheduler_run.specs.Calls.{call_byte, calls_of, EndOf}

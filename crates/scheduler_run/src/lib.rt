@@ -1,5 +1,6 @@
 // A run of the scheduler from a fresh start: calls from a lent slice, one byte each.
 #![tactic(auto)]
+
 ghost use Rattle.std.specs.Prelude.{◌≡◌};
 ghost use Rattle.rules.specs.Steps.{call_of};
 ghost use Rattle.rules.specs.Runs.{start_at, run_from, run_of, missed_now};

@@ -35,7 +35,7 @@ use Rattle.sheet_carried.proofs.Keeps.{goes_pad, padding_most, padding_stages, p
 use Rattle.sheet_carried.proofs.Reached.{padded, set_padded, snoc_length, vals}
 use Rattle.sheet_carried.proofs.Streamed.{Either, Fine, one_more}
 use Rattle.sheet_carried.proofs.Sound as sound
-use Rattle.sheet_carried.proofs.Sound.{Said, Streams, dated_is, deep_none, held_between, held_high, held_zero, none_of, outside, padding_room}
+use Rattle.sheet_carried.proofs.Sound.{Said, Streams, dated_is, deep_none, held_high, held_zero, none_of, outside, padding_room}
 
 -- ---- values
 

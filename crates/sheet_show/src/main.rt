@@ -1,5 +1,6 @@
 // Prints the file set.bin as a readable text.
 #![tactic(auto)]
+
 use std::io;
 
 fn main(rt: HostRuntime) -> io::Result<()> {

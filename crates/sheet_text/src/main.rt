@@ -1,5 +1,6 @@
 // Makes the file set.bin of a readable text from standard input.
 #![tactic(auto)]
+
 use std::io;
 
 fn main(rt: HostRuntime) -> io::Result<()> {

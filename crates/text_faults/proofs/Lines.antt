@@ -2,8 +2,7 @@
 -- Assumes nothing.
 use Prim.Native.Nat.{ℕ, ◌+◌, ◌≤◌}
 use native.Mathlib.Omega.{arith}
-use mathlib.Core.Path.{◌≡◌, refl, sym, ap, ◌∙◌}
-use mathlib.Core.Bool.{true, false, cond}
+use mathlib.Core.Path.{◌≡◌, ap, ◌∙◌}
 use mathlib.Core.List.{List, [], ◌∷◌, ◌++◌}
 use lib.ListN.{length, length-append}
 use lib.Dec.{eqb}
@@ -13,7 +12,7 @@ use Rattle.line.specs.declared.Line.{Line}
 use Rattle.ascii.specs.Decimal.{letters, decimal_of, spaced}
 use Rattle.line.specs.Line.{holding, put_of, puts}
 use Rattle.ascii.proofs.Digits.{digits_short}
-use Rattle.line.proofs.Puts.{then, last, single, holds}
+use Rattle.line.proofs.Puts.{then, last, holds}
 use Rattle.text_line.specs.declared.Fault.{Fault}
 use Rattle.text_line.specs.declared.Fault.TheVariants.{NotTask, Task, NotCost, Cost, TwoStages, FiveStages, NotDeadline, Deadline, NotTuple, Cycle, Offset, FiveTuples, NotJitter, Jitter, LongLine, LateVersion, ManyStreams}
 use Rattle.text_faults.specs.Notes.{fault_words, fault_line, plural, made_line}

@@ -3,12 +3,12 @@
 use Prim.Native.Nat.{ℕ, zero, suc, ◌+◌, ◌-◌, ◌*◌, ◌/◌, ◌%◌, ◌^◌, ◌≤◌, ◌<◌}
 use native.Mathlib.Omega.{arith}
 use native.Mathlib.Nat.{pow-suc}
-use mathlib.Core.Path.{◌≡◌, refl, sym, ap, ◌∙◌}
-use mathlib.Core.Bool.{Bool, true, false, cond}
+use mathlib.Core.Path.{◌≡◌}
+use mathlib.Core.Bool.{true}
 use mathlib.Core.List.{List, [], ◌∷◌, ◌++◌}
-use lib.ListN.{length, take, length-append, length-take}
+use lib.ListN.{length, length-append, length-take}
 use lib.Dec.{ltb}
-use borrow.Author.Tests.{ltb-true, ltb-false}
+use borrow.Author.Tests.{ltb-false}
 use Rattle.laws.specs.Lists.{All, flat}
 use Rattle.laws.proofs.Sums.{by_test}
 use Rattle.rules.specs.declared.Tuple.{Tuple}
@@ -17,7 +17,7 @@ use Rattle.rules.specs.declared.TuplePlace.{TuplePlace}
 use Rattle.rules.specs.declared.Stage.{Stage}
 use Rattle.rules.specs.declared.Stream.{Stream}
 use Rattle.rules.specs.Streams.{offset, stages_of, tuples_of, stream_ok}
-use Rattle.rules.specs.Valid.{Between, ValidCycle, ValidPlace, ValidStage, ValidStream}
+use Rattle.rules.specs.Valid.{ValidCycle, ValidPlace, ValidStage, ValidStream}
 use Rattle.rules.proofs.Valid.{valid_stream}
 use Rattle.ascii.specs.Decimal.{letters, digits_of, decimal_of}
 use Rattle.text_line.specs.Lines.{stage_text, tuple_text, place_text, stages_text, limit_text, stream_text}

@@ -1,9 +1,9 @@
 -- A stream's line, put together stage by stage and tuple by tuple.
 -- Assumes nothing.
 use Prim.Native.Nat.{ℕ, ◌+◌, ◌≤◌, ◌<◌}
-use mathlib.Core.Path.{◌≡◌, refl, sym, ap, ◌∙◌}
+use mathlib.Core.Path.{◌≡◌}
 use mathlib.Core.Logic.{◌⊎◌}
-use mathlib.Core.List.{List, [], ◌∷◌, ◌++◌}
+use mathlib.Core.List.{List, []}
 use lib.ListN.{length, get_or}
 use Rattle.laws.specs.Lists.{flat}
 use Rattle.laws.proofs.Parts.{part, part_cons, part_nil}

@@ -1,30 +1,28 @@
 -- The lines of a set, put on a page one behind the other.
 -- Assumes nothing.
-use Prim.Native.Nat.{ℕ, zero, suc, ◌+◌, ◌-◌, ◌*◌, ◌≤◌, ◌<◌}
+use Prim.Native.Nat.{ℕ, ◌+◌, ◌-◌, ◌*◌, ◌≤◌, ◌<◌}
 use native.Mathlib.Omega.{arith}
 use mathlib.Core.Path.{◌≡◌, refl, sym, ap, ◌∙◌}
 use mathlib.Core.Logic.{◌⊎◌}
-use mathlib.Core.Bool.{Bool, true, false, cond, ◌&&◌}
+use mathlib.Core.Bool.{Bool, true, false}
 use mathlib.Core.List.{List, [], ◌∷◌, ◌++◌, append_assoc, append-nil}
 use lib.ListN.{length, get_or, take, drop, length-append, take-append-drop}
 use lib.Seq.{drop-drop, length-take-le}
 use lib.Dec.{leb, eqb}
 use borrow.Author.Tests.{le-leb, lt-leb, eq-eqb, ne_eqb}
-use Rattle.laws.specs.Lists.{all, flat, every}
+use Rattle.laws.specs.Lists.{all, flat}
 use Rattle.laws.proofs.Parts.{part, part_cons, part_nil, get_d_any, all_within}
 use Rattle.laws.proofs.Sums.{by_test, and_parts}
 use Rattle.rules.specs.declared.Stream.{Stream}
 use Rattle.rules.specs.declared.Set.{Set}
 use Rattle.rules.specs.declared.Refusal.TheVariants.{OutOfRule, ShortBuffer}
-use Rattle.rules.specs.declared.WriteAnswer.{WriteAnswer}
 use Rattle.rules.specs.declared.WriteAnswer.TheVariants.{Wrote, Refused}
 use Rattle.rules.specs.Streams.{no_stream, streams_of, stream_ok, valid}
-use Rattle.rules.specs.Valid.{ValidStream}
 use Rattle.rules.proofs.Valid.{valid_stream}
 use Rattle.line.specs.declared.Line.{Line}
 use Rattle.line.specs.Line.{holding, put_of, puts}
 use Rattle.line.proofs.Puts.{last, holds}
-use Rattle.text_line.specs.Lines.{stages_text, limit_text, stream_text, version_text}
+use Rattle.text_line.specs.Lines.{stages_text, limit_text, version_text}
 use Rattle.text_line.proofs.Short.{stages_short, limit_short}
 use Rattle.page.specs.Pages.{appended, end_of}
 use Rattle.page.proofs.Rooms.{end_at, holds_then, same_size, rest_stays}

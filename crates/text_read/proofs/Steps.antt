@@ -2,9 +2,9 @@
 -- Assumes nothing.
 use Prim.Native.Nat.{ℕ, ◌+◌, ◌≤◌, ◌<◌}
 use native.Mathlib.Numerals.{add-one}
-use mathlib.Core.Path.{◌≡◌, refl, sym, ap, ◌∙◌}
-use mathlib.Core.Bool.{Bool, true, false, cond}
-use mathlib.Core.List.{List, [], ◌∷◌}
+use mathlib.Core.Path.{◌≡◌, sym, ◌∙◌}
+use mathlib.Core.Bool.{Bool, true, false}
+use mathlib.Core.List.{List}
 use lib.ListN.{length, get_or, set, drop, drop_of_length-le}
 use lib.Seq.{drop-cons}
 use borrow.Author.Tests.{lt-ltb, le-ltb, eq-eqb, ne_eqb}
@@ -20,8 +20,7 @@ use Rattle.text_tidy.specs.declared.Tidy.{Tidy}
 use Rattle.text_tidy.specs.Tidied.{fresh, kept_of}
 use Rattle.text_read.specs.declared.Finding.TheVariants.{Fine, Bad}
 use Rattle.text_read.specs.declared.Draft.{Draft}
-use Rattle.text_read.specs.declared.TextRead.{TextRead}
-use Rattle.text_read.specs.Texts.{by_said, untold, is_fine, following, faulty, onward, with_stream, with_version, line_ended, start_of, step_of, feed_of, close_of}
+use Rattle.text_read.specs.Texts.{untold, is_fine, following, faulty, onward, with_stream, with_version, line_ended, start_of, step_of, feed_of, close_of}
 
 module _ (x : Set) (t : Tidy) (new : t ≡ fresh) where
   pub begun : x ≡ empty_set → record { set = x; number = 1; tidy = t; found = Fine } ≡ start_of

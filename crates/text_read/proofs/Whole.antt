@@ -1,30 +1,28 @@
 -- A text fed in pieces reads as the whole text does.
 -- Assumes nothing.
-use Prim.Native.Nat.{ℕ, zero, suc, ◌+◌, ◌-◌, ◌≤◌, ◌<◌}
+use Prim.Native.Nat.{ℕ, suc, ◌+◌, ◌-◌, ◌<◌}
 use native.Mathlib.Omega.{arith}
 use mathlib.Core.Path.{◌≡◌, refl, sym, ap, ◌∙◌}
 use mathlib.Core.Bool.{Bool, true, false, cond}
 use mathlib.Core.List.{List, [], ◌∷◌, ◌++◌}
-use lib.ListN.{length, set, replicate, length-append}
+use lib.ListN.{length, set, length-append}
 use lib.Seq.{set-append_seam, append_snoc}
-use lib.Dec.{ltb, leb, eqb}
-use borrow.Author.Tests.{ltb-true, ltb-false, leb-true, leb-false}
+use lib.Dec.{ltb, leb}
+use borrow.Author.Tests.{ltb-true, leb-true, leb-false}
 use Rattle.laws.proofs.Sums.{by_test}
 use Rattle.rules.specs.declared.Stream.{Stream}
-use Rattle.rules.specs.declared.Set.{Set}
-use Rattle.rules.specs.Streams.{no_stream, empty_set}
 use Rattle.rules.specs.Sheet.{set_of}
 use Rattle.text_line.specs.declared.Fault.{Fault}
 use Rattle.text_line.specs.declared.Fault.TheVariants.{LateVersion, ManyStreams}
 use Rattle.text_line.specs.declared.Meaning.{Meaning}
 use Rattle.text_line.specs.declared.Meaning.TheVariants.{Stream as IsStream, Version, Nothing, Bad as BadLine}
 use Rattle.text_line.specs.declared.LineRead.{LineRead}
-use Rattle.text_line.specs.Lines.{judged, line_read, longest}
+use Rattle.text_line.specs.Lines.{judged, longest}
 use Rattle.text_line.proofs.Judged.{judged_short, judged_long}
 use Rattle.text_tidy.specs.declared.Tidy.{Tidy}
-use Rattle.text_tidy.specs.Tidied.{row_of, tidied, fresh, kept_of}
+use Rattle.text_tidy.specs.Tidied.{row_of, fresh, kept_of}
 use Rattle.text_tidy.proofs.Whole.{kept, with, with_none, with_all, Next, next}
-use Rattle.text_read.specs.declared.Finding.TheVariants.{Fine, Bad}
+use Rattle.text_read.specs.declared.Finding.TheVariants.{Fine}
 use Rattle.text_read.specs.declared.Draft.{Draft}
 use Rattle.text_read.specs.declared.TextRead.{TextRead}
 use Rattle.text_read.specs.Texts.{is_newline, first_line, more_lines, line_says, by_said, untold, following, is_bad, lines_read, text_read, faulty, onward, with_stream, with_version, line_ended, start_of, step_of, feed_of, close_of}

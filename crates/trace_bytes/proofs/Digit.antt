@@ -1,11 +1,10 @@
 -- The byte behind a p: a hex digit, or another.
 -- Assumes nothing.
 use Prim.Native.Nat.{ℕ}
-use mathlib.Core.Path.{◌≡◌, refl, sym, ap, ◌∙◌}
+use mathlib.Core.Path.{◌≡◌}
 use mathlib.Core.Bool.{Bool, true, false}
 use Rattle.ascii.specs.Hex.{is_hex, hex_of}
 use Rattle.rules.specs.declared.Call.TheVariants.{Posts}
-use Rattle.trace_bytes.specs.declared.Heard.{Heard}
 use Rattle.trace_bytes.specs.declared.Heard.TheVariants.{Makes, Bad}
 use Rattle.trace_bytes.specs.Steps.{after_p}
 

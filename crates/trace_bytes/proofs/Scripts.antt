@@ -7,12 +7,10 @@ use mathlib.Core.Bool.{Bool, true, false, cond, ◌||◌}
 use mathlib.Core.List.{List, [], ◌∷◌}
 use lib.Dec.{eqb}
 use borrow.Author.Tests.{eqb-true}
-use Rattle.rules.specs.declared.Call.{Call}
 use Rattle.rules.specs.declared.Call.TheVariants.{Posts, Units}
 use Rattle.ascii.specs.Hex.{is_hex, hex_of}
-use Rattle.trace_bytes.specs.declared.Heard.{Heard}
 use Rattle.trace_bytes.specs.declared.Heard.TheVariants.{Skip, More, Makes, Bad}
-use Rattle.trace_bytes.specs.Steps.{heard_of, end_of, between_steps, after_p}
+use Rattle.trace_bytes.specs.Steps.{between_steps, after_p}
 use Rattle.trace_bytes.specs.Scripts.{Script, over, stops, step_then, byte_then, digit_then, script_of, heard_then, hearing}
 
 -- a byte between steps: with a p comes what the digit's byte says

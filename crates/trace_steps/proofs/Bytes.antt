@@ -1,10 +1,10 @@
 -- A byte's turn, and the turns of a piece of the trace.
 -- Assumes nothing.
-use Prim.Native.Nat.{ℕ, zero, suc, ◌+◌, ◌-◌, ◌*◌, ◌≤◌, ◌<◌}
+use Prim.Native.Nat.{ℕ, ◌+◌, ◌-◌, ◌*◌, ◌≤◌, ◌<◌}
 use native.Mathlib.Omega.{arith}
 use native.Mathlib.Numerals.{add-one}
-use mathlib.Core.Path.{◌≡◌, refl, sym, ap, ◌∙◌}
-use mathlib.Core.Bool.{Bool, true, false, cond, ◌&&◌}
+use mathlib.Core.Path.{◌≡◌, sym, ap, ◌∙◌}
+use mathlib.Core.Bool.{Bool, true, false, cond}
 use mathlib.Core.List.{List, [], ◌∷◌, ◌++◌, append_assoc, append-nil}
 use lib.ListN.{length, get_or, take, drop, drop_of_length-le, length-append, take-append-drop}
 use lib.Seq.{drop-cons, drop-drop, length-take-le}
@@ -12,11 +12,11 @@ use Rattle.rules.specs.declared.State.{State}
 use Rattle.rules.specs.declared.Call.{Call}
 use Rattle.rules.specs.declared.CallResult.{CallResult}
 use Rattle.rules.specs.declared.Refusal.TheVariants.{BadByte}
-use Rattle.rules.specs.Numbers.{Says, number, refused, call_says}
+use Rattle.rules.specs.Numbers.{number, refused, call_says}
 use Rattle.rules.specs.Steps.{call_of}
 use Rattle.line.specs.declared.Line.{Line}
 use Rattle.line.specs.Line.{holding}
-use Rattle.answer_words.specs.Words.{says, line_of, step_line}
+use Rattle.answer_words.specs.Words.{says, step_line}
 use Rattle.answer_words.proofs.Lengths.{says_short, step_short}
 use Rattle.trace_bytes.specs.declared.Heard.{Heard}
 use Rattle.trace_bytes.specs.declared.Heard.TheVariants.{Skip, More, Makes, Bad}

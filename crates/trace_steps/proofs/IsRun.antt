@@ -8,17 +8,16 @@ use Rattle.laws.specs.Lists.{flat}
 use Rattle.rules.specs.declared.Set.{Set}
 use Rattle.rules.specs.declared.State.{State}
 use Rattle.rules.specs.declared.Call.{Call}
-use Rattle.rules.specs.Steps.{call_of}
 use Rattle.rules.specs.Runs.{Run, step_of, begin, run_from, run_of, step_to, steps_from, steps_of}
 use Rattle.rules.proofs.Events.{step_state}
 use Rattle.answer_words.specs.Words.{line_of_step}
 use Rattle.trace_bytes.specs.declared.Heard.{Heard}
 use Rattle.trace_bytes.specs.declared.Heard.TheVariants.{Skip, More, Makes, Bad}
 use Rattle.trace_bytes.specs.Steps.{heard_of, end_of}
-use Rattle.trace_bytes.specs.Scripts.{Script, script_of, heard_then, hearing}
+use Rattle.trace_bytes.specs.Scripts.{Script, heard_then, hearing}
 use Rattle.trace_bytes.proofs.Scripts.{script_heard}
 use Rattle.trace_steps.specs.declared.Tracing.{Tracing}
-use Rattle.trace_steps.specs.Turns.{tracing_from, going, next_tracing, nine, next_text, tracing_after, text_after, tracing_on, text_on, text_end, text_to_end}
+use Rattle.trace_steps.specs.Turns.{going, next_tracing, nine, next_text, tracing_after, text_after, tracing_on, text_on, text_end, text_to_end}
 use Rattle.trace_steps.specs.Trace.{nine_if, steps_printed, TraceIsRun}
 
 -- a trace that has stopped prints nothing, and stays

@@ -1,7 +1,7 @@
 -- Number 9 is given: a byte that is no step, and p without its digit, print `refused 9` with no clock, and the trace stops.
 -- Assumes nothing.
 use mathlib.Core.Bool.{true, false}
-use mathlib.Core.List.{List, [], ◌∷◌}
+use mathlib.Core.List.{[], ◌∷◌}
 use mathlib.Core.Path.{◌≡◌, refl}
 use Rattle.rules.specs.declared.State.{State}
 use Rattle.ascii.specs.Decimal.{letters, digits_of}

@@ -1,5 +1,6 @@
 // The trace program: the steps that the bytes of a trace ask for, and all that is printed.
 #![tactic(auto)]
+
 ghost use Rattle.std.specs.Prelude.{◌≡◌, true, false, ◌++◌, [], ◌+◌, ◌*◌, ◌≤◌, length, drop};
 ghost use Rattle.line.specs.Line.{line_room, holding};
 ghost use Rattle.trace_steps.specs.Turns.{was_read, tracing_from, Beginning, going, next_tracing, next_text, tracing_after, text_after, tracing_on, text_on, Ending, PieceTraced};

@@ -8,6 +8,5 @@ use Rattle.scheduler_run.proofs.after.Given as goal
 abbrev pub invariant-loop-k : goal.invariant-loop-k
 invariant-loop-k l = l.next ≡ (run_from (start_at l.initial.next) (calls_of (take l.k l.calls))).state
 
-
 abbrev pub decreases-loop-k : goal.decreases-loop-k
 decreases-loop-k l = length l.calls - l.k
