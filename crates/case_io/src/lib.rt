@@ -55,14 +55,12 @@ fn rest_of(rt: &impl Print, file: &mut impl Read, t: Tracing, n: u64) -> io::Res
 // The trace of a case, of `n` bytes.
 fn trace_of(rt: &impl Print, file: &mut impl Read, begun: Tracing, n: u64) -> io::Result<()> {
     let mut t = begun;
-    let mut left = n;
-    while 63 < left {
+    for _ in 0..n / 64 {
         let mut piece = [0u8; 64];
         file_io::read_full(file, &mut piece)?;
         t = trace_io::print_piece(rt, t, &piece)?;
-        left = left - 64;
     }
-    rest_of(rt, file, t, left)
+    rest_of(rt, file, t, n % 64)
 }
 
 // The recording of a case, of `n` bytes, 4,096 at most.
