@@ -9,7 +9,7 @@ use line::Line;
 use rules::ReadResult;
 use std::alloc::{AllocError, Global};
 use std::fs::OpenFile;
-use std::io::{Read, Write};
+use std::io::{ErrorKind, Read, Write};
 use std::rt::Files;
 use std::{fmt, fs, io};
 
@@ -75,7 +75,7 @@ pub fn read_full(file: &mut impl Read, buf: &mut [u8]) -> io::Result<usize>
 }
 
 // The sheet in the file set.bin; a missing file is read as no bytes. No sheet has more than 502 bytes, so of a longer file 503
-// tell all: `long-sheet` of crates/sheet_write.
+// tell all: `long_sheet` of crates/sheet_write.
 pub fn read_sheet(rt: &impl Files) -> io::Result<ReadResult> {
     let mut bytes = [0u8; rules::LONGEST_SHEET + 1];
     match fs::open(rt, "set.bin") {
@@ -91,16 +91,24 @@ pub fn read_sheet(rt: &impl Files) -> io::Result<ReadResult> {
 
 // Tells which file cannot be written, and takes the new one away.
 fn give_up(rt: &(impl Files + Eprint + Alloc), what: &str, why: io::Error) -> io::Result<bool> {
-    fail(rt, what, why)?;
+    let told = fail(rt, what, why);
     let _ = fs::remove_file(rt, "set.bin.new");
+    told?;
     Ok(false)
 }
 
-// All bytes into a file, which is closed then; what the system puts off until then is waited for.
+// All bytes into a file, which is closed then. What the system puts off until then is waited for, so that it is told; where what stands under the
+// name cannot be waited for, as a pipe, all is written.
 fn fill<F: Write + OpenFile + Drop>(file: F, bytes: &[u8]) -> io::Result<()> {
     let mut file = file;
     file.write_all(bytes)?;
-    file.sync_all()
+    match file.sync_all() {
+        Ok(()) => Ok(()),
+        Err(why) => match why.kind() {
+            ErrorKind::InvalidInput | ErrorKind::Unsupported => Ok(()),
+            _ => Err(why),
+        },
+    }
 }
 
 // Writes the sheet to a file of its own, which then takes the place of set.bin: that is the whole sheet, or as it was.

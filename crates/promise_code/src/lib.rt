@@ -14,7 +14,7 @@ pub struct JudgedRun {
     pub state: State,
 }
 
-// The set is judged, and then run from its start; a byte is a call as `scheduler_run` reads it (`callByte`).
+// The set is judged, and then run from its start; a byte is a call as `scheduler_run` reads it (`call_byte`).
 pub fn judged_run(x: Set, calls: &[u8]) -> JudgedRun
     ensures { Promised x (calls_of calls.now) result }
 {

@@ -111,7 +111,7 @@ module _ (z : Start) (starts : Starts z) where
       omega (arith, run_none_due fits before more keeps (name h.number m) h.here, (kept before).timed)
 
 -- ---- DEMAND 3. A late message already started by a task that an urgent one also needs is covered by the blocking that demand counts:
--- `account-blocked` of promise_deadlines/proofs/Account.antt charges its units to the task.
+-- `account_blocked` of promise_deadlines/proofs/Account.antt charges its units to the task.
 
 -- the streams with a door keep their limits by themselves
 all_keep : (z : Start) → Starts z → (calls : List Call) → KeepsOpenLimits z.set (accepted (run_for z calls)) → KeepsLimits z.set (accepted (run_for z calls))

@@ -89,7 +89,7 @@ fn listen(rt: &(impl Input + Eprint + Alloc)) -> io::Result<Ear> {
     Ok(e)
 }
 
-// Answers whether set.bin is the set's sheet.
+// Answers whether the set's sheet was kept, or that it has none was told.
 fn keep(rt: &(impl Files + Print + Eprint + Alloc), x: Set) -> io::Result<bool> {
     let count = x.count;
     let mut bytes = [0u8; rules::LONGEST_SHEET];
