@@ -17,7 +17,7 @@ struct Ear {
 }
 
 // Reads once. An input that cannot be read is told, and nothing is made of what came before.
-fn hear(rt: &(impl Eprint + Alloc), input: &mut impl Read, e: Ear) -> io::Result<Ear> {
+fn hear(rt: &impl Eprint, input: &mut impl Read, e: Ear) -> io::Result<Ear> {
     let frames = e.frames;
     let mut bytes = [0u8; 512];
     match input.read(&mut bytes) {
@@ -43,7 +43,7 @@ fn hear(rt: &(impl Eprint + Alloc), input: &mut impl Read, e: Ear) -> io::Result
 }
 
 // A proved loop has to end, and nothing says that the input does: the turns are counted up to a number that no run uses up.
-fn listen(rt: &(impl Input + Eprint + Alloc)) -> io::Result<Ear> {
+fn listen(rt: &(impl Input + Eprint)) -> io::Result<Ear> {
     let mut input = rt.reader();
     let mut e = Ear {
         frames: cable_frames::first(),
@@ -60,7 +60,7 @@ fn listen(rt: &(impl Input + Eprint + Alloc)) -> io::Result<Ear> {
 }
 
 // The sheet of a set that was read, as the file set.bin: the whole sheet, or as it was. Answers which.
-fn keep(rt: &(impl Files + Eprint + Alloc), x: Set) -> io::Result<bool> {
+fn keep(rt: &(impl Files + Eprint), x: Set) -> io::Result<bool> {
     let mut bytes = [0u8; rules::LONGEST_SHEET];
     match sheet_write::write(x, &mut bytes) {
         WriteAnswer::Wrote(n) => {
@@ -72,11 +72,7 @@ fn keep(rt: &(impl Files + Eprint + Alloc), x: Set) -> io::Result<bool> {
 }
 
 // A set is told once its file is written.
-fn tell(
-    rt: &(impl Files + Print + Eprint + Alloc),
-    answer: ReadAnswer,
-    x: Set,
-) -> io::Result<bool> {
+fn tell(rt: &(impl Files + Print + Eprint), answer: ReadAnswer, x: Set) -> io::Result<bool> {
     let count = x.count;
     match answer {
         ReadAnswer::Read => {
@@ -97,7 +93,7 @@ fn broken(rt: &impl Eprint) -> io::Result<bool> {
 }
 
 // `cable`: the pieces of standard input, closed at its end. Answers whether what they read as was told on standard output.
-pub fn run(rt: &(impl Files + Input + Print + Eprint + Alloc)) -> io::Result<bool> {
+pub fn run(rt: &(impl Files + Input + Print + Eprint)) -> io::Result<bool> {
     let e = listen(rt)?;
     let ended = e.ended;
     let frames = e.frames;

@@ -108,7 +108,7 @@ fn take_cases(rt: &impl Print, file: &mut impl Read, kind: Kind) -> io::Result<(
 
 // The cases of the file cases.bin: for each the length of its sheet in four bytes, the sheet, the length of its trace or recording, the trace or
 // recording. The end mark, 255 four times, or a sheet too long for a case ends them.
-pub fn batch(rt: &(impl Files + Print + Eprint + Alloc), kind: Kind) -> io::Result<()> {
+pub fn batch(rt: &(impl Files + Print + Eprint), kind: Kind) -> io::Result<()> {
     match fs::open(rt, "cases.bin") {
         Ok(mut file) => take_cases(rt, &mut file, kind),
         Err(why) => file_io::fail(rt, "cases.bin", why),

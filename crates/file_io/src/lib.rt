@@ -2,12 +2,13 @@
 // A write that fails is handed to the caller.
 #![tactic(auto)]
 
-ghost use Rattle.std.specs.Prelude.{◌≡◌, IfOk, vec_len};
+ghost use Rattle.std.specs.Prelude.{◌≡◌, ◌≤◌, IfOk, length, vec_len};
 ghost use Rattle.std.specs.Io.{ReadsAtMost};
 
 use line::Line;
 use rules::ReadResult;
 use std::alloc::{AllocError, Global};
+use std::fmt::Write as _;
 use std::fs::OpenFile;
 use std::io::{ErrorKind, Read, Write};
 use std::rt::Files;
@@ -48,13 +49,47 @@ pub fn warn(rt: &impl Eprint, l: Line) -> io::Result<()> {
     rt.eprint(Ascii(&out[..n]))
 }
 
-// Tells on standard error what failed, and why as the system says it, without the number that std puts behind.
-pub fn fail(rt: &(impl Eprint + Alloc), what: &str, why: io::Error) -> io::Result<()> {
-    let text = format!(in rt.alloc(); "{why}")?;
-    match text.split_once(" (os error ") {
-        Some((words, _)) => eprintln!(rt; "{what}: {words}"),
-        None => eprintln!(rt; "{what}: {text}"),
+// The first words of a text, as many as there is room for.
+#[derive(Clone, Copy)]
+struct Words {
+    bytes: [u8; 256],
+    len: usize,
+}
+
+impl fmt::Write for Words {
+    fn write_str(&mut self, s: &str) -> fmt::Result {
+        for b in s.as_bytes() {
+            if self.len < 256 {
+                self.bytes[self.len] = *b;
+                self.len += 1;
+            }
+        }
+        Ok(())
     }
+}
+
+// Where the number begins that std puts behind the system's words, or the end where there is none.
+fn words_end(text: &[u8]) -> usize
+    ensures { result ≤ length text.now }
+{
+    for i in 0..text.len() {
+        if text[i..].starts_with(b" (os error ") {
+            return i;
+        }
+    }
+    text.len()
+}
+
+// Tells on standard error what failed, and why as the system says it, without the number that std puts behind.
+pub fn fail(rt: &impl Eprint, what: &str, why: io::Error) -> io::Result<()> {
+    let mut words = Words {
+        bytes: [0; 256],
+        len: 0,
+    };
+    let _ = write!(words, "{why}");
+    let text = &words.bytes[..page::within(words.len, &words.bytes)];
+    let said = Ascii(&text[..words_end(text)]);
+    eprintln!(rt; "{what}: {said}")
 }
 
 // ---- files, read
@@ -90,7 +125,7 @@ pub fn read_sheet(rt: &impl Files) -> io::Result<ReadResult> {
 // ---- the file set.bin, written
 
 // Tells which file cannot be written, and takes the new one away.
-fn give_up(rt: &(impl Files + Eprint + Alloc), what: &str, why: io::Error) -> io::Result<bool> {
+fn give_up(rt: &(impl Files + Eprint), what: &str, why: io::Error) -> io::Result<bool> {
     let told = fail(rt, what, why);
     let _ = fs::remove_file(rt, "set.bin.new");
     told?;
@@ -113,7 +148,7 @@ fn fill<F: Write + OpenFile + Drop>(file: F, bytes: &[u8]) -> io::Result<()> {
 
 // Writes the sheet to a file of its own, which then takes the place of set.bin: that is the whole sheet, or as it was.
 // Answers which; why it is as it was is told on standard error.
-pub fn save_sheet(rt: &(impl Files + Eprint + Alloc), bytes: &[u8]) -> io::Result<bool> {
+pub fn save_sheet(rt: &(impl Files + Eprint), bytes: &[u8]) -> io::Result<bool> {
     let file = match fs::create(rt, "set.bin.new") {
         Ok(file) => file,
         Err(why) => {
@@ -146,7 +181,7 @@ pub enum Input {
     Told,
 }
 
-fn tell_unread(rt: &(impl Eprint + Alloc), why: io::Error) -> io::Result<Input> {
+fn tell_unread(rt: &impl Eprint, why: io::Error) -> io::Result<Input> {
     fail(rt, "standard input", why)?;
     Ok(Input::Told)
 }
@@ -158,7 +193,7 @@ fn tell_long(rt: &impl Eprint, room: usize) -> io::Result<Input> {
 }
 
 // Reads standard input to its end, into the front of a buffer that is longer.
-pub fn read_input(rt: &(impl io::Input + Eprint + Alloc), buf: &mut [u8]) -> io::Result<Input> {
+pub fn read_input(rt: &(impl io::Input + Eprint), buf: &mut [u8]) -> io::Result<Input> {
     let mut input = rt.reader();
     let mut n = 0;
     while n < buf.len() {

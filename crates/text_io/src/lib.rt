@@ -47,7 +47,7 @@ struct Ear {
 }
 
 // Reads once. An input that cannot be read is told, and no sheet is made of what came before.
-fn hear(rt: &(impl Eprint + Alloc), input: &mut impl Read, e: Ear) -> io::Result<Ear> {
+fn hear(rt: &impl Eprint, input: &mut impl Read, e: Ear) -> io::Result<Ear> {
     let draft = e.draft;
     let mut bytes = [0u8; 512];
     match input.read(&mut bytes) {
@@ -73,7 +73,7 @@ fn hear(rt: &(impl Eprint + Alloc), input: &mut impl Read, e: Ear) -> io::Result
 }
 
 // A proved loop has to end, and nothing says that the input does: the turns are counted up to a number that no run uses up.
-fn listen(rt: &(impl Input + Eprint + Alloc)) -> io::Result<Ear> {
+fn listen(rt: &(impl Input + Eprint)) -> io::Result<Ear> {
     let mut input = rt.reader();
     let mut e = Ear {
         draft: text_read::start(),
@@ -90,7 +90,7 @@ fn listen(rt: &(impl Input + Eprint + Alloc)) -> io::Result<Ear> {
 }
 
 // Answers whether the set's sheet was kept, or that it has none was told.
-fn keep(rt: &(impl Files + Print + Eprint + Alloc), x: Set) -> io::Result<bool> {
+fn keep(rt: &(impl Files + Print + Eprint), x: Set) -> io::Result<bool> {
     let count = x.count;
     let mut bytes = [0u8; rules::LONGEST_SHEET];
     match sheet_write::write(x, &mut bytes) {
@@ -108,7 +108,7 @@ fn keep(rt: &(impl Files + Print + Eprint + Alloc), x: Set) -> io::Result<bool> 
 
 // `sheet_text`: a text from standard input as the file set.bin. A bad text leaves set.bin as it is.
 // Answers whether what the text reads as was told on standard output.
-pub fn make(rt: &(impl Files + Input + Print + Eprint + Alloc)) -> io::Result<bool> {
+pub fn make(rt: &(impl Files + Input + Print + Eprint)) -> io::Result<bool> {
     let e = listen(rt)?;
     let whole = e.whole;
     let draft = e.draft;
@@ -207,7 +207,7 @@ fn take_texts(rt: &impl Print, file: &mut impl Read) -> io::Result<()> {
 }
 
 // The texts of the file texts.txt, each ended by a zero byte: what is wrong with it, or its sheet and its text again.
-pub fn batch(rt: &(impl Files + Print + Eprint + Alloc)) -> io::Result<()> {
+pub fn batch(rt: &(impl Files + Print + Eprint)) -> io::Result<()> {
     match fs::open(rt, "texts.txt") {
         Ok(mut file) => take_texts(rt, &mut file),
         Err(why) => file_io::fail(rt, "texts.txt", why),
