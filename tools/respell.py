@@ -5,7 +5,8 @@ usage: python3 tools/respell.py [ROOT]      run once, at the top, after port.py 
 
 A name turns in the file that declares it and in each file that imports it from a crate of this repository; a field turns behind a dot, in a record and
 in the record that declares it. What Rattle makes, what the library has, functions of src/, their parameters and the fields of structs stay.
-It prints each two names of one file that would fall together, and turns neither of them.
+Where a lemma's name would fall together with a definition's, the lemma gets `_lem` behind it. A line `together:` names a file in which a new name stands
+already; where that name turns as well, as in all that it prints of this repository, nothing falls together.
 """
 import collections
 import os
