@@ -7,8 +7,8 @@ use lib.ListN.{length, length-append}
 use lib.IntN.{ℤ, pos, negsuc}
 use Rattle.rules.specs.declared.Tuple.{Tuple}
 use Rattle.rules.specs.declared.Tuple.TheVariants.{Once, Every}
-use Rattle.rules.specs.declared.ReadAnswer.{ReadAnswer}
-use Rattle.rules.specs.declared.ReadAnswer.TheVariants.{Read, Refused}
+use Rattle.std.specs.Prelude.{Result, Ok, Err}
+use Rattle.rules.specs.declared.Refusal.{Refusal}
 use Rattle.rules.specs.Numbers.{Says, number, refused, refused_with_0, started, posted, none, runs, ran, passed, done, cut, idle, gives, tuples, accept, late, overload, read, fed, wrote, ended, recorded, opened, tested, tested_accept, tested_late}
 use Rattle.ascii.specs.Decimal.{letters, decimal_of, signed_of, spaced}
 use Rattle.ascii.proofs.Digits.{digits_short}
@@ -76,9 +76,9 @@ says_short (tested_late k i w) =
       two (letters " late") i w,
     )
 
-pub read_short : (a : ReadAnswer) (n : ℕ) → length (read_words a n) ≤ 95
-read_short Read n = omega (arith, one (letters "set") n)
-read_short (Refused why) n = says_short (refused (number why))
+pub read_short : (a : Result (Unit {0}) Refusal) (n : ℕ) → length (read_words a n) ≤ 95
+read_short (Ok tt) n = omega (arith, one (letters "set") n)
+read_short (Err why) n = says_short (refused (number why))
 
 -- a line has room for the words of an answer, with a clock before them too
 pub line_short : (w : List ℕ) → length w ≤ 95 → length (line_of w) ≤ line_room

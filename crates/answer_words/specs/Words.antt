@@ -3,10 +3,9 @@
 use Rattle.std.specs.Prelude.{ℕ, List, ◌++◌}
 use Rattle.rules.specs.declared.Tuple.{Tuple}
 use Rattle.rules.specs.declared.Tuple.TheVariants.{Once, Every}
-use Rattle.rules.specs.declared.ReadAnswer.{ReadAnswer}
-use Rattle.rules.specs.declared.ReadAnswer.TheVariants.{Read, Refused}
-use Rattle.rules.specs.declared.ReplayAnswer.{ReplayAnswer}
-use Rattle.rules.specs.declared.ReplayAnswer.TheVariants.{Called, Ended, Refused as NoStep}
+use Rattle.std.specs.Prelude.{Result, Ok, Err, Option, Some, None}
+use Rattle.rules.specs.declared.Refusal.{Refusal}
+use Rattle.rules.specs.declared.CallAnswer.{CallAnswer}
 use Rattle.rules.specs.Numbers.{Says, call_says, number, refused, refused_with_0, started, posted, none, runs, ran, passed, done, cut, idle, gives, tuples, accept, late, overload, read, fed, wrote, ended, recorded, opened, tested, tested_accept, tested_late}
 use Rattle.rules.specs.Runs.{Step}
 use Rattle.ascii.specs.Decimal.{letters, decimal_of, signed_of, spaced, newline}
@@ -50,9 +49,9 @@ says (tested_accept k) = letters "tested" ++ nr k ++ letters " accept"
 says (tested_late k i w) = letters "tested" ++ nr k ++ (letters " late" ++ nr i ++ nr w)
 
 -- "Prints `set N` with the number of streams .. or `refused N`"
-abbrev pub read_words : ReadAnswer → ℕ → List ℕ
-read_words Read n = letters "set" ++ nr n
-read_words (Refused why) n = says (refused (number why))
+abbrev pub read_words : Result (Unit {0}) Refusal → ℕ → List ℕ
+read_words (Ok tt) n = letters "set" ++ nr n
+read_words (Err why) n = says (refused (number why))
 
 abbrev pub line_of : List ℕ → List ℕ
 line_of w = w ++ newline
@@ -65,7 +64,7 @@ abbrev pub line_of_step : Step → List ℕ
 line_of_step s = step_line s.before s.says
 
 -- document 02, request 1: "the lines of the trace program .. then `end` or `refused 13` or `refused 14`", with no clock
-abbrev pub replay_line : ℕ → ReplayAnswer → List ℕ
-replay_line clock (Called a) = step_line clock (call_says a)
-replay_line clock Ended = line_of (says ended)
-replay_line clock (NoStep why) = line_of (says (refused (number why)))
+abbrev pub replay_line : ℕ → Result (Option CallAnswer) Refusal → List ℕ
+replay_line clock (Ok (Some a)) = step_line clock (call_says a)
+replay_line clock (Ok None) = line_of (says ended)
+replay_line clock (Err why) = line_of (says (refused (number why)))

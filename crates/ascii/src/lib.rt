@@ -10,34 +10,27 @@ ghost use Rattle.ascii.specs.Same.{same as same_word};
 pub fn is_digit(b: u8) -> bool
     ensures { result ≡ is_digit b }
 {
-    (48 <= b) & (b <= 57)
+    (b'0' <= b) & (b <= b'9')
 }
 
 pub fn digit_of(b: u8) -> u64
     ensures { result ≡ b - 48 }
 {
-    if b < 48 { 0 } else { (b - 48) as u64 }
+    u64::from(b.saturating_sub(b'0'))
 }
 
 // Whether a byte is a lower-case hex digit, and its value; 0 to 15 for any byte.
 pub fn is_hex(b: u8) -> bool
     ensures { result ≡ is_hex b }
 {
-    ((48 <= b) & (b <= 57)) | ((97 <= b) & (b <= 102))
+    is_digit(b) || matches!(b, b'a'..=b'f')
 }
 
 pub fn hex_of(b: u8) -> u8
     ensures { result ≡ hex_of b }
 {
-    if b < 48 {
-        0
-    } else if b <= 57 {
-        (b - 48) % 16
-    } else if b < 87 {
-        0
-    } else {
-        (b - 87) % 16
-    }
+    let first = if b <= b'9' { b'0' } else { b'a' - 10 };
+    b.saturating_sub(first) % 16
 }
 
 // The hex digit of a number, of which the low four bits count.
@@ -45,22 +38,16 @@ pub fn hex_digit(n: u8) -> u8
     ensures { result ≡ hex_digit (n % 16) }
 {
     let low = n % 16;
-    if low <= 9 { 48 + low } else { 87 + low }
+    if low <= 9 {
+        b'0' + low
+    } else {
+        b'a' - 10 + low
+    }
 }
 
 // Are two words the same?
 pub fn same(v: &[u8], w: &[u8]) -> bool
     ensures { result ≡ same_word v.now w.now }
 {
-    if v.len() != w.len() {
-        return false;
-    }
-    let mut i = 0;
-    while i < v.len() {
-        if v[i] != w[i] {
-            return false;
-        }
-        i += 1;
-    }
-    true
+    v == w
 }

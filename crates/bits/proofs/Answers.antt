@@ -1,22 +1,16 @@
 -- A law for each way out of taking and putting a field.
 -- Assumes nothing.
 use Prim.Native.Nat.{ℕ, ◌+◌, ◌*◌, ◌/◌, ◌%◌, ◌^◌, ◌<◌, ◌≤◌, ◌-◌}
-use mathlib.Core.Path.{◌≡◌, refl, sym, ap, ap₂, ◌∙◌}
-use mathlib.Core.Bool.{true, false, false≢true}
+use mathlib.Core.Path.{◌≡◌, sym, ap, ap₂, ◌∙◌}
+use mathlib.Core.Bool.{true, false}
 use mathlib.Core.List.{List}
 use native.Mathlib.Omega.{arith}
 use lib.ListN.{length}
-use lib.Seq.{paste, paste-zero}
 use lib.Pow.{pow_mono}
-use borrow.Author.Tests.{le-leb, leb-true, lt-leb, ltb-true}
+use borrow.Author.Tests.{leb-true, ltb-true}
 use Rattle.laws.proofs.Sums.{and_parts, by_test}
-use Rattle.laws.specs.Bits.{bits, to_bits}
-use Rattle.bits.specs.declared.Gathered.{Gathered}
-use Rattle.bits.specs.declared.Two.{Two}
-use Rattle.bits.specs.declared.Taken.TheVariants.{Field, Missing, TooWide}
-use Rattle.bits.specs.declared.Placing.{Placing}
-use Rattle.bits.specs.declared.Placing.TheVariants.{Done, NoRoom, TooWide as PutTooWide}
-use Rattle.bits.specs.Places.{Near, behind, field_at, gather_of, got_of, in_eight, put_bits, put_by, put_of, take_of, two_of, word_of}
+use Rattle.std.specs.Prelude.{Option, Some, None}
+use Rattle.bits.specs.Places.{Near, field_at, gather_of, got_of, in_eight, two_of, word_of}
 use Rattle.bits.proofs.Words.{eight_field, field_joined, field_lt, field_none}
 
 -- ---- gathering
@@ -27,9 +21,6 @@ gather_is s at w v got e h = ap₂ (λ (x n : ℕ). record { value = x; got = n 
 
 pub gather_none : (s : List ℕ) (at w got : ℕ) → got ≡ got_of (length s) at w → got ≡ 0 → record { value = 0; got = 0 } ≡ gather_of s at w
 gather_none s at w got e z = gather_is s at w 0 0 (sym z ∙ e) (field_none s at)
-
-pub gather_one : (s : List ℕ) (at w v got p : ℕ) → got ≡ got_of (length s) at w → v ≡ field_at s p got → p ≡ at → record { value = v; got = got } ≡ gather_of s at w
-gather_one s at w v got p e h q = gather_is s at w v got e (h ∙ ap (λ (x : ℕ). field_at s x got) q)
 
 pub gather_near : (s : List ℕ) (byte bit w v : ℕ) → Near (length s) byte bit w → v ≡ field_at s (8 * byte + bit) w → record { value = v; got = w } ≡ gather_of s (8 * byte + bit) w
 gather_near s byte bit w v n h = gather_is s (8 * byte + bit) w v w (omega (arith, n.few, n.first, n.there)) h
@@ -81,10 +72,6 @@ in_eight_lem n byte bit a b e =
       fewer = leb-true b 24 y.1;
     }
 
-pub not_eight : (n byte bit a b : ℕ) → n ≤ byte → false ≡ in_eight n byte bit a b
-unfolding in_eight
-not_eight n byte bit a b h = sym (simp (lt-leb 8 (n - byte) (omega arith)))
-
 module _ (s : List ℕ) (byte bit a b v : ℕ) (h : Eight (length s) byte bit a b) (e : v ≡ word_of s byte 8) where
   first_is : v * 2 ^ bit % 2 ^ 64 / 2 ^ (64 - a) ≡ field_at s (8 * byte + bit) a
   first_is = eight_field s byte bit a v h.there (omega (arith, h.first, h.few)) e
@@ -100,86 +87,36 @@ module _ (s : List ℕ) (byte bit a b v : ℕ) (h : Eight (length s) byte bit a 
   pub second_lt : v * 2 ^ (bit + a) % 2 ^ 64 / 2 ^ (64 - b) < 4294967296
   second_lt = word_lt s (8 * byte + bit + a) b _ second_is (omega (arith, h.there, h.first, h.few, h.fewer)) (omega (arith, h.fewer))
 
-  pub two_is : in_eight (length s) byte bit a b ≡ true
-      → record { there = true; first = v * 2 ^ bit % 2 ^ 64 / 2 ^ (64 - a); second = v * 2 ^ (bit + a) % 2 ^ 64 / 2 ^ (64 - b) } ≡ two_of s byte bit a b
+  pub two_is : in_eight (length s) byte bit a b ≡ true → Some (v * 2 ^ bit % 2 ^ 64 / 2 ^ (64 - a), v * 2 ^ (bit + a) % 2 ^ 64 / 2 ^ (64 - b)) ≡ two_of s byte bit a b
   unfolding two_of
-  two_is i = simp i (ap₂ (λ (x y : ℕ). record { there = true; first = x; second = y }) first_is second_is)
+  two_is i = simp i (ap₂ (λ (x y : ℕ). Some (x, y)) first_is second_is)
 
-pub two_none : (s : List ℕ) (byte bit a b : ℕ) → in_eight (length s) byte bit a b ≡ false → record { there = false; first = 0; second = 0 } ≡ two_of s byte bit a b
+pub two_none : (s : List ℕ) (byte bit a b : ℕ) → in_eight (length s) byte bit a b ≡ false → None ≡ two_of s byte bit a b
 unfolding two_of
 two_none s byte bit a b i = sym (simp i)
 
 -- each is what gathering finds
-module _ (s : List ℕ) (byte bit a b : ℕ) (g : Two) (e : g ≡ two_of s byte bit a b) (t : g.there ≡ true) where
+module _ (s : List ℕ) (byte bit a b first second : ℕ) (e : Some (first, second) ≡ two_of s byte bit a b) where
   both_in : in_eight (length s) byte bit a b ≡ true
   both_in =
       by_test (in_eight (length s) byte bit a b) (λ i. i)
-      (λ i. absurd (false≢true (ap (λ (y : Two). y.there) (two_none s byte bit a b i) ∙ sym (ap (λ (y : Two). y.there) e) ∙ t)))
+      (λ i. let q : Some (first, second) ≡ None = e ∙ sym (two_none s byte bit a b i) in cc)
 
   pub two_in : Eight (length s) byte bit a b
   two_in = in_eight_lem (length s) byte bit a b both_in
 
-  two_fields : g ≡ record { there = true; first = field_at s (8 * byte + bit) a; second = field_at s (8 * byte + bit + a) b }
+  two_fields : (first ≡ field_at s (8 * byte + bit) a) × (second ≡ field_at s (8 * byte + bit + a) b)
   unfolding two_of
-  two_fields = e ∙ simp both_in
+  two_fields =
+      let q : ◌≡◌ {A = Option (ℕ × ℕ)} (Some (first, second)) (Some (field_at s (8 * byte + bit) a, field_at s (8 * byte + bit + a) b)) = e ∙ simp both_in in
+      let p : ◌≡◌ {A = ℕ × ℕ} (first, second) (field_at s (8 * byte + bit) a, field_at s (8 * byte + bit + a) b) = cc in
+      (ap (λ (x : ℕ × ℕ). x.0) p, ap (λ (x : ℕ × ℕ). x.1) p)
 
-  pub two_first : record { value = g.first; got = a } ≡ gather_of s (8 * byte + bit) a
+  pub two_first : record { value = first; got = a } ≡ gather_of s (8 * byte + bit) a
   two_first =
-      gather_is s (8 * byte + bit) a g.first a (omega (arith, two_in.there, two_in.first, two_in.few)) (ap (λ (y : Two). y.first) two_fields)
+      gather_is s (8 * byte + bit) a first a (omega (arith, two_in.there, two_in.first, two_in.few)) two_fields.0
 
-  pub two_second : record { value = g.second; got = b } ≡ gather_of s (8 * byte + bit + a) b
+  pub two_second : record { value = second; got = b } ≡ gather_of s (8 * byte + bit + a) b
   two_second =
-      gather_is s (8 * byte + bit + a) b g.second b (omega (arith, two_in.there, two_in.first, two_in.few, two_in.fewer))
-      (ap (λ (y : Two). y.second) two_fields)
-
--- ---- taking
-
-pub take_wide : (s : List ℕ) (at w : ℕ) → 64 < w → TooWide ≡ take_of s at w
-unfolding take_of
-take_wide s at w h = simp (lt-leb w 64 h)
-
-module _ (s : List ℕ) (at w : ℕ) (g : Gathered) (k : w ≤ 64) (e : g ≡ gather_of s at w) where
-  got_is : g.got ≡ got_of (length s) at w
-  unfolding gather_of
-  got_is = ap (λ (x : Gathered). x.got) e
-
-  pub take_all : g.got ≡ w → Field g.value ≡ take_of s at w
-  unfolding take_of gather_of
-  take_all h =
-      simp (le-leb w 64 k, le-leb w (behind (length s) at) (omega (arith, got_is)))
-      (ap Field (ap (λ (x : Gathered). x.value) e ∙ ap (field_at s at) (sym got_is ∙ h)))
-
-  pub take_none : (g.got ≡ w → ⊥) → Missing ≡ take_of s at w
-  unfolding take_of
-  take_none h = simp (le-leb w 64 k, lt-leb w (behind (length s) at) (omega (arith, got_is, h)))
-
--- ---- putting
-
--- what is put, and the bits afterwards
-abbrev pub Putting : Placing → List ℕ → ℕ → ℕ → ℕ → List ℕ → Type 0
-Putting r s at w v after = (r ≡ put_of (length s) at w) × (after ≡ put_bits s at w v)
-
-by_answer : (r : Placing) (s : List ℕ) (at w v : ℕ) (after : List ℕ) → r ≡ put_of (length s) at w → after ≡ put_by r (bits s) at w v → Putting r s at w v after
-unfolding put_bits
-by_answer r s at w v after e h = (e, h ∙ ap (λ (x : Placing). put_by x (bits s) at w v) e)
-
-pub put_wide : (s : List ℕ) (at w v : ℕ) → 64 < w → Putting PutTooWide s at w v (bits s)
-unfolding put_of
-put_wide s at w v h = by_answer PutTooWide s at w v (bits s) (simp (lt-leb w 64 h)) refl
-
-pub put_full : (s : List ℕ) (at w v : ℕ) → w ≤ 64 → behind (length s) at < w → Putting NoRoom s at w v (bits s)
-unfolding put_of
-put_full s at w v k h = by_answer NoRoom s at w v (bits s) (simp (le-leb w 64 k, lt-leb w (behind (length s) at) h)) refl
-
-done : (s : List ℕ) (at w : ℕ) → w ≤ 64 → w ≤ behind (length s) at → Done ≡ put_of (length s) at w
-unfolding put_of
-done s at w k h = simp (le-leb w 64 k, le-leb w (behind (length s) at) h)
-
-pub put_nothing : (s : List ℕ) (at w v : ℕ) → w ≡ 0 → Putting Done s at w v (bits s)
-put_nothing s at w v z =
-    by_answer Done s at w v (bits s) (done s at w (omega arith) (omega arith))
-    (paste-zero (bits s) at (to_bits w v) ∙ ap (paste (bits s) at (to_bits w v)) (sym z))
-
-pub put_done : (s : List ℕ) (at w v p : ℕ) (after : List ℕ) → w ≤ 64 → w ≤ behind (length s) at → p ≡ at → after ≡ paste (bits s) p (to_bits w v) w → Putting Done s at w v after
-put_done s at w v p after k h q e =
-    by_answer Done s at w v after (done s at w k h) (e ∙ ap (λ (x : ℕ). paste (bits s) x (to_bits w v) w) q)
+      gather_is s (8 * byte + bit + a) b second b (omega (arith, two_in.there, two_in.first, two_in.few, two_in.fewer))
+      two_fields.1

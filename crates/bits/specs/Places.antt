@@ -1,14 +1,14 @@
 -- What taking a field from a string of bytes, and putting one into it, finds and leaves. A place is counted in bits from the front.
 -- Assumes nothing.
-use Rattle.std.specs.Prelude.{ℕ, ◌+◌, ◌-◌, ◌*◌, ◌<◌, ◌≤◌, min, List, Bool, true, false, cond, ◌&&◌, length, take, drop, leb, ltb}
+use Rattle.std.specs.Prelude.{ℕ, ◌+◌, ◌-◌, ◌*◌, ◌<◌, ◌≤◌, min, List, Bool, cond, ◌&&◌, length, take, drop, leb, ltb}
 use Rattle.std.proofs.Math.Seq.{paste}
 use Rattle.laws.specs.Bits.{bits, to_bits, value}
 use Rattle.bits.specs.declared.Gathered.{Gathered}
-use Rattle.bits.specs.declared.Two.{Two}
-use Rattle.bits.specs.declared.Taken.{Taken}
-use Rattle.bits.specs.declared.Taken.TheVariants.{Field, Missing, TooWide}
-use Rattle.bits.specs.declared.Placing.{Placing}
-use Rattle.bits.specs.declared.Placing.TheVariants.{Done, NoRoom, TooWide as PutTooWide}
+use Rattle.std.specs.Prelude.{Result, Ok, Err, Option, Some, None}
+use Rattle.bits.specs.declared.NotTaken.{NotTaken}
+use Rattle.bits.specs.declared.NotTaken.TheVariants.{Missing, TooWide}
+use Rattle.bits.specs.declared.NotPut.{NotPut}
+use Rattle.bits.specs.declared.NotPut.TheVariants.{NoRoom, TooWide as PutTooWide}
 
 -- the value of the w bits at a place
 unfoldable pub field_at : List ℕ → ℕ → ℕ → ℕ
@@ -41,25 +41,24 @@ unfoldable pub in_eight : ℕ → ℕ → ℕ → ℕ → ℕ → Bool
 in_eight n byte bit a b = leb 8 (n - byte) && (ltb bit 8 && ((ltb 0 a && leb a 32) && (ltb 0 b && leb b 24)))
 
 -- both of them, or neither
-unfoldable pub two_of : List ℕ → ℕ → ℕ → ℕ → ℕ → Two
+unfoldable pub two_of : List ℕ → ℕ → ℕ → ℕ → ℕ → Option (ℕ × ℕ)
 two_of s byte bit a b =
     cond (in_eight (length s) byte bit a b)
-    (record { there = true; first = field_at s (8 * byte + bit) a; second = field_at s (8 * byte + bit + a) b })
-    (record { there = false; first = 0; second = 0 })
+    (Some (field_at s (8 * byte + bit) a, field_at s (8 * byte + bit + a) b))
+    None
 
 -- a whole field, or nothing of it
-unfoldable pub take_of : List ℕ → ℕ → ℕ → Taken
-take_of s at w = cond (leb w 64) (cond (leb w (behind (length s) at)) (Field (field_at s at w)) Missing) TooWide
+unfoldable pub take_of : List ℕ → ℕ → ℕ → Result ℕ NotTaken
+take_of s at w = cond (leb w 64) (cond (leb w (behind (length s) at)) (Ok (field_at s at w)) (Err Missing)) (Err TooWide)
 
 -- whether a field is put: there is room for all of it
-unfoldable pub put_of : ℕ → ℕ → ℕ → Placing
-put_of n at w = cond (leb w 64) (cond (leb w (behind n at)) Done NoRoom) PutTooWide
+unfoldable pub put_of : ℕ → ℕ → ℕ → Result (Unit {0}) NotPut
+put_of n at w = cond (leb w 64) (cond (leb w (behind n at)) (Ok tt) (Err NoRoom)) (Err PutTooWide)
 
 -- the bits of the string afterwards: the w lowest bits of v at the place, every other bit as it was
-abbrev pub put_by : Placing → List ℕ → ℕ → ℕ → ℕ → List ℕ
-put_by Done bs at w v = paste bs at (to_bits w v) w
-put_by NoRoom bs at w v = bs
-put_by PutTooWide bs at w v = bs
+abbrev pub put_by : Result (Unit {0}) NotPut → List ℕ → ℕ → ℕ → ℕ → List ℕ
+put_by (Ok tt) bs at w v = paste bs at (to_bits w v) w
+put_by (Err why) bs at w v = bs
 
 unfoldable pub put_bits : List ℕ → ℕ → ℕ → ℕ → List ℕ
 put_bits s at w v = put_by (put_of (length s) at w) (bits s) at w v

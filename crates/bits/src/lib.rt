@@ -2,10 +2,13 @@
 // A place is a byte and a bit behind it, so that no place is too large for its number.
 #![tactic(auto)]
 
-ghost use Rattle.std.specs.Prelude.{◌≡◌, true, ◌+◌, ◌-◌, ◌*◌, ◌^◌, ◌<◌, ◌≤◌, length, set};
+ghost use Rattle.std.specs.Prelude.{◌≡◌, true, ◌+◌, ◌-◌, ◌*◌, ◌/◌, ◌%◌, ◌^◌, ◌<◌, ◌≤◌, length, min, set};
 ghost use Rattle.std.proofs.Math.Seq.{paste};
 ghost use Rattle.laws.specs.Bits.{bits, to_bits};
+ghost use Rattle.rules.specs.Recordings.{bit_at};
 ghost use Rattle.bits.specs.Places.{word_of, Near, field_at, got_of, gather_of, in_eight, two_of, take_of, put_of, put_bits};
+
+use rules::Place;
 
 // Bits that were taken: the number that they stand for, and how many there were.
 #[derive(Clone, Copy)]
@@ -14,76 +17,46 @@ pub struct Gathered {
     pub got: u32,
 }
 
-// A field that was taken.
-#[derive(Clone, Copy)]
-pub enum Taken {
-    Field(u64),
+// Why a field was not taken.
+#[derive(Clone, Copy, PartialEq, Eq, Debug)]
+pub enum NotTaken {
     Missing,
     TooWide,
 }
 
-// Two fields that were taken at once.
-#[derive(Clone, Copy)]
-pub struct Two {
-    pub there: bool,
-    pub first: u32,
-    pub second: u32,
-}
-
-// Whether a field was put.
-#[derive(Clone, Copy)]
-pub enum Placing {
-    Done,
+// Why a field was not put.
+#[derive(Clone, Copy, PartialEq, Eq, Debug)]
+pub enum NotPut {
     NoRoom,
     TooWide,
 }
 
-// How many of `width` bits, of 64 at most, `len` bytes have at a place.
-fn there(len: usize, byte: usize, bit: u32, width: u32) -> u32
-    ensures { result ≡ got_of len (8 * byte + bit) width }
+// The place `n` bits on; a byte that no number names is the last that one does.
+pub fn after(at: Place, n: u32) -> Place
+    ensures byte { result.byte ≡ min (at.byte + (at.bit + n) / 8) 18446744073709551615 }
+    ensures bit { result.bit ≡ (at.bit + n) % 8 }
 {
-    if len <= byte {
-        return 0;
+    let end = u64::from(at.bit) + u64::from(n);
+    Place {
+        byte: at.byte.saturating_add((end / 8) as usize),
+        bit: (end % 8) as u32,
     }
-    let w = if 64 < width { 64 } else { width };
-    let rest = len - byte;
-    if 1073741824 <= rest {
-        return w;
-    }
-    let have = 8 * rest;
-    let skipped = bit as usize;
-    if have <= skipped {
-        return 0;
-    }
-    if have - skipped < w as usize {
-        return (have - skipped) as u32;
-    }
-    w
 }
 
-fn wide(b: u8) -> u64
-    ensures { (result ≡ b) × (result < 256) }
+// How many of `width` bits, of 64 at most, `len` bytes have at a place.
+fn there(len: usize, at: Place, width: u32) -> u32
+    ensures { result ≡ got_of len (bit_at at) width }
 {
-    b as u64
+    let rest = len.saturating_sub(at.byte).saturating_mul(8);
+    rest.saturating_sub(at.bit as usize)
+        .min(width.min(64) as usize) as u32
 }
 
 // Whether a field lies in the four bytes from a byte on, and all four are there.
-fn near(len: usize, byte: usize, bit: u32, width: u32) -> bool
-    ensures { result ≡ true → Near len byte bit width }
+fn near(len: usize, at: Place, width: u32) -> bool
+    ensures { result ≡ true → Near len at.byte at.bit width }
 {
-    if width == 0 {
-        return false;
-    }
-    if 24 < width {
-        return false;
-    }
-    if 8 <= bit {
-        return false;
-    }
-    if len <= byte {
-        return false;
-    }
-    4 <= len - byte
+    0 < width && width <= 24 && at.bit < 8 && at.byte < len && 4 <= len - at.byte
 }
 
 // Four bytes as one number.
@@ -91,48 +64,43 @@ fn four(s: &[u8], byte: usize) -> u64
     requires { byte + 4 ≤ length s.now }
     ensures { result ≡ word_of s.now byte 4 }
 {
-    let high = wide(s[byte]) * 16777216 + wide(s[byte + 1]) * 65536;
-    let low = wide(s[byte + 2]) * 256 + wide(s[byte + 3]);
-    high + low
+    u32::from_be_bytes([s[byte], s[byte + 1], s[byte + 2], s[byte + 3]]) as u64
 }
 
 // A field of 32 bits at most: the bytes that it touches as one number, without the bits in front and behind.
-fn word(s: &[u8], byte: usize, bit: u32, width: u32) -> u64
-    requires { (bit < 8) × (width ≤ 32) × (8 * byte + bit + width ≤ 8 * length s.now) }
-    ensures { result ≡ field_at s.now (8 * byte + bit) width }
+fn word(s: &[u8], at: Place, width: u32) -> u64
+    requires { (at.bit < 8) × (width ≤ 32) × (bit_at at + width ≤ 8 * length s.now) }
+    ensures { result ≡ field_at s.now (bit_at at) width }
 {
     if width == 0 {
         return 0;
     }
-    let n = (bit + width + 7) / 8;
+    let n = (at.bit + width + 7) / 8;
     let mut v: u64 = 0;
-    let mut j: u32 = 0;
-    while j < n {
-        v = v * 256 + s[byte + j as usize] as u64;
-        j += 1;
+    for b in &s[at.byte..at.byte + n as usize] {
+        v = v * 256 + *b as u64;
     }
-    (v << (64 - (8 * n - bit))) >> (64 - width)
+    (v << (64 - (8 * n - at.bit))) >> (64 - width)
 }
 
 // The bits at a place, one word or two.
-fn far(s: &[u8], byte: usize, bit: u32, width: u32) -> Gathered
-    ensures { result ≡ gather_of s.now (8 * byte + bit) width }
+#[tactic(auto, unfolding(crate::specs::Places::gather_of))]
+fn far(s: &[u8], at: Place, width: u32) -> Gathered
+    ensures { result ≡ gather_of s.now (bit_at at) width }
 {
-    let got = there(s.len(), byte, bit, width);
+    let got = there(s.len(), at, width);
     if got == 0 {
         return Gathered { value: 0, got: 0 };
     }
-    let first = byte + (bit / 8) as usize;
-    let from = bit % 8;
+    let first = after(at, 0);
     if got <= 32 {
         return Gathered {
-            value: word(s, first, from, got),
+            value: word(s, first, got),
             got,
         };
     }
-    let end = from + (got - 32);
-    let high = word(s, first, from, got - 32);
-    let low = word(s, first + (end / 8) as usize, end % 8, 32);
+    let high = word(s, first, got - 32);
+    let low = word(s, after(first, got - 32), 32);
     Gathered {
         value: high * 4294967296 + low,
         got,
@@ -140,16 +108,16 @@ fn far(s: &[u8], byte: usize, bit: u32, width: u32) -> Gathered
 }
 
 // The bits at a place: as many as are asked for, 64 at most, and as many as there are.
-pub fn gather(s: &[u8], byte: usize, bit: u32, width: u32) -> Gathered
-    ensures { result ≡ gather_of s.now (8 * byte + bit) width }
+pub fn gather(s: &[u8], at: Place, width: u32) -> Gathered
+    ensures { result ≡ gather_of s.now (bit_at at) width }
 {
-    if near(s.len(), byte, bit, width) {
+    if near(s.len(), at, width) {
         return Gathered {
-            value: (four(s, byte) << (32 + bit)) >> (64 - width),
+            value: (four(s, at.byte) << (32 + at.bit)) >> (64 - width),
             got: width,
         };
     }
-    far(s, byte, bit, width)
+    far(s, at, width)
 }
 
 // Eight bytes as one number.
@@ -163,50 +131,43 @@ fn eight(s: &[u8], byte: usize) -> u64
 }
 
 // Whether two fields lie in the eight bytes from a byte on, and all eight are there.
-fn in_eight(len: usize, byte: usize, bit: u32, first: u32, second: u32) -> bool
-    ensures { result ≡ in_eight len byte bit first second }
+#[tactic(auto, unfolding(crate::specs::Places::in_eight))]
+fn in_eight(len: usize, at: Place, first: u32, second: u32) -> bool
+    ensures { result ≡ in_eight len at.byte at.bit first second }
 {
-    if len <= byte {
-        return false;
-    }
-    let there = 8 <= len - byte;
+    let there = 8 <= len.saturating_sub(at.byte);
     let one = (0 < first) & (first <= 32);
     let other = (0 < second) & (second <= 24);
-    there & ((bit < 8) & (one & other))
+    there & ((at.bit < 8) & (one & other))
 }
 
 // Two fields, one behind the other, in eight bytes that are there: both at once, or neither.
-pub fn take_two(s: &[u8], byte: usize, bit: u32, first: u32, second: u32) -> Two
-    ensures { result ≡ two_of s.now byte bit first second }
+pub fn take_two(s: &[u8], at: Place, first: u32, second: u32) -> Option<(u32, u32)>
+    ensures { result ≡ two_of s.now at.byte at.bit first second }
 {
-    if in_eight(s.len(), byte, bit, first, second) {
-        let w = eight(s, byte);
-        return Two {
-            there: true,
-            first: ((w << bit) >> (64 - first)) as u32,
-            second: ((w << (bit + first)) >> (64 - second)) as u32,
-        };
+    if in_eight(s.len(), at, first, second) {
+        let w = eight(s, at.byte);
+        let one = ((w << at.bit) >> (64 - first)) as u32;
+        let other = ((w << (at.bit + first)) >> (64 - second)) as u32;
+        return Some((one, other));
     }
-    Two {
-        there: false,
-        first: 0,
-        second: 0,
-    }
+    None
 }
 
 // The field of `width` bits at a place.
-pub fn take(s: &[u8], byte: usize, bit: u32, width: u32) -> Taken
-    ensures { result ≡ take_of s.now (8 * byte + bit) width }
+#[tactic(auto, unfolding(crate::specs::Places::take_of, crate::specs::Places::gather_of))]
+pub fn take(s: &[u8], at: Place, width: u32) -> Result<u64, NotTaken>
+    ensures { result ≡ take_of s.now (bit_at at) width }
 {
     if 64 < width {
-        return Taken::TooWide;
+        return Err(NotTaken::TooWide);
     }
-    let g = gather(s, byte, bit, width);
+    let g = gather(s, at, width);
     let got = g.got;
     if got == width {
-        Taken::Field(g.value)
+        Ok(g.value)
     } else {
-        Taken::Missing
+        Err(NotTaken::Missing)
     }
 }
 
@@ -219,42 +180,40 @@ fn with_bit(b: u8, k: u8, x: u8) -> u8
     b - (b >> k) % 2 * m + x * m
 }
 
-// The bit `bit` of the byte `byte` is `x`; no other bit changes.
-fn set_bit(buf: &mut [u8], byte: usize, bit: u32, x: u8)
-    requires { (byte < length buf.old) × (bit < 8) × (x < 2) }
-    ensures { bits buf.new ≡ set (bits buf.old) (8 * byte + bit) x }
+// The bit at a place is `x`; no other bit changes.
+fn set_bit(buf: &mut [u8], at: Place, x: u8)
+    requires { (at.byte < length buf.old) × (at.bit < 8) × (x < 2) }
+    ensures { bits buf.new ≡ set (bits buf.old) (bit_at at) x }
 {
-    let k = (7 - bit) as u8;
-    buf[byte] = with_bit(buf[byte], k, x);
+    let k = (7 - at.bit) as u8;
+    buf[at.byte] = with_bit(buf[at.byte], k, x);
 }
 
 // The `width` lowest bits of `v` at a place with room for them, one after the other.
-fn put_all(buf: &mut [u8], byte: usize, bit: u32, width: u32, v: u64)
-    requires { (bit < 8) × (width ≤ 64) × (8 * byte + bit + width ≤ 8 * length buf.old) }
-    ensures { bits buf.new ≡ paste (bits buf.old) (8 * byte + bit) (to_bits width v) width }
+fn put_all(buf: &mut [u8], at: Place, width: u32, v: u64)
+    requires { (at.bit < 8) × (width ≤ 64) × (bit_at at + width ≤ 8 * length buf.old) }
+    ensures { bits buf.new ≡ paste (bits buf.old) (bit_at at) (to_bits width v) width }
 {
-    let mut i: u32 = 0;
-    while i < width {
-        let at = bit + i;
+    for i in 0..width {
         let x = (v >> (width - 1 - i)) % 2;
-        set_bit(buf, byte + (at / 8) as usize, at % 8, x as u8);
-        i += 1;
+        set_bit(buf, after(at, i), x as u8);
     }
 }
 
 // The `width` lowest bits of `v` go to a place, if there is room for all of them; no other bit changes.
-pub fn put(buf: &mut [u8], byte: usize, bit: u32, width: u32, v: u64) -> Placing
-    ensures { (result ≡ put_of (length buf.old) (8 * byte + bit) width) × (bits buf.new ≡ put_bits buf.old (8 * byte + bit) width v) }
+#[tactic(auto, unfolding(crate::specs::Places::put_of, crate::specs::Places::put_bits))]
+pub fn put(buf: &mut [u8], at: Place, width: u32, v: u64) -> Result<(), NotPut>
+    ensures { (result ≡ put_of (length buf.old) (bit_at at) width) × (bits buf.new ≡ put_bits buf.old (bit_at at) width v) }
 {
     if 64 < width {
-        return Placing::TooWide;
+        return Err(NotPut::TooWide);
     }
     if width == 0 {
-        return Placing::Done;
+        return Ok(());
     }
-    if there(buf.len(), byte, bit, width) < width {
-        return Placing::NoRoom;
+    if there(buf.len(), at, width) < width {
+        return Err(NotPut::NoRoom);
     }
-    put_all(buf, byte + (bit / 8) as usize, bit % 8, width, v);
-    Placing::Done
+    put_all(buf, after(at, 0), width, v);
+    Ok(())
 }

@@ -26,20 +26,15 @@ pub fn first() -> Frames
 fn step(f: Frames, b: u8) -> Frames
     ensures { result ≡ step_of f b }
 {
-    let left = f.left;
-    let carried = f.carried;
-    if left == 0 {
+    if f.left == 0 {
         return Frames {
-            carried,
+            carried: f.carried,
             left: b as usize,
         };
     }
-    let piece = [b];
-    let r = sheet_read::feed(carried, &piece);
-    let next = r.carried;
     Frames {
-        carried: next,
-        left: left - 1,
+        carried: sheet_read::feed(f.carried, &[b]).carried,
+        left: f.left - 1,
     }
 }
 
@@ -48,10 +43,8 @@ pub fn take(f: Frames, bytes: &[u8]) -> Frames
     ensures { result ≡ taken_of f bytes.now }
 {
     let mut next = f;
-    let mut i = 0;
-    while i < bytes.len() {
-        next = step(next, bytes[i]);
-        i += 1;
+    for b in bytes {
+        next = step(next, *b);
     }
     next
 }

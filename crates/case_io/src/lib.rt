@@ -2,7 +2,6 @@
 // A read or a write that fails ends them, and is handed to the caller.
 #![tactic(auto)]
 
-ghost use Rattle.std.specs.Prelude.{◌<◌};
 ghost use Rattle.std.specs.Io.{ReadsAtMost};
 
 use replay_lines::Replaying;
@@ -12,24 +11,18 @@ use std::rt::Files;
 use std::{fs, io};
 use trace_steps::Tracing;
 
-fn wide(b: u8) -> u64
-    ensures { result < 256 }
-{
-    b as u64
-}
-
 // A length of four bytes, most significant first; the end mark where the file ends.
-fn next_length(file: &mut impl Read) -> io::Result<u64> {
+fn next_length(file: &mut impl Read) -> io::Result<u32> {
     let mut b = [0u8; 4];
     let n = file_io::read_full(file, &mut b)?;
     if n < 4 {
-        return Ok(4294967295);
+        return Ok(u32::MAX);
     }
-    Ok(wide(b[0]) * 16777216 + wide(b[1]) * 65536 + wide(b[2]) * 256 + wide(b[3]))
+    Ok(u32::from_be_bytes(b))
 }
 
 // The next `n` bytes, at the front of a buffer that has room for them.
-fn next_bytes(file: &mut impl Read, n: u64, buf: &mut [u8]) -> io::Result<usize>
+fn next_bytes(file: &mut impl Read, n: u32, buf: &mut [u8]) -> io::Result<usize>
     ensures { ReadsAtMost result buf.new }
 {
     let room = page::within(n as usize, buf);
@@ -38,14 +31,14 @@ fn next_bytes(file: &mut impl Read, n: u64, buf: &mut [u8]) -> io::Result<usize>
 }
 
 // The sheet of a case, of `n` bytes.
-fn sheet_of(file: &mut impl Read, n: u64) -> io::Result<ReadResult> {
+fn sheet_of(file: &mut impl Read, n: u32) -> io::Result<ReadResult> {
     let mut bytes = [0u8; file_io::BUFFER];
     let len = next_bytes(file, n, &mut bytes)?;
     Ok(sheet_read::read(&bytes[..len]))
 }
 
 // The last `n` bytes of a case's trace, fewer than 64, and its end.
-fn rest_of(rt: &impl Print, file: &mut impl Read, t: Tracing, n: u64) -> io::Result<()> {
+fn rest_of(rt: &impl Print, file: &mut impl Read, t: Tracing, n: u32) -> io::Result<()> {
     let mut piece = [0u8; 64];
     let len = next_bytes(file, n, &mut piece)?;
     let last = trace_io::print_piece(rt, t, &piece[..len])?;
@@ -53,7 +46,7 @@ fn rest_of(rt: &impl Print, file: &mut impl Read, t: Tracing, n: u64) -> io::Res
 }
 
 // The trace of a case, of `n` bytes.
-fn trace_of(rt: &impl Print, file: &mut impl Read, begun: Tracing, n: u64) -> io::Result<()> {
+fn trace_of(rt: &impl Print, file: &mut impl Read, begun: Tracing, n: u32) -> io::Result<()> {
     let mut t = begun;
     for _ in 0..n / 64 {
         let mut piece = [0u8; 64];
@@ -64,7 +57,7 @@ fn trace_of(rt: &impl Print, file: &mut impl Read, begun: Tracing, n: u64) -> io
 }
 
 // The recording of a case, of `n` bytes, 4,096 at most.
-fn replay_of(rt: &impl Print, file: &mut impl Read, begun: Replaying, n: u64) -> io::Result<()> {
+fn replay_of(rt: &impl Print, file: &mut impl Read, begun: Replaying, n: u32) -> io::Result<()> {
     let mut bytes = [0u8; file_io::BUFFER];
     let len = next_bytes(file, n, &mut bytes)?;
     replay_io::print_pages(rt, &bytes[..len], begun)
@@ -87,7 +80,7 @@ fn made_of(rt: &impl Print, file: &mut impl Read, kind: Kind, r: ReadResult) -> 
 }
 
 // A case's number, and what is made of its sheet, of `n` bytes, and of what follows it.
-fn one_case(rt: &impl Print, file: &mut impl Read, kind: Kind, at: u64, n: u64) -> io::Result<()> {
+fn one_case(rt: &impl Print, file: &mut impl Read, kind: Kind, at: u64, n: u32) -> io::Result<()> {
     let head = line::put(line::one(line::blank(), b"case", at), b'\n');
     file_io::say(rt, head)?;
     let sheet = sheet_of(file, n)?;

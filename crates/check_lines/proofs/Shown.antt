@@ -7,8 +7,10 @@ use mathlib.Core.Path.{◌≡◌, refl, sym, ap, ap₂, subst, ◌∙◌}
 use mathlib.Core.Bool.{Bool, true, false, cond}
 use mathlib.Core.List.{List, [], ◌∷◌, ◌++◌, append_assoc, append-nil}
 use lib.ListN.{length, length-append}
-use lib.Dec.{leb}
-use borrow.Author.Tests.{le-leb, lt-leb}
+use lib.Dec.{leb, eqb}
+use native.Mathlib.Decide.{dec_lt}
+use borrow.Author.Tests.{le-leb, lt-leb, eq-eqb, ne_eqb}
+use Rattle.std.specs.Prelude.{Option, Some, None}
 use Rattle.laws.specs.Lists.{flat}
 use Rattle.rules.specs.declared.Set.{Set}
 use Rattle.rules.specs.declared.Verdict.{Verdict}
@@ -23,7 +25,7 @@ use Rattle.page.specs.Pages.{room_for, Onto, appended, end_of}
 use Rattle.page.proofs.Pieces.{onto_line, onto_none, onto_room, onto_then, onto_size}
 use Rattle.page.proofs.Rooms.{room_for_lem}
 use Rattle.load_parts.specs.declared.Part.{Part}
-use Rattle.load_parts.specs.declared.Part.TheVariants.{Nothing, Due, Blocks}
+use Rattle.load_parts.specs.declared.Part.TheVariants.{Due, Blocks}
 use Rattle.load_parts.specs.Parts.{stream_part, task_part, first_of, parts_of}
 use Rattle.check_lines.specs.Told.{progress_words, due_words, block_words, part_line, sixteen_room, parts_room, shown_room, first_lines, part_lines, LinesOfParts, made_of, shown_of}
 
@@ -44,10 +46,10 @@ due_words_lem k c e =
       one (letters " times") e,
     )
 
-pub part_short : (p : Part) → length (part_line p) ≤ line_room
-part_short Nothing = omega arith
-part_short (Due k c e) = line_short (due_words k c e) (due_words_lem k c e)
-part_short (Blocks t b) = line_short (block_words t b) (two_words (letters "task") (letters " blocked by") t b (omega arith))
+pub part_short : (p : Option Part) → length (part_line p) ≤ line_room
+part_short None = omega arith
+part_short (Some (Due k c e)) = line_short (due_words k c e) (due_words_lem k c e)
+part_short (Some (Blocks t b)) = line_short (block_words t b) (two_words (letters "task") (letters " blocked by") t b (omega arith))
 
 pub progress_short : (k n : ℕ) → length (progress_words k n) ≤ 95
 progress_short k n = two_words (letters "tested") (letters " of") k n (omega arith)
@@ -57,23 +59,23 @@ block_short t b = two_words (letters "task") (letters " blocked by") t b (omega 
 
 -- ---- the lines of the first parts stand on the page
 
-pub record Showing (f : ℕ → Part) (out₀ : List ℕ) (at : ℕ) (out : List ℕ) (end k : ℕ) : Type 0 where
+pub record Showing (f : ℕ → Option Part) (out₀ : List ℕ) (at : ℕ) (out : List ℕ) (end k : ℕ) : Type 0 where
   pub few : k ≤ 16
   pub low : length (first_lines f k) ≤ k * 128
   pub onto : Onto out₀ at (first_lines f k) end out
 
-pub show_start : (f : ℕ → Part) (out : List ℕ) (at : ℕ) → Showing f out at out at 0
+pub show_start : (f : ℕ → Option Part) (out : List ℕ) (at : ℕ) → Showing f out at out at 0
 unfolding first_lines
 show_start f out at = record { few = omega arith; low = omega arith; onto = onto_none out at }
 
-pub show_turn : (f : ℕ → Part) (out₀ : List ℕ) (at : ℕ) (out : List ℕ) (end k : ℕ) (p : Part) (l : Line) (end' : ℕ) (out' : List ℕ)
+pub show_turn : (f : ℕ → Option Part) (out₀ : List ℕ) (at : ℕ) (out : List ℕ) (end k : ℕ) (p : Option Part) (l : Line) (end' : ℕ) (out' : List ℕ)
     → Showing f out₀ at out end k → room_for out₀ at sixteen_room ≡ true → k < 16 → p ≡ f k → l ≡ holding (part_line p)
     → (end' ≡ end_of out end l) × (out' ≡ appended out end l) → Showing f out₀ at out' end' (k + 1)
 unfolding first_lines
 show_turn f out₀ at out end k p l end' out' s room h e g q =
     let w : List ℕ = part_line (f k) in
     let short : length w ≤ 128 = part_short (f k) in
-    let line : Onto out end w end' out' = onto_line out w end l end' out' short (g ∙ ap (λ (y : Part). holding (part_line y)) e) q in
+    let line : Onto out end w end' out' = onto_line out w end l end' out' short (g ∙ ap (λ (y : Option Part). holding (part_line y)) e) q in
     let both : Onto out₀ at (first_lines f k ++ w) end' out' = onto_then out₀ (first_lines f k) at sixteen_room end out room s.onto w end' out' (omega (arith, s.low)) line in
     let more : length (first_lines f k ++ w) ≤ (k + 1) * 128 = omega (arith, length-append (first_lines f k) w, s.low) in
     record {
@@ -82,13 +84,57 @@ show_turn f out₀ at out end k p l end' out' s room h e g q =
       onto = subst (λ (n : ℕ). Onto out₀ at (first_lines f n) end' out') (sym (add-one k)) both;
     }
 
-pub show_size : (f : ℕ → Part) (out₀ : List ℕ) (at : ℕ) (out : List ℕ) (end k : ℕ) → Showing f out₀ at out end k → length out ≡ length out₀
+pub show_size : (f : ℕ → Option Part) (out₀ : List ℕ) (at : ℕ) (out : List ℕ) (end k : ℕ) → Showing f out₀ at out end k → length out ≡ length out₀
 show_size f out₀ at out end k s = onto_size out₀ (first_lines f k) at end out s.onto
 
-pub show_end : (f : ℕ → Part) (out₀ : List ℕ) (at : ℕ) (out : List ℕ) (end k : ℕ) → Showing f out₀ at out end k → 16 ≤ k → Onto out₀ at (first_lines f 16) end out
+pub show_end : (f : ℕ → Option Part) (out₀ : List ℕ) (at : ℕ) (out : List ℕ) (end k : ℕ) → Showing f out₀ at out end k → 16 ≤ k → Onto out₀ at (first_lines f 16) end out
 show_end f out₀ at out end k s h = subst (λ (n : ℕ). Onto out₀ at (first_lines f n) end out) (let e : k ≡ 16 = omega (arith, s.few) in e) s.onto
 
-lines_low : (f : ℕ → Part) (k : ℕ) → length (first_lines f k) ≤ k * 128
+-- the same parts have the same lines
+pub lines_same : (f g : ℕ → Option Part) (n : ℕ) → ((k : ℕ) → k < n → f k ≡ g k) → first_lines f n ≡ first_lines g n
+unfolding first_lines
+lines_same f g zero e = refl
+lines_same f g (suc n) e = ap₂ ◌++◌ (lines_same f g n (λ k h. e k (omega arith))) (ap part_line (e n (omega arith)))
+
+pub lines_onto : (f g : ℕ → Option Part) (out₀ : List ℕ) (at : ℕ) (end : ℕ) (out : List ℕ) → ((k : ℕ) → k < 16 → f k ≡ g k) → Onto out₀ at (first_lines f 16) end out
+    → Onto out₀ at (first_lines g 16) end out
+lines_onto f g out₀ at end out e o = subst (λ (w : List ℕ). Onto out₀ at w end out) (lines_same f g 16 e) o
+
+-- f, with p at k
+abbrev pub with_part : (ℕ → Option Part) → ℕ → Option Part → ℕ → Option Part
+with_part f k p j = cond (eqb j k) p (f j)
+
+pub with_same : (f : ℕ → Option Part) (k : ℕ) (p : Option Part) → with_part f k p k ≡ p
+with_same f k p = rw (eq-eqb k k refl)
+
+pub with_other : (f : ℕ → Option Part) (k : ℕ) (p : Option Part) (j : ℕ) → j < k → with_part f k p j ≡ f j
+with_other f k p j h = rw (ne_eqb j k (apart h))
+  where
+    apart : j < k → j ≡ k → ⊥
+    apart h e = omega arith
+
+-- what is true of each number below k and its part is true below k + 1
+pub parts_more : (P : ℕ → Option Part → Type 0) (f : ℕ → Option Part) (k : ℕ) (p : Option Part) → ((j : ℕ) → j < k → P j (f j)) → P k p
+    → (j : ℕ) → j < k + 1 → P j (with_part f k p j)
+parts_more P f k p old new j h =
+    elim (dec_lt j k) [
+      | yes y ↦ subst (P j) (sym (with_other f k p j y)) (old j y)
+      | no g ↦ subst (λ (n : ℕ). P n (with_part f k p n)) (same g) (subst (P k) (sym (with_same f k p)) new)
+    ]
+  where
+    same : ¬ (j < k) → k ≡ j
+    same g = omega arith
+
+pub showing_same : (f g : ℕ → Option Part) (out₀ : List ℕ) (at : ℕ) (out : List ℕ) (end k : ℕ) → ((j : ℕ) → j < k → f j ≡ g j) → Showing f out₀ at out end k → Showing g out₀ at out end k
+showing_same f g out₀ at out end k e s =
+    let same : first_lines f k ≡ first_lines g k = lines_same f g k e in
+    record {
+      few = s.few;
+      low = subst (λ (w : List ℕ). length w ≤ k * 128) same s.low;
+      onto = subst (λ (w : List ℕ). Onto out₀ at w end out) same s.onto;
+    }
+
+lines_low : (f : ℕ → Option Part) (k : ℕ) → length (first_lines f k) ≤ k * 128
 unfolding first_lines
 lines_low f zero = omega arith
 lines_low f (suc k) = omega (arith, length-append (first_lines f k) (part_line (f k)), lines_low f k, part_short (f k))
@@ -154,12 +200,12 @@ no_room_for_all x v out h = rw (lt-leb shown_room (length out) h) (onto_none out
 
 -- ---- the lines are those of the parts of a demand
 
-flat_append : (ps qs : List Part) → flat part_line (ps ++ qs) ≡ flat part_line ps ++ flat part_line qs
+flat_append : (ps qs : List (Option Part)) → flat part_line (ps ++ qs) ≡ flat part_line ps ++ flat part_line qs
 unfolding flat
 flat_append [] qs = refl
 flat_append (p ∷ ps) qs = ap (λ (w : List ℕ). part_line p ++ w) (flat_append ps qs) ∙ sym (append_assoc (part_line p) (flat part_line ps) (flat part_line qs))
 
-lines_first : (f : ℕ → Part) (n : ℕ) → first_lines f n ≡ flat part_line (first_of f n)
+lines_first : (f : ℕ → Option Part) (n : ℕ) → first_lines f n ≡ flat part_line (first_of f n)
 unfolding first_lines first_of flat
 lines_first f zero = refl
 lines_first f (suc n) =

@@ -1,6 +1,6 @@
 -- What the check program prints.
 -- Assumes nothing.
-use Rattle.std.specs.Prelude.{ℕ, zero, suc, ◌*◌, cond, List, [], ◌++◌, ◌≡◌, length, leb}
+use Rattle.std.specs.Prelude.{ℕ, zero, suc, ◌*◌, cond, Option, Some, None, List, [], ◌++◌, ◌≡◌, length, leb}
 use Rattle.laws.specs.Lists.{flat}
 use Rattle.rules.specs.declared.Set.{Set}
 use Rattle.rules.specs.declared.Verdict.{Verdict}
@@ -10,7 +10,7 @@ use Rattle.ascii.specs.Decimal.{letters}
 use Rattle.line.specs.Line.{line_room}
 use Rattle.answer_words.specs.Words.{nr, says, line_of}
 use Rattle.load_parts.specs.declared.Part.{Part}
-use Rattle.load_parts.specs.declared.Part.TheVariants.{Nothing, Due, Blocks}
+use Rattle.load_parts.specs.declared.Part.TheVariants.{Due, Blocks}
 use Rattle.load_parts.specs.Parts.{stream_part, task_part, parts_of}
 
 -- "lengths tested of how many"
@@ -27,13 +27,13 @@ due_words k c e = letters "stream" ++ nr k ++ (letters " cost" ++ nr c) ++ (lett
 abbrev pub block_words : ℕ → ℕ → List ℕ
 block_words t b = letters "task" ++ nr t ++ (letters " blocked by" ++ nr b)
 
-abbrev pub part_line : Part → List ℕ
-part_line Nothing = []
-part_line (Due k c e) = line_of (due_words k c e)
-part_line (Blocks t b) = line_of (block_words t b)
+abbrev pub part_line : Option Part → List ℕ
+part_line None = []
+part_line (Some (Due k c e)) = line_of (due_words k c e)
+part_line (Some (Blocks t b)) = line_of (block_words t b)
 
 -- the lines of the parts that f gives of the numbers below n
-unfoldable pub first_lines : (ℕ → Part) → ℕ → List ℕ
+unfoldable pub first_lines : (ℕ → Option Part) → ℕ → List ℕ
 first_lines f zero = []
 first_lines f (suc n) = first_lines f n ++ part_line (f n)
 

@@ -1,10 +1,9 @@
 // What the check program prints: how far it is, the verdict, and what a late length's demand is made of.
 #![tactic(auto)]
 
-ghost use Rattle.std.specs.Prelude.{◌≡◌, true};
+ghost use Rattle.std.specs.Prelude.{ℕ, ◌≡◌, ◌<◌, true, Option};
 ghost use Rattle.line.specs.Line.{holding};
 ghost use Rattle.page.specs.Pages.{room_for, Onto};
-ghost use Rattle.load_parts.specs.Parts.{stream_part, task_part};
 ghost use Rattle.check_lines.specs.Told.{part_line, progress_line, sixteen_room, parts_room, first_lines, part_lines, made_of, shown_of};
 
 use line::Line;
@@ -18,24 +17,24 @@ pub const ROOM: usize = 33 * line::ROOM;
 pub fn progress_line(tested: u32, all: u32) -> Line
     ensures { result ≡ holding (progress_line tested all) }
 {
-    let front = line::one(line::blank(), b"tested", tested as u64);
-    line::put(line::one(front, b" of", all as u64), b'\n')
+    let front = line::one(line::blank(), b"tested", u64::from(tested));
+    line::put(line::one(front, b" of", u64::from(all)), b'\n')
 }
 
-// A part that is nothing has no line.
-pub fn part_line(p: Part) -> Line
+// No part has no line.
+pub fn part_line(p: Option<Part>) -> Line
     ensures { result ≡ holding (part_line p) }
 {
     match p {
-        Part::Nothing => line::blank(),
-        Part::Due(k, c, e) => {
+        None => line::blank(),
+        Some(Part::Due(k, c, e)) => {
             let front = line::one(line::blank(), b"stream", k as u64);
             line::put(
                 line::one(line::one(front, b" cost", c), b" times", e),
                 b'\n',
             )
         }
-        Part::Blocks(t, b) => {
+        Some(Part::Blocks(t, b)) => {
             let front = line::one(line::blank(), b"task", t as u64);
             line::put(line::one(front, b" blocked by", b), b'\n')
         }
@@ -44,38 +43,26 @@ pub fn part_line(p: Part) -> Line
 
 // ---- the page
 
-fn streams_onto(x: Set, i: u32, out: &mut [u8], at: usize) -> usize
-    requires { room_for out.old at sixteen_room ≡ true }
-    ensures { Onto out.old at (first_lines (stream_part x i) 16) result out.new }
+// The lines of the parts of 16 numbers, in their order.
+fn sixteen_onto<F: Fn(usize) -> Option<Part>>(part: F, out: &mut [u8], at: usize) -> usize
+    requires call { F.IsAlwaysCallable part }
+    requires room { room_for out.old at sixteen_room ≡ true }
+    ensures { (f : ℕ → Option Part) × ((k : ℕ) → k < 16 → F.post part k (f k)) × Onto out.old at (first_lines f 16) result out.new }
 {
     let mut end = at;
-    let mut k: usize = 0;
-    while k < 16 {
-        end = page::append(out, end, part_line(load_parts::stream_part(x, i, k)));
-        k += 1;
+    for k in 0..16 {
+        end = page::append(out, end, part_line(part(k)));
     }
     end
 }
 
-fn tasks_onto(x: Set, i: u32, out: &mut [u8], at: usize) -> usize
-    requires { room_for out.old at sixteen_room ≡ true }
-    ensures { Onto out.old at (first_lines (task_part x i) 16) result out.new }
-{
-    let mut end = at;
-    let mut k: usize = 0;
-    while k < 16 {
-        end = page::append(out, end, part_line(load_parts::task_part(x, i, k)));
-        k += 1;
-    }
-    end
-}
-
+// The streams, then the tasks.
 fn parts_onto(x: Set, i: u32, out: &mut [u8], at: usize) -> usize
     requires { room_for out.old at parts_room ≡ true }
     ensures { Onto out.old at (part_lines x i) result out.new }
 {
-    let end = streams_onto(x, i, out, at);
-    tasks_onto(x, i, out, end)
+    let end = sixteen_onto(|k| load_parts::stream_part(x, i, k), out, at);
+    sixteen_onto(|t| load_parts::task_part(x, i, t), out, end)
 }
 
 // Only a late length has parts.
@@ -91,9 +78,7 @@ fn made_onto(x: Set, v: Verdict, out: &mut [u8], at: usize) -> usize
                 at
             }
         }
-        Verdict::Accept => at,
-        Verdict::Overload => at,
-        Verdict::Refused(_) => at,
+        Verdict::Accept | Verdict::Overload | Verdict::Refused(_) => at,
     }
 }
 

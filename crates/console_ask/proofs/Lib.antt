@@ -1,4 +1,5 @@
 pub mod Lines
+pub mod Told
 pub mod States
 pub mod Sheets
 pub mod Once

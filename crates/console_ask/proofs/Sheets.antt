@@ -10,7 +10,8 @@ use lib.Dec.{leb}
 use borrow.Author.Tests.{le-leb, lt-leb, leb-true}
 use Rattle.laws.proofs.Sums.{by_test}
 use Rattle.rules.specs.declared.Set.{Set}
-use Rattle.rules.specs.declared.WriteAnswer.{WriteAnswer}
+use Rattle.std.specs.Prelude.{Result}
+use Rattle.rules.specs.declared.Refusal.{Refusal}
 use Rattle.rules.specs.Numbers.{write_says}
 use Rattle.rules.specs.Streams.{valid}
 use Rattle.rules.specs.Sheet.{sheet_of, write_of, buffer_of}
@@ -34,7 +35,7 @@ module _ (x : Set) (buf out : List ℕ) (at : ℕ) (small : length buf ≤ most_
   wrote_short : length wrote_line ≤ line_room
   wrote_short = line_short (says (write_says (write_of x (length buf)))) (says_short (write_says (write_of x (length buf))))
 
-  pub sheet_onto : (w : WriteAnswer) (buf' : List ℕ) (k l : Line) (a b end : ℕ) (o p page : List ℕ)
+  pub sheet_onto : (w : Result ℕ Refusal) (buf' : List ℕ) (k l : Line) (a b end : ℕ) (o p page : List ℕ)
       → (w ≡ write_of x (length buf)) × (buf' ≡ buffer_of x buf) → length buf' ≡ length buf
       → k ≡ holding (line_of (says (write_says w))) → (a ≡ end_of out at k) × (o ≡ appended out at k)
       → Onto o a (hexed buf') b p → l ≡ holding (line_of []) → (end ≡ end_of p b l) × (page ≡ appended p b l)
@@ -43,7 +44,7 @@ module _ (x : Set) (buf out : List ℕ) (at : ℕ) (small : length buf ≤ most_
   sheet_onto w buf' k l a b end o p page e size f g q h i =
       hex_lines_onto wrote_line (buffer_of x buf) out at answer_room room wrote_short
       (omega (arith, wrote_short, ap length e.1, size)) k l a b end o p page
-      (f ∙ ap (λ (v : WriteAnswer). holding (line_of (says (write_says v)))) e.0) g (rw e.1 at q) h i
+      (f ∙ ap (λ (v : Result ℕ Refusal). holding (line_of (says (write_says v)))) e.0) g (rw e.1 at q) h i
 
 -- the buffer keeps its length
 buffer_kept : (x : Set) (buf : List ℕ) → length (buffer_of x buf) ≡ length buf

@@ -1,13 +1,12 @@
 -- The console's page: what each question prints.
 -- Assumes nothing.
-use Rattle.std.specs.Prelude.{ℕ, ◌+◌, ◌*◌, Bool, true, false, cond, List, [], ◌∷◌, ◌++◌, ◌≡◌, length, replicate, leb, eqb}
+use Rattle.std.specs.Prelude.{ℕ, ◌+◌, ◌*◌, Bool, true, false, cond, List, [], ◌∷◌, ◌++◌, ◌≡◌, length, replicate, leb, eqb, ◌≤◌, Option, Some, None}
 use Rattle.laws.specs.Lists.{every}
 use Rattle.rules.specs.declared.Set.{Set}
 use Rattle.rules.specs.declared.State.{State}
 use Rattle.rules.specs.declared.Message.{Message}
 use Rattle.rules.specs.declared.Party.{Party}
 use Rattle.rules.specs.declared.Party.TheVariants.{Ours, Theirs}
-use Rattle.rules.specs.declared.Owner.{Owner}
 use Rattle.rules.specs.declared.Places.{Places}
 use Rattle.rules.specs.declared.Verdict.{Verdict as Judgement}
 use Rattle.rules.specs.Streams.{valid, limit_of, jitter_of}
@@ -18,7 +17,8 @@ use Rattle.rules.specs.Sheet.{write_of, buffer_of}
 use Rattle.rules.specs.Numbers.{choose_says, count_says, jitter_says, verdict_says, write_says}
 use Rattle.ascii.specs.Decimal.{letters}
 use Rattle.ascii.specs.Hex.{hexed}
-use Rattle.line.specs.Line.{line_room}
+use Rattle.line.specs.declared.Line.{Line}
+use Rattle.line.specs.Line.{line_room, holding}
 use Rattle.answer_words.specs.Words.{nr, says, line_of}
 use Rattle.console_words.specs.Words.{valid_words, formed_words}
 use Rattle.page.specs.Pages.{room_for, Onto}
@@ -59,8 +59,8 @@ abbrev pub owns_if : ℕ → Party → List ℕ
 owns_if i Ours = []
 owns_if i Theirs = owns_text i
 
-unfoldable pub owns_line : ℕ → Owner → List ℕ
-owns_line i o = owns_if i o.party
+unfoldable pub owns_line : ℕ → Party → List ℕ
+owns_line i o = owns_if i o
 
 unfoldable pub room_text : Places → List ℕ
 room_text p = line_of (letters "room" ++ nr p.ours ++ nr p.theirs)
@@ -70,6 +70,15 @@ all_for_us p = every (eqb p.ours 64 ∷ eqb p.theirs 0 ∷ [])
 
 unfoldable pub room_line : Places → List ℕ
 room_line p = cond (all_for_us p) [] (room_text p)
+
+-- a line with these bytes, or none where there are none
+abbrev pub Tells : Option Line → List ℕ → Type 0
+Tells None w = w ≡ []
+Tells (Some l) w = (l ≡ holding w) × (length w ≤ line_room)
+
+-- what may be told of the place k, where x stands, is the line of it
+abbrev pub TellsEach : {A : Type 0} → (ℕ → A → Option Line → Type 0) → (ℕ → A → List ℕ) → Type 0
+TellsEach {A} tells line = (k : ℕ) (x : A) (r : Option Line) → tells k x r → Tells r (line k x)
 
 -- ".. in order", from place i on: what `line` gives for each place
 unfoldable pub lines_of : {A : Type 0} (line : ℕ → A → List ℕ) → ℕ → List A → List ℕ
@@ -123,29 +132,8 @@ Prints Formed ns x s w = w ≡ line_of (formed_words (well_formed s))
 
 -- No answer has more lines than a state: a line for its clock, one for its count, two for each of its 64 places, one for each of its 16 waits,
 -- one for each of its 16 owners, and one for the parties' places.
-abbrev pub lines_room : ℕ
-lines_room = 64 * line_room
-
-abbrev pub places_room : ℕ
-places_room = lines_room + lines_room
-
-abbrev pub doors_room : ℕ
-doors_room = 16 * line_room
-
-abbrev pub table_room : ℕ
-table_room = places_room + doors_room
-
-abbrev pub owners_room : ℕ
-owners_room = 16 * line_room
-
-abbrev pub parties_room : ℕ
-parties_room = owners_room + line_room
-
-abbrev pub rest_room : ℕ
-rest_room = table_room + parties_room
-
 abbrev pub answer_room : ℕ
-answer_room = line_room + line_room + rest_room
+answer_room = (2 + 64 + 64 + 16 + 16 + 1) * line_room
 
 -- The page after a question, and where the answer ends; one that has not that room stays as it is.
 pub record Answered (q : Question) (ns : List ℕ) (x : Set) (s : State) (out : List ℕ) (at end : ℕ) (page : List ℕ) : Type 0 where

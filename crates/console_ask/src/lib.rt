@@ -1,17 +1,18 @@
 // The console's questions: what each prints, put on a page.
 #![tactic(auto)]
 
-ghost use Rattle.std.specs.Prelude.{◌≡◌, true, ◌++◌, ◌≤◌, length, replicate};
+ghost use Rattle.std.specs.Prelude.{◌≡◌, ℕ, ◌*◌, true, List, ◌++◌, ◌≤◌, length, replicate};
 ghost use Rattle.ascii.specs.Decimal.{decimal_of, spaced};
-ghost use Rattle.line.specs.Line.{holding};
+ghost use Rattle.line.specs.Line.{line_room, holding};
+ghost use Rattle.line.specs.declared.Line.{Line};
 ghost use Rattle.answer_words.specs.Words.{line_of};
 ghost use Rattle.page.specs.Pages.{room_for, Onto};
 ghost use Rattle.console_names.specs.Rows.{most_bytes};
-ghost use Rattle.console_ask.specs.Questions.{message_text, message_line, staged_text, staged_line, door_text, door_line, owns_text, owns_line, room_text, room_line, lines_of, place_lines, table_lines, party_lines, rest_lines, state_lines, sheet_lines, write_lines, lines_room, places_room, doors_room, owners_room, table_room, parties_room, rest_room, answer_room, Answered, Asks};
+ghost use Rattle.console_ask.specs.Questions.{message_line, staged_line, door_line, owns_line, room_line, lines_of, Tells, TellsEach, state_lines, sheet_lines, write_lines, answer_room, Answered, Asks};
 
 use console_names::{NUMBERS, Question};
 use line::Line;
-use rules::{Message, Owner, Party, Places, Set, State};
+use rules::{Message, Party, Places, Set, State};
 
 // Room for any answer: a line for a state's clock, one for its count, two for each of its places, one for each wait, one
 // for each owner, and one for the parties' places.
@@ -22,209 +23,115 @@ const MOST_BYTES: usize = console_names::MOST_BYTES as usize;
 
 // ---- the state
 
-fn message_line(i: usize, m: Message) -> Line
-    ensures { result ≡ holding (message_text i m) }
-{
-    let front = line::two(line::blank(), b"message", i as u64, m.stream as u64);
-    line::put(
-        line::number(line::number(front, m.deadline as u64), m.used as u64),
-        b'\n',
-    )
-}
-
-fn staged_line(i: usize, m: Message) -> Line
-    ensures { result ≡ holding (staged_text i m) }
-{
-    line::put(
-        line::two(line::blank(), b"staged", i as u64, m.stage as u64),
-        b'\n',
-    )
-}
-
-fn door_line(i: usize, n: u32) -> Line
-    ensures { result ≡ holding (door_text i n) }
-{
-    line::put(line::two(line::blank(), b"door", i as u64, n as u64), b'\n')
-}
-
-fn owns_line(i: usize) -> Line
-    ensures { result ≡ holding (owns_text i) }
-{
-    line::put(line::two(line::blank(), b"owns", i as u64, 1), b'\n')
-}
-
-fn room_line(p: Places) -> Line
-    ensures { result ≡ holding (room_text p) }
-{
-    line::put(
-        line::two(line::blank(), b"room", p.ours as u64, p.theirs as u64),
-        b'\n',
-    )
-}
-
-// A place that is all zero, but for its stage, is left out.
-fn message_onto(i: usize, m: Message, out: &mut [u8], at: usize) -> usize
-    ensures { Onto out.old at (message_line i m) result out.new }
-{
-    if (m.stream == 0) & ((m.deadline == 0) & (m.used == 0)) {
-        at
-    } else {
-        page::append(out, at, message_line(i, m))
-    }
-}
-
-fn staged_onto(i: usize, m: Message, out: &mut [u8], at: usize) -> usize
-    ensures { Onto out.old at (staged_line i m) result out.new }
-{
-    if m.stage == 0 {
-        at
-    } else {
-        page::append(out, at, staged_line(i, m))
-    }
-}
-
-fn door_onto(i: usize, n: u32, out: &mut [u8], at: usize) -> usize
-    ensures { Onto out.old at (door_line i n) result out.new }
-{
-    if n == 0 {
-        at
-    } else {
-        page::append(out, at, door_line(i, n))
-    }
-}
-
-// What is ours is left out.
-fn owns_onto(i: usize, o: Owner, out: &mut [u8], at: usize) -> usize
-    ensures { Onto out.old at (owns_line i o) result out.new }
-{
-    let party = o.party;
-    match party {
-        Party::Ours => at,
-        Party::Theirs => page::append(out, at, owns_line(i)),
-    }
-}
-
-// All places for us are left out.
-fn room_onto(p: Places, out: &mut [u8], at: usize) -> usize
-    ensures { Onto out.old at (room_line p) result out.new }
-{
-    if (p.ours == 64) & (p.theirs == 0) {
-        at
-    } else {
-        page::append(out, at, room_line(p))
-    }
-}
-
-fn messages_onto(s: State, out: &mut [u8], at: usize) -> usize
-    requires { room_for out.old at lines_room ≡ true }
-    ensures { Onto out.old at (lines_of message_line 0 s.messages) result out.new }
-{
-    let messages = s.messages;
-    let mut end = at;
-    let mut i = 0;
-    while i < 64 {
-        end = message_onto(i, messages[i], out, end);
-        i += 1;
-    }
-    end
-}
-
-fn stages_onto(s: State, out: &mut [u8], at: usize) -> usize
-    requires { room_for out.old at lines_room ≡ true }
-    ensures { Onto out.old at (lines_of staged_line 0 s.messages) result out.new }
-{
-    let messages = s.messages;
-    let mut end = at;
-    let mut i = 0;
-    while i < 64 {
-        end = staged_onto(i, messages[i], out, end);
-        i += 1;
-    }
-    end
-}
-
-// The stages stand behind all messages.
-fn places_onto(s: State, out: &mut [u8], at: usize) -> usize
-    requires { room_for out.old at places_room ≡ true }
-    ensures { Onto out.old at (place_lines s.messages) result out.new }
-{
-    let end = messages_onto(s, out, at);
-    stages_onto(s, out, end)
-}
-
-fn doors_onto(s: State, out: &mut [u8], at: usize) -> usize
-    requires { room_for out.old at doors_room ≡ true }
-    ensures { Onto out.old at (lines_of door_line 0 s.waits) result out.new }
-{
-    let waits = s.waits;
-    let mut end = at;
-    let mut i = 0;
-    while i < 16 {
-        end = door_onto(i, waits[i], out, end);
-        i += 1;
-    }
-    end
-}
-
-// The waits stand behind all places.
-fn tables_onto(s: State, out: &mut [u8], at: usize) -> usize
-    requires { room_for out.old at table_room ≡ true }
-    ensures { Onto out.old at (table_lines s) result out.new }
-{
-    let end = places_onto(s, out, at);
-    doors_onto(s, out, end)
-}
-
-fn owners_onto(s: State, out: &mut [u8], at: usize) -> usize
-    requires { room_for out.old at owners_room ≡ true }
-    ensures { Onto out.old at (lines_of owns_line 0 s.owners) result out.new }
-{
-    let owners = s.owners;
-    let mut end = at;
-    let mut i = 0;
-    while i < 16 {
-        end = owns_onto(i, owners[i], out, end);
-        i += 1;
-    }
-    end
-}
-
-// The parties' places stand behind all owners.
-fn parties_onto(s: State, out: &mut [u8], at: usize) -> usize
-    requires { room_for out.old at parties_room ≡ true }
-    ensures { Onto out.old at (party_lines s) result out.new }
-{
-    let end = owners_onto(s, out, at);
-    let places = s.places;
-    room_onto(places, out, end)
-}
-
-// The parties stand behind all waits.
-fn rest_onto(s: State, out: &mut [u8], at: usize) -> usize
-    requires { room_for out.old at rest_room ≡ true }
-    ensures { Onto out.old at (rest_lines s) result out.new }
-{
-    let end = tables_onto(s, out, at);
-    parties_onto(s, out, end)
-}
-
-// A word and a number, as a line.
-fn number_line(w: &[u8], n: u64) -> Line
+// A word and a number, or two, as a line.
+fn one_line(w: &[u8], n: u64) -> Line
     requires { length w.now ≤ 64 }
     ensures { result ≡ holding (line_of (w.now ++ spaced (decimal_of n))) }
 {
     line::put(line::one(line::blank(), w, n), b'\n')
 }
 
-fn state_onto(s: State, out: &mut [u8], at: usize) -> usize
-    requires { room_for out.old at answer_room ≡ true }
-    ensures { Onto out.old at (state_lines s) result out.new }
+fn two_line(w: &[u8], m: u64, n: u64) -> Line
+    requires { length w.now ≤ 32 }
+    ensures { result ≡ holding (line_of (w.now ++ spaced (decimal_of m) ++ spaced (decimal_of n))) }
 {
-    let clock = s.clock;
-    let count = s.count;
-    let a = page::append(out, at, number_line(b"clock", clock as u64));
-    let b = page::append(out, a, number_line(b"pending", count as u64));
-    rest_onto(s, out, b)
+    line::put(line::two(line::blank(), w, m, n), b'\n')
+}
+
+// A place that is all zero, but for its stage, is left out.
+fn message_line(i: usize, m: Message) -> Option<Line>
+    ensures { Tells result (message_line i m) }
+{
+    if (m.stream == 0) & ((m.deadline == 0) & (m.used == 0)) {
+        return None;
+    }
+    let front = line::two(line::blank(), b"message", i as u64, m.stream as u64);
+    Some(line::put(
+        line::number(line::number(front, m.deadline as u64), m.used as u64),
+        b'\n',
+    ))
+}
+
+fn staged_line(i: usize, m: Message) -> Option<Line>
+    ensures { Tells result (staged_line i m) }
+{
+    if m.stage == 0 {
+        None
+    } else {
+        Some(two_line(b"staged", i as u64, m.stage as u64))
+    }
+}
+
+fn door_line(i: usize, n: u32) -> Option<Line>
+    ensures { Tells result (door_line i n) }
+{
+    if n == 0 {
+        None
+    } else {
+        Some(two_line(b"door", i as u64, n as u64))
+    }
+}
+
+// What is ours is left out.
+fn owns_line(i: usize, o: Party) -> Option<Line>
+    ensures { Tells result (owns_line i o) }
+{
+    match o {
+        Party::Ours => None,
+        Party::Theirs => Some(two_line(b"owns", i as u64, 1)),
+    }
+}
+
+// All places for us are left out.
+fn room_line(p: Places) -> Option<Line>
+    ensures { Tells result (room_line p) }
+{
+    if (p.ours == 64) & (p.theirs == 0) {
+        None
+    } else {
+        Some(two_line(b"room", p.ours as u64, p.theirs as u64))
+    }
+}
+
+// A line behind the first `at` bytes of a page, or nothing.
+fn told_onto(told: Option<Line>, out: &mut [u8], at: usize) -> usize
+    ensures { (w : List ℕ) → Tells told w → Onto out.old at w result out.new }
+{
+    match told {
+        Some(l) => page::append(out, at, l),
+        None => at,
+    }
+}
+
+// What each place has to tell, one behind the other.
+fn lines_onto<T: Copy, F: Fn(usize, T) -> Option<Line>>(
+    places: &[T],
+    tells: F,
+    out: &mut [u8],
+    at: usize,
+) -> usize
+    requires { F.IsAlwaysCallable tells }
+    ensures { (line : ℕ → T → List ℕ) → TellsEach (F.post tells) line → room_for out.old at (length places.now * line_room) ≡ true → Onto out.old at (lines_of line 0 places.now) result out.new }
+{
+    let mut end = at;
+    for (i, x) in places.iter().enumerate() {
+        end = told_onto(tells(i, *x), out, end);
+    }
+    end
+}
+
+// The stages stand behind all messages, the waits behind all stages, the owners behind all waits, the parties' places last.
+fn state_onto(s: &State, out: &mut [u8], at: usize) -> usize
+    requires { room_for out.old at answer_room ≡ true }
+    ensures { Onto out.old at (state_lines s.now) result out.new }
+{
+    let clock = page::append(out, at, one_line(b"clock", s.clock as u64));
+    let count = page::append(out, clock, one_line(b"pending", s.count as u64));
+    let messages = lines_onto(&s.messages, message_line, out, count);
+    let stages = lines_onto(&s.messages, staged_line, out, messages);
+    let waits = lines_onto(&s.waits, door_line, out, stages);
+    let owners = lines_onto(&s.owners, owns_line, out, waits);
+    told_onto(room_line(s.places), out, owners)
 }
 
 // ---- the set's sheet
@@ -300,11 +207,11 @@ fn question_onto(
             answer_words::verdict_line(load_check::verdict(x)),
         ),
         Question::Choose => page::append(out, at, console_words::choose_line(scheduler::choose(s))),
-        Question::State => state_onto(s, out, at),
+        Question::State => state_onto(&s, out, at),
         Question::Formed => page::append(
             out,
             at,
-            console_words::formed_line(state_formed::well_formed(s)),
+            console_words::formed_line(state_formed::well_formed(&s)),
         ),
     }
 }

@@ -25,39 +25,38 @@ pub struct CableAfter {
 fn cable(x: Set) -> CableAfter
     ensures { result ≡ record { carried = start_of; set = x; line = holding (line_of (letters "put")) } }
 {
-    let carried = sheet_read::cable();
     CableAfter {
-        carried,
+        carried: sheet_read::cable(),
         set: x,
         line: console_words::put_line(),
     }
 }
 
+#[tactic(auto, unfolding(crate::specs::CableCommands::fed_line))]
 fn feed(c: Carried, x: Set, piece: &[u8]) -> CableAfter
     ensures { result ≡ record { carried = (feed_of c piece.now).carried; set = x; line = holding (fed_line c piece.now) } }
 {
     let r = sheet_read::feed(c, piece);
-    let answer = r.answer;
-    let carried = r.carried;
     CableAfter {
-        carried,
+        carried: r.carried,
         set: x,
-        line: console_words::feed_line(answer),
+        line: console_words::feed_line(r.answer),
     }
 }
 
 // What no pieces could have left stays, and so does the set.
+#[tactic(auto, unfolding(crate::specs::CableCommands::closed_line, crate::specs::CableCommands::set_behind, crate::specs::CableCommands::carried_behind))]
 fn close(c: Carried, x: Set) -> CableAfter
     ensures { result ≡ record { carried = carried_behind c; set = set_behind c x; line = holding (closed_line c) } }
 {
     let r = sheet_read::close(c);
-    let answer = r.answer;
-    let set = r.set;
-    let count = set.count;
-    let line = console_words::read_line(answer, count);
+    let line = console_words::read_line(r.answer, r.set.count);
     if sheet_carried::could_be_left(c) {
-        let carried = sheet_read::cable();
-        CableAfter { carried, set, line }
+        CableAfter {
+            carried: sheet_read::cable(),
+            set: r.set,
+            line,
+        }
     } else {
         CableAfter {
             carried: c,

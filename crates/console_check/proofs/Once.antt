@@ -7,8 +7,10 @@ use mathlib.Core.Path.{◌≡◌, ap, ap₂, sym, ◌∙◌}
 use lib.ListN.{length}
 use Rattle.rules.specs.declared.Set.{Set}
 use Rattle.rules.specs.declared.Position.{Position}
-use Rattle.rules.specs.declared.OpenResult.{OpenResult}
-use Rattle.rules.specs.declared.GoResult.{GoResult}
+use Rattle.rules.specs.declared.Verdict.{Verdict}
+use Rattle.rules.specs.declared.Progress.{Progress}
+use Rattle.rules.specs.declared.Refusal.{Refusal}
+use Rattle.std.specs.Prelude.{Result}
 use Rattle.rules.specs.Numbers.{open_says, go_says}
 use Rattle.rules.proofs.Resumed.{open_unique, go_unique}
 use Rattle.line.specs.declared.Line.{Line}
@@ -24,15 +26,15 @@ use Rattle.console_check.specs.CheckCommands.{open_keeps, Opens, go_keeps, Goes,
 opens_once : (x : Set) (p q r : Position) (v w : List ℕ) → Opens x p q v → Opens x p r w → (q ≡ r) × (v ≡ w)
 opens_once x p q r v w y z =
     let same : y.given ≡ z.given = open_unique x y.given z.given y.is_opening z.is_opening in (
-      y.position ∙ ap (λ (g : OpenResult). open_keeps g.answer g.position p) same ∙ sym z.position,
-      y.line ∙ ap (λ (g : OpenResult). line_of (says (open_says g.answer))) same ∙ sym z.line,
+      y.position ∙ ap (λ (g : Result Position Verdict). open_keeps g p) same ∙ sym z.position,
+      y.line ∙ ap (λ (g : Result Position Verdict). line_of (says (open_says g))) same ∙ sym z.line,
     )
 
 goes_once : (p : Position) (n : ℕ) (q r : Position) (v w : List ℕ) → Goes p n q v → Goes p n r w → (q ≡ r) × (v ≡ w)
 goes_once p n q r v w y z =
     let same : y.given ≡ z.given = go_unique p n y.given z.given y.is_call z.is_call in (
-      y.position ∙ ap (λ (g : GoResult). go_keeps g.answer g.position p) same ∙ sym z.position,
-      y.line ∙ ap (λ (g : GoResult). line_of (says (go_says g))) same ∙ sym z.line,
+      y.position ∙ ap (λ (g : Result Progress Refusal). go_keeps g p) same ∙ sym z.position,
+      y.line ∙ ap (λ (g : Result Progress Refusal). line_of (says (go_says g))) same ∙ sym z.line,
     )
 
 module _ (k : CheckCommand) (ns : List ℕ) (x : Set) (p : Position) where
@@ -53,6 +55,6 @@ module _ (k : CheckCommand) (ns : List ℕ) (x : Set) (p : Position) where
   checked_short q w = go k
     where
       go : (c : CheckCommand) → Checked c ns x p q w → length w ≤ line_room
-      go Open y = omega (arith, ap length y.line, line_short (says (open_says y.given.answer)) (says_short (open_says y.given.answer)))
+      go Open y = omega (arith, ap length y.line, line_short (says (open_says y.given)) (says_short (open_says y.given)))
       go Go y = omega (arith, ap length y.line, line_short (says (go_says y.given)) (says_short (go_says y.given)))
       go Resume y = omega (arith, ap length y.1)

@@ -3,12 +3,11 @@
 use Rattle.std.specs.Prelude.{ℕ, List, ◌≡◌}
 use Rattle.rules.specs.declared.Set.{Set}
 use Rattle.rules.specs.declared.Position.{Position}
-use Rattle.rules.specs.declared.OpenAnswer.{OpenAnswer}
-use Rattle.rules.specs.declared.OpenAnswer.TheVariants.{Opened, Stops}
-use Rattle.rules.specs.declared.OpenResult.{OpenResult}
-use Rattle.rules.specs.declared.GoAnswer.{GoAnswer}
-use Rattle.rules.specs.declared.GoAnswer.TheVariants.{Next, Falls, Refused}
-use Rattle.rules.specs.declared.GoResult.{GoResult}
+use Rattle.std.specs.Prelude.{Result, Ok, Err}
+use Rattle.rules.specs.declared.Verdict.{Verdict}
+use Rattle.rules.specs.declared.Progress.{Progress}
+use Rattle.rules.specs.declared.Refusal.{Refusal}
+use Rattle.rules.specs.declared.Progress.TheVariants.{Next, Falls}
 use Rattle.rules.specs.Streams.{empty_set}
 use Rattle.rules.specs.Numbers.{open_says, go_says}
 use Rattle.rules.specs.Resumed.{at, OpenOf, GoOf}
@@ -25,28 +24,28 @@ abbrev pub first_position : Position
 first_position = at empty_set 1
 
 -- "with `open`, the console's position is the one given"
-abbrev pub open_keeps : OpenAnswer → Position → Position → Position
-open_keeps Opened q p = q
-open_keeps (Stops v) q p = p
+abbrev pub open_keeps : Result Position Verdict → Position → Position
+open_keeps (Ok q) p = q
+open_keeps (Err v) p = p
 
 -- It leaves the position q, and prints the bytes w. "`open`: prints `refused N`, `overload`, or `open`"
 pub record Opens (x : Set) (p q : Position) (w : List ℕ) : Type 0 where
-  pub given : OpenResult
+  pub given : Result Position Verdict
   pub is_opening : OpenOf x given
-  pub position : q ≡ open_keeps given.answer given.position p
-  pub line : w ≡ line_of (says (open_says given.answer))
+  pub position : q ≡ open_keeps given p
+  pub line : w ≡ line_of (says (open_says given))
 
 -- "With a next length the position moves there; else it stays where it was."
-abbrev pub go_keeps : GoAnswer → Position → Position → Position
-go_keeps (Next k) q p = q
-go_keeps (Falls k v) q p = p
-go_keeps (Refused why) q p = p
+abbrev pub go_keeps : Result Progress Refusal → Position → Position
+go_keeps (Ok (Next k q)) p = q
+go_keeps (Ok (Falls k v)) p = p
+go_keeps (Err why) p = p
 
 -- "`go N`: prints `tested COUNT next L`, `tested COUNT accept`, `tested COUNT late I W`, or `refused 12`"
 pub record Goes (p : Position) (n : ℕ) (q : Position) (w : List ℕ) : Type 0 where
-  pub given : GoResult
+  pub given : Result Progress Refusal
   pub is_call : GoOf p n given
-  pub position : q ≡ go_keeps given.answer given.position p
+  pub position : q ≡ go_keeps given p
   pub line : w ≡ line_of (says (go_says given))
 
 -- "`resume L`: the position is the console's set and the length L. Prints `put`."

@@ -2,11 +2,11 @@
 #![tactic(auto)]
 
 ghost use Rattle.std.specs.Prelude.{◌≡◌};
-ghost use Rattle.console_check.specs.CheckCommands.{first_position, Opens, Goes, Puts, Checked, OnLine};
+ghost use Rattle.console_check.specs.CheckCommands.{first_position, go_keeps, Opens, Goes, Puts, Checked, OnLine};
 
 use console_names::{CheckCommand, NUMBERS};
 use line::Line;
-use rules::{GoAnswer, OpenAnswer, Position, Set};
+use rules::{Position, Progress, Refusal, Set};
 
 // The position that the console holds after a command, and the line that is printed.
 #[derive(Clone, Copy)]
@@ -19,8 +19,10 @@ pub struct CheckAfter {
 pub fn first() -> Position
     ensures { result ≡ first_position }
 {
-    let set = stream_valid::empty_set();
-    Position { set, next: 1 }
+    Position {
+        set: stream_valid::empty_set(),
+        next: 1,
+    }
 }
 
 // With a verdict the position stays.
@@ -28,33 +30,30 @@ fn opened(x: Set, p: Position) -> CheckAfter
     ensures { OnLine (Opens x p) result }
 {
     let begun = load_resume::open(x);
-    let a = begun.answer;
-    let next = begun.position;
-    let line = answer_words::open_line(a);
-    match a {
-        OpenAnswer::Opened => CheckAfter {
-            position: next,
-            line,
-        },
-        OpenAnswer::Stops(_) => CheckAfter { position: p, line },
+    CheckAfter {
+        position: begun.unwrap_or(p),
+        line: answer_words::open_line(begun),
     }
 }
 
-// Only a next length moves the position.
+// Only a next position moves it.
+fn moved(tested: Result<Progress, Refusal>, p: Position) -> Position
+    ensures { result ≡ go_keeps tested p }
+{
+    match tested {
+        Ok(Progress::Next(_, next)) => next,
+        Ok(Progress::Falls(_, _)) => p,
+        Err(_) => p,
+    }
+}
+
 fn gone(p: Position, n: u32) -> CheckAfter
     ensures { OnLine (Goes p n) result }
 {
     let tested = load_resume::go(p, n);
-    let a = tested.answer;
-    let next = tested.position;
-    let line = answer_words::go_line(a, next.next);
-    match a {
-        GoAnswer::Next(_) => CheckAfter {
-            position: next,
-            line,
-        },
-        GoAnswer::Falls(_, _) => CheckAfter { position: p, line },
-        GoAnswer::Refused(_) => CheckAfter { position: p, line },
+    CheckAfter {
+        position: moved(tested, p),
+        line: answer_words::go_line(tested),
     }
 }
 
@@ -62,9 +61,8 @@ fn gone(p: Position, n: u32) -> CheckAfter
 fn put(x: Set, i: u32) -> CheckAfter
     ensures { OnLine (Puts x i) result }
 {
-    let position = Position { set: x, next: i };
     CheckAfter {
-        position,
+        position: Position { set: x, next: i },
         line: console_words::put_line(),
     }
 }

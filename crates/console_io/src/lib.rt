@@ -2,7 +2,7 @@
 // out. A read or a write that fails ends the console, and is handed to the caller.
 #![tactic(auto)]
 
-ghost use Rattle.std.specs.Prelude.{◌≡◌, ◌≤◌, IfOk};
+ghost use Rattle.std.specs.Prelude.{◌≡◌, ◌≤◌, IfOk, IfSome};
 ghost use Rattle.console_obey.specs.Obeyed.{Obeyed};
 ghost use Rattle.console_io.specs.Room.{half_page, Roomy};
 
@@ -18,14 +18,14 @@ const PAGE: usize = 65536;
 // The page is written out beyond this.
 const HALF_PAGE: usize = 32768;
 
-// What is carried from one reading to the next: the desk, how many bytes of the line have come (4,097 stand for any more), how
-// many bytes stand on the page, and whether to go on.
+// What is carried from one reading to the next: the desk, how many bytes of the line have come (4,097 stand for any more), and how
+// many bytes stand on the page.
+// kept: fixed memory, a line of any length and what it prints need no heap: the numbers stand beside their two buffers.
 #[derive(Clone, Copy)]
 pub struct Carry {
     pub desk: Desk,
     pub len: usize,
     pub at: usize,
-    pub live: bool,
 }
 
 // Writes the page out.
@@ -34,9 +34,7 @@ fn flush(rt: &impl Print, c: Carry, out: &[u8]) -> io::Result<Carry>
 {
     let n = page::within(c.at, out);
     rt.write_all(&out[..n])?;
-    let mut next = c;
-    next.at = 0;
-    Ok(next)
+    Ok(Carry { at: 0, ..c })
 }
 
 // A line is always obeyed: the half of the page that is left has room for any answer.
@@ -53,15 +51,11 @@ fn end_line(rt: &impl Print, c: Carry, line: &[u8], out: &mut [u8]) -> io::Resul
     ensures { IfOk result (λ next. next.at ≤ half_page) }
 {
     let n = page::within(c.len, line);
-    let before = c.desk;
-    let live = c.live;
-    let s = obey(before, &line[..n], out, c.at);
-    let after = s.desk;
+    let s = obey(c.desk, &line[..n], out, c.at);
     let next = Carry {
-        desk: after,
+        desk: s.desk,
         len: 0,
         at: s.at,
-        live,
     };
     if HALF_PAGE < next.at {
         flush(rt, next, out)
@@ -75,16 +69,19 @@ fn take_byte(rt: &impl Print, c: Carry, b: u8, line: &mut [u8], out: &mut [u8]) 
     requires { Roomy c.at out.old }
     ensures { IfOk result (λ next. next.at ≤ half_page) }
 {
-    let len = c.len;
     if b == b'\n' {
         return end_line(rt, c, line, out);
     }
-    let mut next = c;
-    if len < line.len() {
-        line[len] = b;
-        next.len = len + 1;
+    match line.get_mut(c.len) {
+        Some(place) => {
+            *place = b;
+            Ok(Carry {
+                len: c.len + 1,
+                ..c
+            })
+        }
+        None => Ok(c),
     }
-    Ok(next)
 }
 
 fn take_piece(
@@ -104,27 +101,27 @@ fn take_piece(
     Ok(next)
 }
 
-// Reads once, obeys the lines that came, and writes what they print. The last line may lack its newline.
+// Reads once, obeys the lines that came, and writes what they print; nothing is carried on where the input has ended. The last line may
+// lack its newline.
 fn go_on(
     rt: &impl Print,
     input: &mut impl Read,
     c: Carry,
     line: &mut [u8],
     out: &mut [u8],
-) -> io::Result<Carry>
+) -> io::Result<Option<Carry>>
     requires { Roomy c.at out.old }
-    ensures { IfOk result (λ next. next.at ≤ half_page) }
+    ensures { IfOk result (λ carried. IfSome carried (λ next. next.at ≤ half_page)) }
 {
     let mut bytes = [0u8; PIECE];
     let n = input.read(&mut bytes)?;
     if n == 0 {
         let ended = end_line(rt, c, line, out)?;
-        let mut last = flush(rt, ended, out)?;
-        last.live = false;
-        return Ok(last);
+        flush(rt, ended, out)?;
+        return Ok(None);
     }
     let next = take_piece(rt, c, &bytes[..n], line, out)?;
-    flush(rt, next, out)
+    Ok(Some(flush(rt, next, out)?))
 }
 
 // A proved loop has to end, and nothing says that the input does: the turns are counted up to a number that no run uses up.
@@ -134,21 +131,19 @@ fn serve(rt: &(impl Input + Print), first: Carry, line: &mut [u8], out: &mut [u8
     let mut input = rt.reader();
     let mut c = first;
     for _ in 0..u64::MAX {
-        if !c.live {
-            break;
+        match go_on(rt, &mut input, c, line, out)? {
+            Some(next) => c = next,
+            None => return Ok(()),
         }
-        c = go_on(rt, &mut input, c, line, out)?;
     }
     Ok(())
 }
 
 pub fn run(rt: &(impl Input + Print)) -> io::Result<()> {
-    let desk = console_obey::first();
     let first = Carry {
-        desk,
+        desk: console_obey::first(),
         len: 0,
         at: 0,
-        live: true,
     };
     let mut line = [0u8; console_parse::LONGEST + 1];
     let mut out = [0u8; PAGE];

@@ -1,6 +1,7 @@
 -- The console's page: its commands, and what each asks for.
 -- Assumes nothing.
-use Rattle.std.specs.Prelude.{ℕ, ◌-◌, cond, List, [], ◌∷◌, ◌++◌, length, get_or}
+use Rattle.std.specs.Prelude.{ℕ, ◌-◌, cond, List, [], ◌∷◌, ◌++◌, length, get_or, Option, Some, None, unwrap_or}
+use Rattle.std.specs.Option.{option_or}
 use Prim.Native.String.{String}
 use Rattle.laws.specs.Bits.{zeros}
 use Rattle.ascii.specs.Decimal.{letters}
@@ -34,7 +35,7 @@ abbrev top : ℕ
 top = 4294967295
 
 -- a command, what each of its numbers may at most be, and what stands behind them
-abbrev asks_with : Text → Command → List ℕ → Row
+abbrev pub asks_with : Text → Command → List ℕ → Row
 asks_with t k ms = record { command = k; count = length ms; most = ms ++ zeros (most_numbers - length ms); text = t }
 
 abbrev asks : Command → List ℕ → Row
@@ -54,17 +55,13 @@ hex_row name k = record { name = name; stands = asks_with Hex k [] }
 abbrev steps_row : String → Command → ℕ → Named
 steps_row name k m = record { name = name; stands = asks_with Steps k (m ∷ []) }
 
--- the row r where w is this name, else the other
-unfoldable pub if_named : List ℕ → List ℕ → Row → Row → Row
-if_named w name r other = cond (same w name) r other
-
--- the row among these that w names, else the other
-abbrev among : List ℕ → List Named → Row → Row
-among w [] other = other
-among w (n ∷ ns) other = among w ns (if_named w (letters n.name) n.stands other)
+-- the row among these that w names
+abbrev among : List ℕ → List Named → Option Row
+among w [] = None
+among w (n ∷ ns) = cond (same w (letters n.name)) (Some n.stands) (among w ns)
 
 -- **Set**; **CR 4**: "`version N` .. `stages I N` .. `stage I J TASK COST`: puts stage place J (0 to 3) of place I"
-unfoldable pub set_row : List ℕ → Row → Row
+unfoldable pub set_row : List ℕ → Option Row
 set_row w =
     among w (
     hex_row "read" (Set Read)
@@ -79,7 +76,7 @@ set_row w =
     )
 
 -- **State**; **CR 4**: "`staged I N`"; **CR 6**: "`door I N`: puts the wait of stream place I (0 to 15)"
-unfoldable pub state_row : List ℕ → Row → Row
+unfoldable pub state_row : List ℕ → Option Row
 state_row w =
     among w (
     row "start" (State Start) []
@@ -96,7 +93,7 @@ state_row w =
 
 -- **CR 8**: "`owner I P` (P 0 ours or 1 theirs, else `?`), `places A B`", "`owns I P`, `room A B`": "(I 0 to 15 for streams, .. P 0 or 1 ..), else `?`;
 -- every other number may be any"
-unfoldable pub party_row : List ℕ → Row → Row
+unfoldable pub party_row : List ℕ → Option Row
 party_row w =
     among w (
     row "owner" (State Owner) (15 ∷ 1 ∷ [])
@@ -107,7 +104,7 @@ party_row w =
     )
 
 -- what only asks, of the set and of the state
-unfoldable pub question_row : List ℕ → Row → Row
+unfoldable pub question_row : List ℕ → Option Row
 question_row w =
     among w (
     row "write" (Ask ask.Write) (most_bytes ∷ [])
@@ -123,7 +120,7 @@ question_row w =
     )
 
 -- **CR 1**
-unfoldable pub replay_row : List ℕ → Row → Row
+unfoldable pub replay_row : List ℕ → Option Row
 replay_row w =
     among w (
     hex_row "recording" (Replay Recording)
@@ -135,13 +132,16 @@ replay_row w =
     )
 
 -- **CR 5**
-unfoldable pub cable_row : List ℕ → Row → Row
+unfoldable pub cable_row : List ℕ → Option Row
 cable_row w = among w (row "cable" (Cable NewCable) [] ∷ hex_row "feed" (Cable Feed) ∷ row "close" (Cable Close) [] ∷ [])
 
 -- **CR 7**
-unfoldable pub check_row : List ℕ → Row → Row
+unfoldable pub check_row : List ℕ → Option Row
 check_row w = among w (row "open" (Check Open) [] ∷ row "go" (Check Go) (top ∷ []) ∷ row "resume" (Check Resume) (top ∷ []) ∷ [])
 
 -- "A line that is not one of those below .. prints `?`"
 unfoldable pub row_of : List ℕ → Row
-row_of w = check_row w (cable_row w (replay_row w (question_row w (party_row w (state_row w (set_row w (asks Unknown [])))))))
+row_of w =
+    unwrap_or
+    (option_or (option_or (option_or (option_or (option_or (option_or (set_row w) (state_row w)) (party_row w)) (question_row w)) (replay_row w)) (cable_row w)) (check_row w))
+    (asks Unknown [])

@@ -1,8 +1,13 @@
 // The console's commands by name, in groups, and what each asks for.
 #![tactic(auto)]
 
-ghost use Rattle.std.specs.Prelude.{◌≡◌, ◌∷◌, []};
-ghost use Rattle.console_names.specs.Rows.{most_bytes, if_named, set_row, state_row, party_row, question_row, replay_row, cable_row, check_row, row_of};
+ghost use Rattle.std.specs.Prelude.{◌≡◌, ◌≤◌, length, slice_set};
+ghost use Rattle.ascii.specs.Same.{same};
+ghost use Rattle.std.specs.List.{find};
+ghost use Rattle.std.specs.Option.{option_map};
+ghost use Rattle.console_names.specs.Rows.{asks_with, set_row, state_row, party_row, question_row, replay_row, cable_row, check_row, row_of};
+
+use Command::{Ask, Cable, Check, Replay, Set, State};
 
 // The commands that change the set.
 #[derive(Clone, Copy)]
@@ -104,6 +109,7 @@ pub enum Text {
 pub const NUMBERS: usize = 5;
 
 // A command, how many numbers it has, what each may at most be, and what stands behind them.
+// kept: no heap, fixed memory: the count stands beside the array.
 #[derive(Clone, Copy)]
 pub struct Row {
     pub command: Command,
@@ -118,227 +124,171 @@ pub const MOST_BYTES: u32 = 1024;
 // The largest number.
 const TOP: u32 = 4294967295;
 
-fn asks(command: Command, count: usize, most: [u32; NUMBERS]) -> Row
-    ensures { result ≡ record { command = command; count = count; most = most; text = Text.Nothing } }
+// What a command asks for, where its numbers have these limits and this text stands behind them.
+fn asks_with(text: Text, command: Command, limits: &[u32]) -> Row
+    requires { length limits.now ≤ 5 }
+    ensures { result ≡ asks_with text command limits.now }
 {
+    let mut most = [0; NUMBERS];
+    most[..limits.len()].copy_from_slice(limits);
     Row {
         command,
-        count,
+        count: limits.len(),
         most,
-        text: Text::Nothing,
+        text,
     }
 }
 
-fn asks_hex(command: Command) -> Row
-    ensures { result ≡ record { command = command; count = 0; most = 0 ∷ 0 ∷ 0 ∷ 0 ∷ 0 ∷ []; text = Text.Hex } }
+fn asks(command: Command, limits: &[u32]) -> Row
+    requires { length limits.now ≤ 5 }
+    ensures { result ≡ asks_with Text.Nothing command limits.now }
 {
-    Row {
-        command,
-        count: 0,
-        most: [0; NUMBERS],
-        text: Text::Hex,
-    }
+    asks_with(Text::Nothing, command, limits)
 }
 
-// The row r where w is this name, else the other.
-fn named(w: &[u8], name: &[u8], r: Row, other: Row) -> Row
-    ensures { result ≡ if_named w.now name.now r other }
+// The row among these that w names.
+fn found(w: &[u8], rows: &[(&[u8], Row)]) -> Option<Row>
+    ensures { result ≡ option_map (λ n. n.1) (find (λ n. same w.now n.0.now) rows.now) }
 {
-    if ascii::same(w, name) { r } else { other }
+    rows.iter()
+        .find(|(name, _)| ascii::same(w, name))
+        .map(|(_, row)| *row)
 }
 
-fn of_set(k: SetCommand, count: usize, most: [u32; NUMBERS]) -> Row
-    ensures { result ≡ record { command = Command.Set k; count = count; most = most; text = Text.Nothing } }
+fn set_row(w: &[u8]) -> Option<Row>
+    ensures { result ≡ set_row w.now }
 {
-    asks(Command::Set(k), count, most)
+    let rows: [(&[u8], Row); 8] = [
+        (b"read", asks_with(Text::Hex, Set(SetCommand::Read), &[])),
+        (b"streams", asks(Set(SetCommand::Streams), &[TOP])),
+        (
+            b"stream",
+            asks(Set(SetCommand::Stream), &[15, TOP, TOP, TOP, TOP]),
+        ),
+        (b"once", asks(Set(SetCommand::Once), &[15, 3, TOP])),
+        (b"every", asks(Set(SetCommand::Every), &[15, 3, TOP, TOP])),
+        (b"version", asks(Set(SetCommand::Version), &[TOP])),
+        (b"stages", asks(Set(SetCommand::Stages), &[15, TOP])),
+        (b"stage", asks(Set(SetCommand::Stage), &[15, 3, TOP, TOP])),
+    ];
+    found(w, &rows)
 }
 
-fn of_state(k: StateCommand, count: usize, most: [u32; NUMBERS]) -> Row
-    ensures { result ≡ record { command = Command.State k; count = count; most = most; text = Text.Nothing } }
+fn state_row(w: &[u8]) -> Option<Row>
+    ensures { result ≡ state_row w.now }
 {
-    asks(Command::State(k), count, most)
-}
-
-fn of_question(q: Question, count: usize, most: [u32; NUMBERS]) -> Row
-    ensures { result ≡ record { command = Command.Ask q; count = count; most = most; text = Text.Nothing } }
-{
-    asks(Command::Ask(q), count, most)
-}
-
-fn set_row(w: &[u8], other: Row) -> Row
-    ensures { result ≡ set_row w.now other }
-{
-    let mut r = other;
-    let read = asks_hex(Command::Set(SetCommand::Read));
-    r = named(w, b"read", read, r);
-    let streams = of_set(SetCommand::Streams, 1, [TOP, 0, 0, 0, 0]);
-    r = named(w, b"streams", streams, r);
-    let stream = of_set(SetCommand::Stream, 5, [15, TOP, TOP, TOP, TOP]);
-    r = named(w, b"stream", stream, r);
-    let once = of_set(SetCommand::Once, 3, [15, 3, TOP, 0, 0]);
-    r = named(w, b"once", once, r);
-    let every = of_set(SetCommand::Every, 4, [15, 3, TOP, TOP, 0]);
-    r = named(w, b"every", every, r);
-    let version = of_set(SetCommand::Version, 1, [TOP, 0, 0, 0, 0]);
-    r = named(w, b"version", version, r);
-    let stages = of_set(SetCommand::Stages, 2, [15, TOP, 0, 0, 0]);
-    r = named(w, b"stages", stages, r);
-    let stage = of_set(SetCommand::Stage, 4, [15, 3, TOP, TOP, 0]);
-    r = named(w, b"stage", stage, r);
-    r
-}
-
-fn state_row(w: &[u8], other: Row) -> Row
-    ensures { result ≡ state_row w.now other }
-{
-    let mut r = other;
-    let start = of_state(StateCommand::Start, 0, [0; NUMBERS]);
-    r = named(w, b"start", start, r);
-    let clock = of_state(StateCommand::Clock, 1, [TOP, 0, 0, 0, 0]);
-    r = named(w, b"clock", clock, r);
-    let pending = of_state(StateCommand::Pending, 1, [TOP, 0, 0, 0, 0]);
-    r = named(w, b"pending", pending, r);
-    let message = of_state(StateCommand::Message, 4, [63, TOP, TOP, TOP, 0]);
-    r = named(w, b"message", message, r);
-    let post = of_state(StateCommand::Post, 1, [TOP, 0, 0, 0, 0]);
-    r = named(w, b"post", post, r);
-    let unit = of_state(StateCommand::Unit, 0, [0; NUMBERS]);
-    r = named(w, b"unit", unit, r);
-    let done = of_state(StateCommand::Done, 0, [0; NUMBERS]);
-    r = named(w, b"done", done, r);
-    let staged = of_state(StateCommand::Staged, 2, [63, TOP, 0, 0, 0]);
-    r = named(w, b"staged", staged, r);
-    let door = of_state(StateCommand::Door, 2, [15, TOP, 0, 0, 0]);
-    r = named(w, b"door", door, r);
-    r
+    let rows: [(&[u8], Row); 9] = [
+        (b"start", asks(State(StateCommand::Start), &[])),
+        (b"clock", asks(State(StateCommand::Clock), &[TOP])),
+        (b"pending", asks(State(StateCommand::Pending), &[TOP])),
+        (
+            b"message",
+            asks(State(StateCommand::Message), &[63, TOP, TOP, TOP]),
+        ),
+        (b"post", asks(State(StateCommand::Post), &[TOP])),
+        (b"unit", asks(State(StateCommand::Unit), &[])),
+        (b"done", asks(State(StateCommand::Done), &[])),
+        (b"staged", asks(State(StateCommand::Staged), &[63, TOP])),
+        (b"door", asks(State(StateCommand::Door), &[15, TOP])),
+    ];
+    found(w, &rows)
 }
 
 // Of the commands that change the state, and what a start uses, those of the two parties.
-fn party_row(w: &[u8], other: Row) -> Row
-    ensures { result ≡ party_row w.now other }
+fn party_row(w: &[u8]) -> Option<Row>
+    ensures { result ≡ party_row w.now }
 {
-    let mut r = other;
-    let owner = of_state(StateCommand::Owner, 2, [15, 1, 0, 0, 0]);
-    r = named(w, b"owner", owner, r);
-    let places = of_state(StateCommand::Places, 2, [TOP, TOP, 0, 0, 0]);
-    r = named(w, b"places", places, r);
-    let owns = of_state(StateCommand::Owns, 2, [15, 1, 0, 0, 0]);
-    r = named(w, b"owns", owns, r);
-    let room = of_state(StateCommand::Room, 2, [TOP, TOP, 0, 0, 0]);
-    r = named(w, b"room", room, r);
-    r
+    let rows: [(&[u8], Row); 4] = [
+        (b"owner", asks(State(StateCommand::Owner), &[15, 1])),
+        (b"places", asks(State(StateCommand::Places), &[TOP, TOP])),
+        (b"owns", asks(State(StateCommand::Owns), &[15, 1])),
+        (b"room", asks(State(StateCommand::Room), &[TOP, TOP])),
+    ];
+    found(w, &rows)
 }
 
-fn question_row(w: &[u8], other: Row) -> Row
-    ensures { result ≡ question_row w.now other }
+fn question_row(w: &[u8]) -> Option<Row>
+    ensures { result ≡ question_row w.now }
 {
-    let mut r = other;
-    let write = of_question(Question::Write, 1, [MOST_BYTES, 0, 0, 0, 0]);
-    r = named(w, b"write", write, r);
-    let valid = of_question(Question::Valid, 0, [0; NUMBERS]);
-    r = named(w, b"valid", valid, r);
-    let limit = of_question(Question::Limit, 2, [TOP, TOP, 0, 0, 0]);
-    r = named(w, b"limit", limit, r);
-    let demand = of_question(Question::Demand, 1, [TOP, 0, 0, 0, 0]);
-    r = named(w, b"demand", demand, r);
-    let jitter = of_question(Question::Jitter, 2, [TOP, TOP, 0, 0, 0]);
-    r = named(w, b"jitter", jitter, r);
-    let verdict = of_question(Question::Verdict, 0, [0; NUMBERS]);
-    r = named(w, b"verdict", verdict, r);
-    let choose = of_question(Question::Choose, 0, [0; NUMBERS]);
-    r = named(w, b"choose", choose, r);
-    let state = of_question(Question::State, 0, [0; NUMBERS]);
-    r = named(w, b"state", state, r);
-    let formed = of_question(Question::Formed, 0, [0; NUMBERS]);
-    r = named(w, b"formed", formed, r);
-    r
+    let rows: [(&[u8], Row); 9] = [
+        (b"write", asks(Ask(Question::Write), &[MOST_BYTES])),
+        (b"valid", asks(Ask(Question::Valid), &[])),
+        (b"limit", asks(Ask(Question::Limit), &[TOP, TOP])),
+        (b"demand", asks(Ask(Question::Demand), &[TOP])),
+        (b"jitter", asks(Ask(Question::Jitter), &[TOP, TOP])),
+        (b"verdict", asks(Ask(Question::Verdict), &[])),
+        (b"choose", asks(Ask(Question::Choose), &[])),
+        (b"state", asks(Ask(Question::State), &[])),
+        (b"formed", asks(Ask(Question::Formed), &[])),
+    ];
+    found(w, &rows)
 }
 
-fn of_replay(k: ReplayCommand, count: usize, most: [u32; NUMBERS]) -> Row
-    ensures { result ≡ record { command = Command.Replay k; count = count; most = most; text = Text.Nothing } }
+fn replay_row(w: &[u8]) -> Option<Row>
+    ensures { result ≡ replay_row w.now }
 {
-    asks(Command::Replay(k), count, most)
+    let rows: [(&[u8], Row); 5] = [
+        (
+            b"recording",
+            asks_with(Text::Hex, Replay(ReplayCommand::Recording), &[]),
+        ),
+        (b"next", asks(Replay(ReplayCommand::Next), &[])),
+        (b"reader", asks(Replay(ReplayCommand::Reader), &[TOP, TOP])),
+        (b"where", asks(Replay(ReplayCommand::Where), &[])),
+        (
+            b"record",
+            asks_with(Text::Steps, Command::Record, &[MOST_BYTES]),
+        ),
+    ];
+    found(w, &rows)
 }
 
-fn of_record() -> Row
-    ensures { result ≡ record { command = Command.Record; count = 1; most = most_bytes ∷ 0 ∷ 0 ∷ 0 ∷ 0 ∷ []; text = Text.Steps } }
+fn cable_row(w: &[u8]) -> Option<Row>
+    ensures { result ≡ cable_row w.now }
 {
-    Row {
-        command: Command::Record,
-        count: 1,
-        most: [MOST_BYTES, 0, 0, 0, 0],
-        text: Text::Steps,
-    }
+    let rows: [(&[u8], Row); 3] = [
+        (b"cable", asks(Cable(CableCommand::Cable), &[])),
+        (
+            b"feed",
+            asks_with(Text::Hex, Cable(CableCommand::Feed), &[]),
+        ),
+        (b"close", asks(Cable(CableCommand::Close), &[])),
+    ];
+    found(w, &rows)
 }
 
-fn replay_row(w: &[u8], other: Row) -> Row
-    ensures { result ≡ replay_row w.now other }
+fn check_row(w: &[u8]) -> Option<Row>
+    ensures { result ≡ check_row w.now }
 {
-    let mut r = other;
-    let recording = asks_hex(Command::Replay(ReplayCommand::Recording));
-    r = named(w, b"recording", recording, r);
-    let next = of_replay(ReplayCommand::Next, 0, [0; NUMBERS]);
-    r = named(w, b"next", next, r);
-    let reader = of_replay(ReplayCommand::Reader, 2, [TOP, TOP, 0, 0, 0]);
-    r = named(w, b"reader", reader, r);
-    let place = of_replay(ReplayCommand::Where, 0, [0; NUMBERS]);
-    r = named(w, b"where", place, r);
-    let record = of_record();
-    r = named(w, b"record", record, r);
-    r
-}
-
-fn of_cable(k: CableCommand) -> Row
-    ensures { result ≡ record { command = Command.Cable k; count = 0; most = 0 ∷ 0 ∷ 0 ∷ 0 ∷ 0 ∷ []; text = Text.Nothing } }
-{
-    asks(Command::Cable(k), 0, [0; NUMBERS])
-}
-
-fn cable_row(w: &[u8], other: Row) -> Row
-    ensures { result ≡ cable_row w.now other }
-{
-    let mut r = other;
-    let cable = of_cable(CableCommand::Cable);
-    r = named(w, b"cable", cable, r);
-    let feed = asks_hex(Command::Cable(CableCommand::Feed));
-    r = named(w, b"feed", feed, r);
-    let close = of_cable(CableCommand::Close);
-    r = named(w, b"close", close, r);
-    r
-}
-
-fn of_check(k: CheckCommand, count: usize, most: [u32; NUMBERS]) -> Row
-    ensures { result ≡ record { command = Command.Check k; count = count; most = most; text = Text.Nothing } }
-{
-    asks(Command::Check(k), count, most)
-}
-
-fn check_row(w: &[u8], other: Row) -> Row
-    ensures { result ≡ check_row w.now other }
-{
-    let mut r = other;
-    let open = of_check(CheckCommand::Open, 0, [0; NUMBERS]);
-    r = named(w, b"open", open, r);
-    let go = of_check(CheckCommand::Go, 1, [TOP, 0, 0, 0, 0]);
-    r = named(w, b"go", go, r);
-    let resume = of_check(CheckCommand::Resume, 1, [TOP, 0, 0, 0, 0]);
-    r = named(w, b"resume", resume, r);
-    r
+    let rows: [(&[u8], Row); 3] = [
+        (b"open", asks(Check(CheckCommand::Open), &[])),
+        (b"go", asks(Check(CheckCommand::Go), &[TOP])),
+        (b"resume", asks(Check(CheckCommand::Resume), &[TOP])),
+    ];
+    found(w, &rows)
 }
 
 // The row of the command that has this name.
 pub fn row_of(w: &[u8]) -> Row
     ensures { result ≡ row_of w.now }
 {
-    let none = asks(Command::Unknown, 0, [0; NUMBERS]);
-    check_row(
-        w,
-        cable_row(
-            w,
-            replay_row(
-                w,
-                question_row(w, party_row(w, state_row(w, set_row(w, none)))),
-            ),
-        ),
-    )
+    set_row(w)
+        .or_else(|| state_row(w))
+        .or_else(|| party_row(w))
+        .or_else(|| question_row(w))
+        .or_else(|| replay_row(w))
+        .or_else(|| cable_row(w))
+        .or_else(|| check_row(w))
+        .unwrap_or(asks(Command::Unknown, &[]))
+}
+
+// ---- what commands put
+
+// A value is put into its place of a table; a place that there is not stays out.
+pub fn place<T: Copy>(table: &mut [T], i: usize, x: T)
+    ensures { table.new ≡ slice_set table.old i x }
+{
+    if i < table.len() {
+        table[i] = x;
+    }
 }

@@ -40,19 +40,13 @@ pub fn first() -> Desk
     ensures { result ≡ first_desk }
 {
     let set = stream_valid::empty_set();
-    let r = scheduler::start(set);
-    let state = r.state;
-    let replay = console_replay::first();
-    let carried = sheet_read::cable();
-    let position = console_check::first();
-    let terms = console_state::first();
     Desk {
         set,
-        state,
-        replay,
-        carried,
-        position,
-        terms,
+        state: scheduler::start(set).state,
+        replay: console_replay::first(),
+        carried: sheet_read::cable(),
+        position: console_check::first(),
+        terms: console_state::first(),
     }
 }
 
@@ -78,22 +72,11 @@ fn set_step(
     ensures { Stepped d (Command.Set k) n text.now out.old at result out.new }
 {
     let a = console_set::after(d.set, k, n, bytes);
-    let set = a.set;
-    let state = d.state;
-    let replay = d.replay;
-    let carried = d.carried;
-    let position = d.position;
-    let terms = d.terms;
     let end = page::append(out, at, a.line);
-    let desk = Desk {
-        set,
-        state,
-        replay,
-        carried,
-        position,
-        terms,
-    };
-    Step { desk, at: end }
+    Step {
+        desk: Desk { set: a.set, ..d },
+        at: end,
+    }
 }
 
 fn state_step(
@@ -107,20 +90,11 @@ fn state_step(
     ensures { Stepped d (Command.State k) n text.now out.old at result out.new }
 {
     let a = console_state::after(d.set, d.state, d.terms, k, n);
-    let set = d.set;
-    let state = a.state;
-    let replay = d.replay;
-    let carried = d.carried;
-    let position = d.position;
-    let terms = a.terms;
     let end = page::append(out, at, a.line);
     let desk = Desk {
-        set,
-        state,
-        replay,
-        carried,
-        position,
-        terms,
+        state: a.state,
+        terms: a.terms,
+        ..d
     };
     Step { desk, at: end }
 }
@@ -152,21 +126,12 @@ fn replayed_step(
     requires { bytes.now ≡ unhexed text.now }
     ensures { Stepped d (Command.Replay k) n text.now out.old at result out.new }
 {
-    let a = console_replay::after(d.replay, d.state, k, n, bytes);
-    let set = d.set;
-    let stepped = a.state;
-    let replay = a.replay;
-    let carried = d.carried;
-    let position = d.position;
-    let terms = d.terms;
-    let end = page::append(out, at, a.line);
+    let r = console_replay::after(d.replay, d.state, k, n, bytes);
+    let end = page::append(out, at, r.line);
     let desk = Desk {
-        set,
-        state: stepped,
-        replay,
-        carried,
-        position,
-        terms,
+        state: r.state,
+        replay: r.replay,
+        ..d
     };
     Step { desk, at: end }
 }
@@ -192,20 +157,11 @@ fn cable_step(
     ensures { Stepped d (Command.Cable k) n text.now out.old at result out.new }
 {
     let a = console_cable::after(d.carried, d.set, k, bytes);
-    let closed = a.set;
-    let state = d.state;
-    let replay = d.replay;
-    let fed = a.carried;
-    let position = d.position;
-    let terms = d.terms;
     let end = page::append(out, at, a.line);
     let desk = Desk {
-        set: closed,
-        state,
-        replay,
-        carried: fed,
-        position,
-        terms,
+        set: a.set,
+        carried: a.carried,
+        ..d
     };
     Step { desk, at: end }
 }
@@ -221,20 +177,10 @@ fn check_step(
     ensures { Stepped d (Command.Check k) n text.now out.old at result out.new }
 {
     let a = console_check::after(d.set, d.position, k, n);
-    let set = d.set;
-    let state = d.state;
-    let replay = d.replay;
-    let carried = d.carried;
-    let gone = a.position;
-    let terms = d.terms;
     let end = page::append(out, at, a.line);
     let desk = Desk {
-        set,
-        state,
-        replay,
-        carried,
-        position: gone,
-        terms,
+        position: a.position,
+        ..d
     };
     Step { desk, at: end }
 }
@@ -285,8 +231,5 @@ pub fn obey(d: Desk, line: &[u8], out: &mut [u8], at: usize) -> Step
         return Step { desk: d, at };
     }
     let o = console_parse::parse(line);
-    let command = o.command;
-    let numbers = o.numbers;
-    let from = o.text;
-    text_step(d, command, numbers, &line[from..], out, at)
+    text_step(d, o.command, o.numbers, &line[o.text..], out, at)
 }

@@ -3,13 +3,15 @@
 use Prim.Native.Nat.{ℕ, zero, suc, ◌+◌, ◌-◌, ◌≤◌, ◌<◌}
 use native.Mathlib.Omega.{arith}
 use native.Mathlib.Numerals.{add-one}
-use mathlib.Core.Path.{◌≡◌, refl, sym, ◌∙◌}
+use mathlib.Core.Path.{◌≡◌, refl, sym, ap, ◌∙◌}
 use mathlib.Core.Bool.{Bool, true, false, cond, ◌&&◌}
-use mathlib.Core.List.{List, [], ◌∷◌, ◌++◌, map}
-use mathlib.Core.Logic.{◌⊎◌, ⊎_elim}
-use lib.ListN.{length, get_or, take, drop, set, drop_of_length-le, length-take, length-drop, length-append, length-map}
-use lib.Seq.{drop-cons, drop-drop, get_or-take, set-append_seam, append_snoc}
-use lib.Dec.{eqb}
+use mathlib.Core.List.{List, [], ◌∷◌, ◌++◌}
+use mathlib.Core.Logic.{◌⊎◌, ⊎_elim, inl, inr}
+use lib.ListN.{length, get_or, take, drop, set, drop_of_length-le, length-take, length-append}
+use lib.Seq.{drop-cons, get_or-take, set-append_seam, append_snoc}
+use lib.Dec.{eqb, ltb}
+use borrow.Author.Tests.{ltb-true, ltb-false}
+use Rattle.laws.proofs.Sums.{by_test}
 use Rattle.laws.specs.Bits.{zeros}
 use Rattle.ascii.specs.Decimal.{read_on}
 use Rattle.console_names.specs.declared.Row.{Row}
@@ -17,33 +19,35 @@ use Rattle.console_names.specs.declared.Command.{Command}
 use Rattle.console_names.specs.declared.Command.TheVariants.{Unknown}
 use Rattle.console_names.specs.declared.Text.{Text}
 use Rattle.console_parse.specs.declared.Order.{Order}
-use Rattle.console_parse.specs.declared.Next.TheVariants.{Is as IsTo, Bad as BadNext}
+use Rattle.std.proofs.Common.{Option, Some, None, Bor, min}
+use Rattle.std.specs.Option.{option_map}
 use Rattle.console_parse.specs.Bytes.{front, behind, is_number}
 use Rattle.console_parse.specs.Lines.{text_ok, text_start, order_at, numbers_ok, values_of, rest_of, asked}
 use Rattle.console_parse.specs.Scan.{next_of, filled}
-use Rattle.console_parse.proofs.Words.{behind_drop, front_short}
+use Rattle.console_parse.proofs.Words.{some_pair}
 
--- where the text behind what is read starts
-pub start_in : (l : List ℕ) (at : ℕ) → at < length l → at + 1 ≡ text_start (length l) (drop at l)
-start_in l at h = omega (arith, length-drop at l)
+abbrev value_in : Option (ℕ × List ℕ) → ℕ
+value_in None = 0
+value_in (Some p) = p.0
 
-pub start_end : (l : List ℕ) (at : ℕ) → at ≤ length l → length l ≤ at → at ≡ text_start (length l) (drop at l)
-start_end l at h g = omega (arith, length-drop at l)
+abbrev left_in : Option (ℕ × List ℕ) → List ℕ
+left_in None = []
+left_in (Some p) = p.1
 
-module _ (size : ℕ) (command : Command) (t : Text) where
-  module _ (ns l : List ℕ) (text : ℕ) (b : Bool) (f : b ≡ text_ok t l) where
-    pub ends : b ≡ true → text ≡ text_start size l → ◌≡◌ {A = Order} (record { command = command; numbers = ns; text = text }) (filled size command t 0 [] l ns)
-    unfolding filled
-    ends h e = rw (← f, h, e)
+-- what a look for the next number gave
+module _ (o : Option (ℕ × Bor (List ℕ))) (p : Option (ℕ × List ℕ)) where
+  pub taken : (n : ℕ) (l : Bor (List ℕ)) → o ≡ Some (n, l) → option_map (λ q. (q.0, q.1.now)) o ≡ p → p ≡ some_pair n l.now
+  taken n l e f = sym f ∙ ap (option_map (λ q. (q.0, q.1.now))) e
 
-    pub goes_on_lem : b ≡ false → order_at Unknown [] size ≡ filled size command t 0 [] l ns
-    unfolding filled
-    goes_on_lem h = rw (← f, h)
+  pub untaken : o ≡ None → option_map (λ q. (q.0, q.1.now)) o ≡ p → p ≡ None
+  untaken e f = sym f ∙ ap (option_map (λ q. (q.0, q.1.now))) e
 
-  -- the place that comes next does not matter where no number is to come
-  pub no_place : (k : ℕ) (l ns : List ℕ) → filled size command t 0 [] l ns ≡ filled size command t k [] l ns
-  unfolding filled
-  no_place k l ns = refl
+-- as many are read as there are, or as there are places for
+pub all_read : (most : List ℕ) (count k e : ℕ) → length most ≡ 5 → e ≡ min count 5 → e ≤ k → (count ≤ k) ⊎ (length most ≤ k)
+all_read most count k e h f g =
+    by_test (ltb 5 count)
+    (λ p. inr (omega (arith, ltb-true 5 count p)))
+    (λ p. inl (omega (arith, ltb-false 5 count p)))
 
 -- no number is to come behind the last
 pub none_left : (most : List ℕ) (count k : ℕ) → (count ≤ k) ⊎ (length most ≤ k) → drop k (take count most) ≡ []
@@ -56,51 +60,55 @@ one_left most count k h g =
     rw (drop-cons (take count most) k 0 inside, get_or-take count most k 0 h, add-one k)
 
 -- a number that was found goes to its place; where none was found the line is no command
-module _ (size : ℕ) (command : Command) (t : Text) (m at k : ℕ) (ms ns : List ℕ) where
-  pub found : (d : List ℕ) (n e : ℕ) → next_of m at d ≡ IsTo n e
-      → (filled size command t k (m ∷ ms) d ns ≡ filled size command t (k + 1) ms (drop (e - at) d) (set ns k n)) × ((at ≤ e) × (e - at ≤ length d))
+module _ (size : ℕ) (command : Command) (t : Text) (m k : ℕ) (ms ns : List ℕ) where
+  pub found : (d : List ℕ) (n : ℕ) (l : List ℕ) → next_of m d ≡ some_pair n l
+      → filled size command t k (m ∷ ms) d ns ≡ filled size command t (k + 1) ms l (set ns k n)
   unfolding next_of filled
-  found [] n e h = let z : ◌≡◌ {A = ℕ} 0 1 = cc in absurd (omega arith)
-  found (b ∷ l) n e h = go (eqb b 32 && is_number m (front l)) (read_on 0 (front l)) h
+  found [] n l h = cc
+  found (b ∷ d) n l h = go (eqb b 32 && is_number m (front d)) (read_on 0 (front d)) h
     where
-      go : (u : Bool) (v : ℕ) → cond u (IsTo v (at + 1 + length (front l))) BadNext ≡ IsTo n e
-          → (cond u (filled size command t (suc k) ms (behind l) (set ns k v)) (order_at Unknown [] size) ≡ filled size command t (k + 1) ms (drop (e - at) (b ∷ l)) (set ns k n))
-          × ((at ≤ e) × (e - at ≤ length (b ∷ l)))
+      go : (u : Bool) (v : ℕ) → cond u (some_pair v (behind d)) None ≡ some_pair n l
+          → cond u (filled size command t (suc k) ms (behind d) (set ns k v)) (order_at Unknown [] size) ≡ filled size command t (k + 1) ms l (set ns k n)
       go true v y =
-          let same : v ≡ n = cc in
-          let end : at + 1 + length (front l) ≡ e = cc in
-          let far : e - at ≡ suc (length (front l)) = omega arith in
-          (rw (same, far, add-one k, behind_drop l), (omega arith, omega (arith, front_short l)))
-      go false v y = let z : ◌≡◌ {A = ℕ} 0 1 = cc in absurd (omega arith)
+          let same : v ≡ n = ap value_in y in
+          let left : behind d ≡ l = ap left_in y in
+          rw (same, left, add-one k)
+      go false v y = cc
 
-  pub missing : (d : List ℕ) → next_of m at d ≡ BadNext → order_at Unknown [] size ≡ filled size command t k (m ∷ ms) d ns
+  pub missing : (d : List ℕ) → next_of m d ≡ None → order_at Unknown [] size ≡ filled size command t k (m ∷ ms) d ns
   unfolding next_of filled
   missing [] h = refl
   missing (b ∷ l) h = go (eqb b 32 && is_number m (front l)) (read_on 0 (front l)) h
     where
-      go : (u : Bool) (v : ℕ) → cond u (IsTo v (at + 1 + length (front l))) BadNext ≡ BadNext
+      go : (u : Bool) (v : ℕ) → cond u (some_pair v (behind l)) None ≡ None
           → order_at Unknown [] size ≡ cond u (filled size command t (suc k) ms (behind l) (set ns k v)) (order_at Unknown [] size)
-      go true v y = let z : ◌≡◌ {A = ℕ} 0 1 = cc in absurd (omega arith)
+      go true v y = cc
       go false v y = refl
 
 -- a turn of the loop over the numbers
-module _ (size : ℕ) (command : Command) (t : Text) (line most ns : List ℕ) (count k at : ℕ) (o : Order)
-    (y : filled size command t k (drop k (take count most)) (drop at line) ns ≡ o) where
-  pub turn : (n e : ℕ) → at ≤ length line → k < count → k < length most → next_of (get_or most k 0) at (drop at line) ≡ IsTo n e
-      → (e ≤ length line) × (filled size command t (k + 1) (drop (k + 1) (take count most)) (drop e line) (set ns k n) ≡ o)
-  turn n e h c m x =
-      let f : (filled size command t k (get_or most k 0 ∷ drop (k + 1) (take count most)) (drop at line) ns ≡ filled size command t (k + 1) (drop (k + 1) (take count most)) (drop (e - at) (drop at line)) (set ns k n)) × ((at ≤ e) × (e - at ≤ length (drop at line))) = found size command t (get_or most k 0) at k (drop (k + 1) (take count most)) ns (drop at line) n e x in
-      let end : at + (e - at) ≡ e = omega (arith, f.1.0) in (
-        omega (arith, f.1.0, f.1.1, length-drop at line),
-        sym (rw (drop-drop (e - at) at line, end) at f.0) ∙ rw (one_left most count k c m) at y,
-      )
+module _ (size : ℕ) (command : Command) (t : Text) (rest most ns : List ℕ) (count k : ℕ) (o : Order)
+    (y : filled size command t k (drop k (take count most)) rest ns ≡ o) where
+  pub turn : (n : ℕ) (l : List ℕ) → k < count → k < length most → next_of (get_or most k 0) rest ≡ some_pair n l
+      → filled size command t (k + 1) (drop (k + 1) (take count most)) l (set ns k n) ≡ o
+  turn n l c m x =
+      sym (found size command t (get_or most k 0) k (drop (k + 1) (take count most)) ns rest n l x) ∙ rw (one_left most count k c m) at y
 
-  pub stop : (r : Order) → k < count → k < length most → next_of (get_or most k 0) at (drop at line) ≡ BadNext → r ≡ order_at Unknown [] size → r ≡ o
+  pub stop : (r : Order) → k < count → k < length most → next_of (get_or most k 0) rest ≡ None → r ≡ order_at Unknown [] size → r ≡ o
   stop r c m x e =
-      e ∙ missing size command t (get_or most k 0) at k (drop (k + 1) (take count most)) ns (drop at line) x ∙ rw (one_left most count k c m) at y
+      e ∙ missing size command t (get_or most k 0) k (drop (k + 1) (take count most)) ns rest x ∙ rw (one_left most count k c m) at y
 
-  pub finish : (r : Order) → (count ≤ k) ⊎ (length most ≤ k) → r ≡ filled size command t 0 [] (drop at line) ns → r ≡ o
-  finish r h e = e ∙ no_place size command t k (drop at line) ns ∙ rw (none_left most count k h) at y
+  -- behind the last number it is the text that decides
+  module _ (b : Bool) (f : b ≡ text_ok t rest) (h : (count ≤ k) ⊎ (length most ≤ k)) where
+    pub ends : (text : ℕ) → b ≡ true → text ≡ text_start size rest → ◌≡◌ {A = Order} (record { command = command; numbers = ns; text = text }) o
+    unfolding filled
+    ends text g e = rw (e) (last g)
+      where
+        last : b ≡ true → ◌≡◌ {A = Order} (record { command = command; numbers = ns; text = text_start size rest }) o
+        last g = sym (ap (λ (u : Bool). cond u (record { command = command; numbers = ns; text = text_start size rest }) (order_at Unknown [] size)) (sym f ∙ g)) ∙ (rw (none_left most count k h) at y)
+
+    pub ends_not : (r : Order) → b ≡ false → r ≡ order_at Unknown [] size → r ≡ o
+    unfolding filled
+    ends_not r g e = e ∙ sym (ap (λ (u : Bool). cond u (record { command = command; numbers = ns; text = text_start size rest }) (order_at Unknown [] size)) (sym f ∙ g)) ∙ (rw (none_left most count k h) at y)
 
 -- all the numbers filled in, behind those of pre, make the command
 fill_all : (size : ℕ) (command : Command) (t : Text) (ms l pre : List ℕ) (n : ℕ) → length ms ≤ n
@@ -129,7 +137,3 @@ pub filled_asked : (size : ℕ) (r : Row) (l : List ℕ) → length r.most ≡ 5
     → filled size r.command r.text 0 (take r.count r.most) l (zeros 5) ≡ asked size r l
 unfolding asked
 filled_asked size r l h = fill_all size r.command r.text (take r.count r.most) l [] 5 (omega (arith, length-take r.count r.most))
-
--- an array's length, as the machine tells it
-pub sized : (l : List ℕ) (n : ℕ) → length (map (λ (v : ℕ). v) l) ≡ n → length l ≡ n
-sized l n h = sym (length-map l (λ (v : ℕ). v)) ∙ h

@@ -1,95 +1,78 @@
--- What stands behind a word: a number behind its space, or a text behind its own.
+-- What stands behind a space: a number, or a text.
 -- Assumes nothing.
-use Prim.Native.Nat.{ℕ, ◌+◌, ◌-◌, ◌≤◌, ◌<◌}
-use native.Mathlib.Omega.{arith}
-use native.Mathlib.Numerals.{add-one}
-use mathlib.Core.Path.{◌≡◌, refl, sym, ◌∙◌}
-use mathlib.Core.Bool.{Bool, true, false, cond}
-use mathlib.Core.List.{List}
-use lib.ListN.{length, get_or, take, drop, drop_of_length-le, length-drop}
-use lib.Seq.{drop-cons, take_all}
-use borrow.Author.Tests.{eq-eqb, ne_eqb, lt-ltb}
+use Rattle.std.proofs.Common.{◌≡◌, ℕ, ◌<◌, Bool, true, false, cond, not, ◌&&◌, List, [], ◌∷◌, length, take, drop, Option, Some, None, refl, sym, ◌∙◌, arith}
+use borrow.Author.Tests.{ne_eqb, eqb-true, eqb-false, lt-ltb, le-ltb}
+use lib.Dec.{eqb, ltb}
 use Rattle.console_names.specs.declared.Text.{Text}
 use Rattle.ascii.specs.Decimal.{read_on}
-use Rattle.console_parse.specs.declared.Got.{Got}
-use Rattle.console_parse.specs.declared.Got.TheVariants.{Is, Bad}
-use Rattle.console_parse.specs.declared.Next.TheVariants.{Is as IsTo, Bad as BadNext}
-use Rattle.console_parse.specs.Bytes.{front, is_number}
+use Rattle.console_parse.specs.Bytes.{front, behind, is_number}
 use Rattle.console_parse.specs.Lines.{is_text, text_ok}
-use Rattle.console_parse.specs.Scan.{got_of, next_of}
-use Rattle.console_parse.proofs.Words.{front_take, front_short}
+use Rattle.console_parse.specs.Scan.{number_of, next_of}
+use Rattle.console_parse.proofs.Words.{some_pair, front_take, behind_drop}
 
--- the slice from a word's start to its end is the word, and lies within the line
-pub word_slice : (l : List ℕ) (s e : ℕ) → e ≡ s + length (front (drop s l)) → take (e - s) (drop s l) ≡ front (drop s l)
-word_slice l s e h =
-    let size : e - s ≡ length (front (drop s l)) = omega arith in
-    rw size (front_take (drop s l))
+pub next_none : (most : ℕ) (l : List ℕ) → length l ≡ 0 → None ≡ next_of most l
+unfolding next_of
+next_none most [] h = refl
+next_none most (b ∷ l) h = cc
 
-pub word_inside : (l : List ℕ) (s e : ℕ) → e ≡ s + length (front (drop s l)) → s ≤ length l → e ≤ length l
-word_inside l s e h g = omega (arith, front_short (drop s l), length-drop s l)
-
-module _ (most at : ℕ) (l : List ℕ) where
-  pub next_none : length l ≤ at → BadNext ≡ next_of most at (drop at l)
+module _ (most : ℕ) (rest l : List ℕ) (b : ℕ) (is : rest ≡ b ∷ l) where
+  pub next_other : (b ≡ 32 → ⊥) → None ≡ next_of most rest
   unfolding next_of
-  next_none h = rw (drop_of_length-le l h)
+  next_other g = rw (is, ne_eqb b 32 g)
 
-  module _ (h : at < length l) where
-    pub next_other : (get_or l at 0 ≡ 32 → ⊥) → BadNext ≡ next_of most at (drop at l)
-    unfolding next_of
-    next_other g = rw (drop-cons l at 0 h, ne_eqb (get_or l at 0) 32 g)
+  -- behind a space it is the word's being a number that decides
+  module _ (e : ℕ) (o : Option ℕ) (word left : List ℕ) (g : b ≡ 32) (h : e ≡ length (front l)) (f : word ≡ take e l) (k : left ≡ drop e l) (p : o ≡ number_of most word) where
+    pub next_is : (n : ℕ) → o ≡ Some n → some_pair n left ≡ next_of most rest
+    unfolding next_of number_of
+    next_is n q =
+        rw (is, g, k, h, behind_drop l) (go (is_number most (front l)) (read_on 0 (front l)) (sym (rw (f, h, front_take l) at p) ∙ q))
+      where
+        go : (t : Bool) (v : ℕ) → cond t (Some v) None ≡ Some n → some_pair n (behind l) ≡ cond t (some_pair v (behind l)) None
+        go true v y = cc
+        go false v y = cc
 
-    module _ (g : get_or l at 0 ≡ 32) where
-      -- behind a space it is the word's being a number that decides
-      spaced : next_of most at (drop at l)
-          ≡ cond (is_number most (front (drop (at + 1) l))) (IsTo (read_on 0 (front (drop (at + 1) l))) (at + 1 + length (front (drop (at + 1) l)))) BadNext
-      unfolding next_of
-      spaced = rw (drop-cons l at 0 h, eq-eqb (get_or l at 0) 32 g, add-one at)
+    pub next_bad : o ≡ None → None ≡ next_of most rest
+    unfolding next_of number_of
+    next_bad q =
+        rw (is, g) (go (is_number most (front l)) (read_on 0 (front l)) (sym (rw (f, h, front_take l) at p) ∙ q))
+      where
+        go : (t : Bool) (v : ℕ) → cond t (Some v) None ≡ None → None ≡ cond t (some_pair v (behind l)) None
+        go true v y = cc
+        go false v y = refl
 
-      pub next_is : (e n : ℕ) (x : Got) → e ≡ at + 1 + length (front (drop (at + 1) l))
-          → x ≡ got_of most (take (e - (at + 1)) (drop (at + 1) l)) → x ≡ Is n → IsTo n e ≡ next_of most at (drop at l)
-      unfolding got_of
-      next_is e n x p q r =
-          rw spaced
-          (go (is_number most (front (drop (at + 1) l))) (read_on 0 (front (drop (at + 1) l)))
-          (sym (rw (word_slice l (at + 1) e p) at q) ∙ r))
-        where
-          go : (t : Bool) (v : ℕ) → cond t (Is v) Bad ≡ Is n → IsTo n e ≡ cond t (IsTo v (at + 1 + length (front (drop (at + 1) l)))) BadNext
-          go true v y = cc
-          go false v y = let z : ◌≡◌ {A = ℕ} 0 1 = cc in absurd (omega arith)
+pub not_true : (b : Bool) → not b ≡ true → b ≡ false
+not_true true h = cc
+not_true false h = refl
 
-      pub next_bad : (e : ℕ) (x : Got) → e ≡ at + 1 + length (front (drop (at + 1) l))
-          → x ≡ got_of most (take (e - (at + 1)) (drop (at + 1) l)) → x ≡ Bad → BadNext ≡ next_of most at (drop at l)
-      unfolding got_of
-      next_bad e x p q r =
-          rw spaced
-          (go (is_number most (front (drop (at + 1) l))) (read_on 0 (front (drop (at + 1) l)))
-          (sym (rw (word_slice l (at + 1) e p) at q) ∙ r))
-        where
-          go : (t : Bool) (v : ℕ) → cond t (Is v) Bad ≡ Bad → BadNext ≡ cond t (IsTo v (at + 1 + length (front (drop (at + 1) l)))) BadNext
-          go true v y = let z : ◌≡◌ {A = ℕ} 0 1 = cc in absurd (omega arith)
-          go false v y = refl
+pub not_false : (b : Bool) → not b ≡ false → b ≡ true
+not_false true h = refl
+not_false false h = cc
 
 -- the text behind the numbers
-module _ (t : Text) (l : List ℕ) (at : ℕ) where
-  pub text_none : length l ≤ at → true ≡ text_ok t (drop at l)
+module _ (t : Text) (l m : List ℕ) (b : ℕ) (e : l ≡ b ∷ m) where
+  pub text_some : (r : Bool) → eqb b 32 ≡ true → eqb (length m) 0 ≡ false → r ≡ is_text t m → r ≡ text_ok t l
   unfolding text_ok
-  text_none h = rw (drop_of_length-le l h)
+  text_some r h g f =
+      let some : 0 < length m = omega (arith, eqb-false (length m) 0 g) in
+      rw (e, h, lt-ltb 0 (length m) some) f
 
-  module _ (h : at < length l) where
-    pub text_other : (get_or l at 0 ≡ 32 → ⊥) → false ≡ text_ok t (drop at l)
-    unfolding text_ok
-    text_other g = rw (drop-cons l at 0 h, ne_eqb (get_or l at 0) 32 g)
+  pub text_other : eqb b 32 ≡ false → false ≡ text_ok t l
+  unfolding text_ok
+  text_other h = rw (e, h)
 
-    module _ (g : get_or l at 0 ≡ 32) where
-      pub text_empty : length l ≤ at + 1 → false ≡ text_ok t (drop at l)
-      unfolding text_ok
-      text_empty f = rw (drop-cons l at 0 h, eq-eqb (get_or l at 0) 32 g, ← add-one at, drop_of_length-le l f)
+  pub text_empty : eqb (length m) 0 ≡ true → false ≡ text_ok t l
+  unfolding text_ok
+  text_empty h =
+      rw (e, lt_none) (sym (and_false (eqb b 32)))
+    where
+      lt_none : ltb 0 (length m) ≡ false
+      lt_none = le-ltb 0 (length m) (omega (arith, eqb-true (length m) 0 h))
 
-      pub text_some : (b : Bool) → at + 1 < length l → b ≡ is_text t (take (length l - (at + 1)) (drop (at + 1) l)) → b ≡ text_ok t (drop at l)
-      unfolding text_ok
-      text_some b f e =
-          let some : 0 < length (drop (at + 1) l) = omega (arith, length-drop (at + 1) l) in
-          let whole : length (drop (at + 1) l) ≤ length l - (at + 1) = omega (arith, length-drop (at + 1) l) in
-          rw
-          (drop-cons l at 0 h, eq-eqb (get_or l at 0) 32 g, ← add-one at, lt-ltb 0 (length (drop (at + 1) l)) some)
-          (rw (take_all (length l - (at + 1)) (drop (at + 1) l) whole) at e)
+      and_false : (u : Bool) → (u && false) ≡ false
+      and_false true = refl
+      and_false false = refl
+
+pub text_none : (t : Text) (l : List ℕ) → length l ≡ 0 → true ≡ text_ok t l
+unfolding text_ok
+text_none t [] h = refl
+text_none t (b ∷ l) h = cc

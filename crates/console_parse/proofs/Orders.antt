@@ -14,7 +14,7 @@ use Rattle.console_names.specs.Rows.{row_of}
 use Rattle.console_parse.specs.declared.Order.{Order}
 use Rattle.console_parse.specs.Bytes.{front, behind}
 use Rattle.console_parse.specs.Lines.{numbers_ok, order_at, asked, longest, order_of}
-use Rattle.console_parse.proofs.Words.{front_take, behind_drop, front_short}
+use Rattle.console_parse.proofs.Words.{front_take, behind_drop}
 
 module _ (l : List ℕ) where
   pub empty : (r : Order) → length l ≡ 0 → r ≡ order_at Nothing [] 0 → r ≡ order_of l
@@ -25,22 +25,11 @@ module _ (l : List ℕ) where
   unfolding order_of
   long r z h e = rw (ne_eqb (length l) 0 z, lt-ltb longest (length l) h) e
 
-  module _ (e : ℕ) (h : e ≡ 0 + length (front l)) where
-    at_end : e ≡ length (front l)
-    at_end = omega arith
-
-    at_front : take e l ≡ front l
-    at_front = rw at_end (front_take l)
-
-    at_behind : drop e l ≡ behind l
-    at_behind = rw at_end (behind_drop l)
-
-    pub inside : e ≤ length l
-    inside = omega (arith, front_short l)
-
-    pub named : (r : Order) (a : Row) → (length l ≡ 0 → ⊥) → length l ≤ longest → a ≡ row_of (take e l) → r ≡ asked (length l) a (drop e l) → r ≡ order_of l
-    unfolding order_of
-    named r a z g x y = rw (ne_eqb (length l) 0 z, le-ltb longest (length l) g, ← at_front, ← at_behind, ← x) y
+  pub named : (e : ℕ) → e ≡ length (front l) → (name left : List ℕ) → name ≡ take e l → left ≡ drop e l → (r : Order) (a : Row) → (length l ≡ 0 → ⊥) → length l ≤ longest
+      → a ≡ row_of name → r ≡ asked (length l) a left → r ≡ order_of l
+  unfolding order_of
+  named e h name left n m r a z g x y =
+      rw (ne_eqb (length l) 0 z, le-ltb longest (length l) g, ← front_take l, ← behind_drop l, ← h, ← n, ← m, ← x) y
 
 -- no line leaves more than `longest` bytes of text
 pub text_short : (l : List ℕ) → length l ≤ (order_of l).text + longest

@@ -1,6 +1,6 @@
 -- Tests of every byte of a word, by a loop; and when a word is a number.
 -- Assumes nothing.
-use Prim.Native.Nat.{ℕ, ◌+◌, ◌-◌, ◌*◌, ◌%◌, ◌≤◌, ◌<◌}
+use Prim.Native.Nat.{ℕ, ◌+◌, ◌-◌, ◌*◌, ◌≤◌, ◌<◌}
 use native.Mathlib.Omega.{arith}
 use native.Mathlib.Numerals.{add-one}
 use mathlib.Core.Path.{◌≡◌, refl, ◌∙◌}
@@ -8,35 +8,24 @@ use mathlib.Core.Bool.{Bool, true, false, ◌&&◌}
 use mathlib.Core.List.{List, [], ◌∷◌}
 use lib.ListN.{length, get_or, drop, drop_of_length-le}
 use lib.Seq.{drop-cons}
-use lib.Dec.{leb}
-use borrow.Author.Tests.{le-leb, lt-leb, eq-eqb, ne_eqb}
-use Rattle.laws.specs.Lists.{within, all}
+use lib.Dec.{leb, eqb}
+use borrow.Author.Tests.{le-leb, lt-leb, eqb-false}
+use Rattle.std.specs.List.{list_all}
+use Rattle.laws.specs.Lists.{within}
 use Rattle.ascii.specs.Decimal.{read_on, is_digit}
-use Rattle.ascii.specs.Hex.{is_hex}
-use Rattle.console_parse.specs.declared.Got.TheVariants.{Is, Bad}
-use Rattle.console_parse.specs.Bytes.{is_number, is_hex_text}
-use Rattle.console_parse.specs.Scan.{got_of}
+use Rattle.std.proofs.Common.{Some, None}
+use Rattle.console_parse.specs.Bytes.{is_number}
+use Rattle.console_parse.specs.Scan.{number_of}
 
 module _ (p : ℕ → Bool) (w : List ℕ) (i : ℕ) where
-  pub all_on : i < length w → p (get_or w i 0) ≡ true → all p (drop (i + 1) w) ≡ all p (drop i w)
-  unfolding all
+  pub all_on : i < length w → p (get_or w i 0) ≡ true → list_all p (drop (i + 1) w) ≡ list_all p (drop i w)
   all_on h e = rw (drop-cons w i 0 h, e, add-one i)
 
-  pub all_off : i < length w → p (get_or w i 0) ≡ false → all p (drop i w) ≡ false
-  unfolding all
+  pub all_off : i < length w → p (get_or w i 0) ≡ false → list_all p (drop i w) ≡ false
   all_off h e = rw (drop-cons w i 0 h, e)
 
-  pub all_end : length w ≤ i → all p (drop i w) ≡ true
-  unfolding all
+  pub all_end : length w ≤ i → list_all p (drop i w) ≡ true
   all_end h = rw (drop_of_length-le w h)
-
-pub hex_odd : (w : List ℕ) → (length w % 2 ≡ 0 → ⊥) → is_hex_text w ≡ false
-unfolding is_hex_text
-hex_odd w h = rw (ne_eqb (length w % 2) 0 h)
-
-pub hex_even : (w : List ℕ) → length w % 2 ≡ 0 → is_hex_text w ≡ all is_hex w
-unfolding is_hex_text
-hex_even w h = rw (eq-eqb (length w % 2) 0 h)
 
 -- reading on never makes a number smaller
 pub read_more : (a : ℕ) (w : List ℕ) → a ≤ read_on a w
@@ -52,29 +41,32 @@ pub read_end_lem : (n : ℕ) (w : List ℕ) (i : ℕ) → length w ≤ i → rea
 unfolding read_on
 read_end_lem n w i h = rw (drop_of_length-le w h)
 
+pub some_bytes : (w : List ℕ) → eqb (length w) 0 ≡ false → length w ≡ 0 → ⊥
+some_bytes w h e = absurd (omega (arith, eqb-false (length w) 0 h, e))
+
 and_false : (t : Bool) → (t && false) ≡ false
 and_false true = refl
 and_false false = refl
 
 module _ (most : ℕ) (w : List ℕ) where
-  pub got_empty : length w ≡ 0 → Bad ≡ got_of most w
-  unfolding got_of is_number
+  pub got_empty : length w ≡ 0 → None ≡ number_of most w
+  unfolding number_of is_number
   got_empty h = rw h
 
-  pub got_long : 10 < length w → Bad ≡ got_of most w
-  unfolding got_of is_number
+  pub got_long : 10 < length w → None ≡ number_of most w
+  unfolding number_of is_number
   got_long h = rw (lt-leb (length w) 10 h, and_false (leb 1 (length w)))
 
-  pub got_other : all is_digit w ≡ false → Bad ≡ got_of most w
-  unfolding got_of is_number
+  pub got_other : list_all is_digit w ≡ false → None ≡ number_of most w
+  unfolding number_of is_number
   got_other h = rw (h, and_false (within 1 (length w) 10))
 
-  pub got_large : most < read_on 0 w → Bad ≡ got_of most w
-  unfolding got_of is_number
-  got_large h = rw (lt-leb (read_on 0 w) most h, and_false (all is_digit w), and_false (within 1 (length w) 10))
+  pub got_large : most < read_on 0 w → None ≡ number_of most w
+  unfolding number_of is_number
+  got_large h = rw (lt-leb (read_on 0 w) most h, and_false (list_all is_digit w), and_false (within 1 (length w) 10))
 
-  pub got_is : (n : ℕ) → (length w ≡ 0 → ⊥) → length w ≤ 10 → all is_digit w ≡ true → n ≡ read_on 0 w → n ≤ most → Is n ≡ got_of most w
-  unfolding got_of is_number
+  pub got_is : (n : ℕ) → (length w ≡ 0 → ⊥) → length w ≤ 10 → list_all is_digit w ≡ true → n ≡ read_on 0 w → n ≤ most → Some n ≡ number_of most w
+  unfolding number_of is_number
   got_is n h g a e f =
       let one : 1 ≤ length w = omega arith in
       let low : read_on 0 w ≤ most = omega arith in
@@ -87,9 +79,9 @@ module _ (w : List ℕ) (i : ℕ) where
   next n d h e f = rw e (read_turn n w i h) ∙ f
 
   pub too_large : (most n d : ℕ) → most ≤ 4294967295 → i < length w → d ≡ get_or w i 0 - 48 → read_on n (drop i w) ≡ read_on 0 w
-      → 4294967295 < n * 10 + d → Bad ≡ got_of most w
+      → 4294967295 < n * 10 + d → None ≡ number_of most w
   too_large most n d m h e f g =
       got_large most w (omega (arith, next n d h e f, read_more (n * 10 + d) (drop (i + 1) w)))
 
-  pub past : (most n : ℕ) → length w ≤ i → read_on n (drop i w) ≡ read_on 0 w → most < n → Bad ≡ got_of most w
+  pub past : (most n : ℕ) → length w ≤ i → read_on n (drop i w) ≡ read_on 0 w → most < n → None ≡ number_of most w
   past most n h e g = got_large most w (omega (arith, e, read_end_lem n w i h))

@@ -1,29 +1,47 @@
 -- The word at the front of what is left of a line.
 -- Assumes nothing.
-use Prim.Native.Nat.{ℕ, ◌+◌, ◌-◌, ◌≤◌, ◌<◌}
+use Prim.Native.Nat.{ℕ, ◌+◌, ◌≤◌}
 use native.Mathlib.Omega.{arith}
-use native.Mathlib.Numerals.{add-one}
 use mathlib.Core.Path.{◌≡◌, refl, ap}
-use mathlib.Core.Bool.{Bool, true, false, cond}
+use mathlib.Core.Bool.{Bool, true, false, cond, not}
 use mathlib.Core.List.{List, [], ◌∷◌}
-use lib.ListN.{length, get_or, take, drop, drop_of_length-le}
-use lib.Seq.{drop-cons}
-use lib.Dec.{eqb}
-use borrow.Author.Tests.{eq-eqb, ne_eqb}
+use lib.ListN.{length, take, drop}
+use lib.Dec.{eqb, ltb}
+use borrow.Author.Tests.{ltb-false}
+use Rattle.std.proofs.Common.{Option, Some}
+use Rattle.std.specs.Option.{unwrap_or}
+use Rattle.std.specs.List.{position, position_or_len}
+use Rattle.laws.proofs.Sums.{by_test}
 use Rattle.console_parse.specs.Bytes.{front, behind}
 
-module _ (l : List ℕ) (i : ℕ) where
-  pub front_on : i < length l → (get_or l i 0 ≡ 32 → ⊥) → front (drop i l) ≡ get_or l i 0 ∷ front (drop (i + 1) l)
-  unfolding front
-  front_on h e = rw (drop-cons l i 0 h, ne_eqb (get_or l i 0) 32 e, add-one i)
+pub front_short : (l : List ℕ) → length (front l) ≤ length l
+unfolding front
+front_short [] = omega arith
+front_short (b ∷ l) = go (eqb b 32) (front_short l)
+  where
+    go : (t : Bool) → length (front l) ≤ length l → length (cond t [] (b ∷ front l)) ≤ length (b ∷ l)
+    go true e = omega arith
+    go false e = omega arith
 
-  pub front_stop : i < length l → get_or l i 0 ≡ 32 → front (drop i l) ≡ []
-  unfolding front
-  front_stop h e = rw (drop-cons l i 0 h, eq-eqb (get_or l i 0) 32 e)
+-- a number, and what is left behind it
+abbrev pub some_pair : ℕ → List ℕ → Option (ℕ × List ℕ)
+some_pair n l = Some (n, l)
 
-  pub front_end : length l ≤ i → front (drop i l) ≡ []
-  unfolding front
-  front_end h = rw (drop_of_length-le l h)
+-- the first word ends where the first space stands
+front_to : (l : List ℕ) → position_or_len (λ b. eqb b 32) l ≡ length (front l)
+unfolding front
+front_to [] = refl
+front_to (b ∷ l) = go (eqb b 32) (front_to l)
+  where
+    go : (t : Bool) → position_or_len (λ b. eqb b 32) l ≡ length (front l)
+        → cond (not t) (1 + position_or_len (λ b. eqb b 32) l) 0 ≡ length (cond t [] (b ∷ front l))
+    go true e = refl
+    go false e = omega (arith, e)
+
+pub front_at : (l : List ℕ) → unwrap_or (position (λ b. eqb b 32) l) (length l) ≡ length (front l)
+front_at l = by_test (ltb (position_or_len (λ b. eqb b 32) l) (length l))
+    (λ e. rw (e, front_to l))
+    (λ e. rw e (omega (arith, front_to l, front_short l, ltb-false (position_or_len (λ b. eqb b 32) l) (length l) e)))
 
 -- the word and what is left make up the line
 pub front_take : (l : List ℕ) → take (length (front l)) l ≡ front l
@@ -43,12 +61,3 @@ behind_drop (b ∷ l) = go (eqb b 32) (behind_drop l)
     go : (t : Bool) → drop (length (front l)) l ≡ behind l → drop (length (cond t [] (b ∷ front l))) (b ∷ l) ≡ cond t (b ∷ l) (behind l)
     go true e = refl
     go false e = e
-
-pub front_short : (l : List ℕ) → length (front l) ≤ length l
-unfolding front
-front_short [] = omega arith
-front_short (b ∷ l) = go (eqb b 32) (front_short l)
-  where
-    go : (t : Bool) → length (front l) ≤ length l → length (cond t [] (b ∷ front l)) ≤ length (b ∷ l)
-    go true e = omega arith
-    go false e = omega arith

@@ -1,8 +1,9 @@
 -- Words and numbers among bytes.
 -- Assumes nothing.
-use Rattle.std.specs.Prelude.{ℕ, zero, suc, ◌+◌, ◌-◌, ◌*◌, ◌%◌, Bool, true, false, cond, ◌&&◌, ◌||◌, List, [], ◌∷◌, ◌++◌, length, leb, eqb}
+use Rattle.std.specs.Prelude.{ℕ, ◌%◌, Bool, true, cond, ◌&&◌, ◌||◌, List, [], ◌∷◌, length, leb, eqb}
 use Prim.Native.Char.{code}
-use Rattle.laws.specs.Lists.{within, all}
+use Rattle.std.specs.List.{list_all}
+use Rattle.laws.specs.Lists.{within}
 use Rattle.ascii.specs.Decimal.{read_on, is_digit}
 use Rattle.ascii.specs.Hex.{is_hex}
 
@@ -17,11 +18,11 @@ behind (b ∷ l) = cond (eqb b (code " ")) (b ∷ l) (behind l)
 
 -- "A number is 1 to 10 decimal digits", and in this place at most `most`
 unfoldable pub is_number : ℕ → List ℕ → Bool
-is_number most w = within 1 (length w) 10 && (all is_digit w && leb (read_on 0 w) most)
+is_number most w = within 1 (length w) 10 && (list_all is_digit w && leb (read_on 0 w) most)
 
 -- "HEX is an even number of lower-case hex digits"
 unfoldable pub is_hex_text : List ℕ → Bool
-is_hex_text w = eqb (length w % 2) 0 && all is_hex w
+is_hex_text w = eqb (length w % 2) 0 && list_all is_hex w
 
 -- a step of one byte
 abbrev pub is_unit : ℕ → Bool

@@ -1,6 +1,6 @@
 -- What the private functions find on the way through a line.
 -- Assumes nothing.
-use Rattle.std.specs.Prelude.{ℕ, zero, suc, ◌+◌, Bool, true, false, cond, not, ◌&&◌, ◌||◌, List, [], ◌∷◌, ◌++◌, length, set, eqb}
+use Rattle.std.specs.Prelude.{ℕ, suc, Bool, cond, not, ◌&&◌, ◌||◌, List, [], ◌∷◌, set, eqb, Option, Some, None}
 use Prim.Native.Char.{code}
 use Rattle.ascii.specs.Decimal.{read_on}
 use Rattle.ascii.specs.Hex.{is_hex}
@@ -8,21 +8,17 @@ use Rattle.console_names.specs.declared.Command.{Command}
 use Rattle.console_names.specs.declared.Command.TheVariants.{Unknown}
 use Rattle.console_names.specs.declared.Text.{Text}
 use Rattle.console_parse.specs.declared.Order.{Order}
-use Rattle.console_parse.specs.declared.Got.{Got}
-use Rattle.console_parse.specs.declared.Got.TheVariants.{Is, Bad}
-use Rattle.console_parse.specs.declared.Next.{Next}
-use Rattle.console_parse.specs.declared.Next.TheVariants.{Is as IsTo, Bad as BadNext}
 use Rattle.console_parse.specs.Bytes.{front, behind, is_number, is_unit}
 use Rattle.console_parse.specs.Lines.{text_ok, text_start, order_at}
 
-unfoldable pub got_of : ℕ → List ℕ → Got
-got_of most w = cond (is_number most w) (Is (read_on 0 w)) Bad
+-- the number that a word is, where it is one of at most `most`
+unfoldable pub number_of : ℕ → List ℕ → Option ℕ
+number_of most w = cond (is_number most w) (Some (read_on 0 w)) None
 
--- the number behind the space at `at`, where the line goes on with l from there
-unfoldable pub next_of : ℕ → ℕ → List ℕ → Next
-next_of most at [] = BadNext
-next_of most at (b ∷ l) =
-    cond (eqb b (code " ") && is_number most (front l)) (IsTo (read_on 0 (front l)) (at + 1 + length (front l))) BadNext
+-- the number behind a space, and what is left behind it
+unfoldable pub next_of : ℕ → List ℕ → Option (ℕ × List ℕ)
+next_of most [] = None
+next_of most (b ∷ l) = cond (eqb b (code " ") && is_number most (front l)) (Some (read_on 0 (front l), behind l)) None
 
 -- a byte of a trace, where a p waits for its digit and where none does; and the steps that are left
 abbrev pub step_byte : Bool → ℕ → Bool

@@ -1,10 +1,13 @@
 // What a line of the console asks for.
 #![tactic(auto)]
 
-ghost use Rattle.std.specs.Prelude.{◌≡◌, ◌∷◌, [], ◌+◌, ◌-◌, ◌≤◌, length, drop};
+ghost use Rattle.std.specs.Prelude.{◌≡◌, ◌∷◌, [], ◌==◌, length};
+ghost use Rattle.std.specs.List.{list_all, position};
+ghost use Rattle.std.specs.Option.{option_map};
+ghost use Rattle.ascii.specs.Hex.{is_hex};
 ghost use Rattle.console_parse.specs.Bytes.{front, is_hex_text, is_steps};
-ghost use Rattle.console_parse.specs.Scan.{got_of, next_of, step_byte, filled};
-ghost use Rattle.console_parse.specs.Lines.{asked, is_text, text_ok, text_start, order_of, order_at};
+ghost use Rattle.console_parse.specs.Scan.{number_of, next_of, step_byte};
+ghost use Rattle.console_parse.specs.Lines.{asked, is_text, text_ok, order_of, order_at};
 
 use console_names::{Command, NUMBERS, Row, Text};
 
@@ -19,79 +22,56 @@ pub struct Order {
     pub text: usize,
 }
 
-// Where the word that begins at `at` ends: at the next space, or at the line's end.
-fn word_end(line: &[u8], at: usize) -> usize
-    requires { at ≤ length line.now }
-    ensures { result ≡ at + length (front (drop at line.now)) }
+fn first_space(rest: &[u8]) -> Option<usize>
+    ensures { result ≡ position (λ b. b == 32) rest.now }
 {
-    let mut i = at;
-    while i < line.len() {
-        if line[i] == b' ' {
-            return i;
-        }
-        i += 1;
-    }
-    i
+    rest.iter().position(|b| *b == b' ')
 }
 
-#[derive(Clone, Copy)]
-enum Got {
-    Is(u32),
-    Bad,
+// How long the word at the front is: up to the first space, or to the line's end.
+fn word_len(rest: &[u8]) -> usize
+    ensures { result ≡ length (front rest.now) }
+{
+    first_space(rest).unwrap_or(rest.len())
 }
 
-fn number_of(w: &[u8], most: u32) -> Got
-    ensures { result ≡ got_of most w.now }
+fn number_of(w: &[u8], most: u32) -> Option<u32>
+    ensures { result ≡ number_of most w.now }
 {
-    if w.len() == 0 {
-        return Got::Bad;
+    if w.is_empty() {
+        return None;
     }
     if 10 < w.len() {
-        return Got::Bad;
+        return None;
     }
     let mut n: u64 = 0;
-    let mut i = 0;
-    while i < w.len() {
-        let b = w[i];
-        if !ascii::is_digit(b) {
-            return Got::Bad;
+    for b in w {
+        if !ascii::is_digit(*b) {
+            return None;
         }
-        n = n * 10 + ascii::digit_of(b);
-        if 4294967295 < n {
-            return Got::Bad;
+        n = n * 10 + ascii::digit_of(*b);
+        if u64::from(u32::MAX) < n {
+            return None;
         }
-        i += 1;
     }
-    if n <= most as u64 {
-        Got::Is(n as u32)
+    if n <= u64::from(most) {
+        Some(n as u32)
     } else {
-        Got::Bad
+        None
     }
 }
 
-// A number behind its space: what it is, and where it ends.
-#[derive(Clone, Copy)]
-enum Next {
-    Is(u32, usize),
-    Bad,
-}
-
-fn next_number(line: &[u8], at: usize, most: u32) -> Next
-    requires { at ≤ length line.now }
-    ensures { result ≡ next_of most at (drop at line.now) }
+// The number behind a space, and what is left behind it.
+fn next_number(rest: &[u8], most: u32) -> Option<(u32, &[u8])>
+    ensures { option_map (λ p. (p.0, p.1.now)) result ≡ next_of most rest.now }
 {
-    if line.len() <= at {
-        return Next::Bad;
+    let (first, behind) = rest.split_first()?;
+    if *first != b' ' {
+        return None;
     }
-    if line[at] != b' ' {
-        return Next::Bad;
-    }
-    let start = at + 1;
-    let end = word_end(line, start);
-    match number_of(&line[start..end], most) {
-        Got::Is(n) => Next::Is(n, end),
-        Got::Bad => Next::Bad,
-    }
+    let (word, left) = behind.split_at(word_len(behind));
+    let n = number_of(word, most)?;
+    Some((n, left))
 }
 
 // A command with no numbers in a line of this length.
@@ -105,76 +85,39 @@ fn bare(command: Command, size: usize) -> Order
     }
 }
 
-// The numbers that a row asks for, in what stands behind the command's name.
-fn numbers(line: &[u8], from: usize, r: Row) -> Order
-    requires { from ≤ length line.now }
-    ensures { result ≡ asked (length line.now) r (drop from line.now) }
+// The numbers that a row asks for, in what stands behind the command's name in a line of this length.
+fn numbers(size: usize, behind: &[u8], r: Row) -> Order
+    ensures { result ≡ asked size r behind.now }
 {
-    let count = r.count;
-    let most = r.most;
-    let command = r.command;
-    let text = r.text;
-    let mut ns = [0u32; NUMBERS];
-    let mut at = from;
-    let mut k = 0;
-    while k < NUMBERS {
-        if count <= k {
-            return ending(line, at, command, text, ns);
-        }
-        match next_number(line, at, most[k]) {
-            Next::Is(n, end) => {
-                ns[k] = n;
-                at = end;
-            }
-            Next::Bad => {
-                return bare(Command::Unknown, line.len());
-            }
-        }
-        k += 1;
+    let mut numbers = [0; NUMBERS];
+    let mut rest = behind;
+    for k in 0..r.count.min(NUMBERS) {
+        let Some((n, left)) = next_number(rest, r.most[k]) else {
+            return bare(Command::Unknown, size);
+        };
+        numbers[k] = n;
+        rest = left;
     }
-    ending(line, at, command, text, ns)
-}
-
-// Behind the last number stands the command's text, and nothing else.
-fn ending(line: &[u8], at: usize, command: Command, text: Text, ns: [u32; NUMBERS]) -> Order
-    requires { at ≤ length line.now }
-    ensures { result ≡ filled (length line.now) command text 0 [] (drop at line.now) ns }
-{
-    if text_behind(line, at, text) {
+    // Behind the last number stands the command's text, and nothing else.
+    if text_behind(rest, r.text) {
         Order {
-            command,
-            numbers: ns,
-            text: text_start(line, at),
+            command: r.command,
+            numbers,
+            text: size.saturating_sub(rest.len().saturating_sub(1)),
         }
     } else {
-        bare(Command::Unknown, line.len())
+        bare(Command::Unknown, size)
     }
-}
-
-// Where the text behind the space at `at` starts.
-fn text_start(line: &[u8], at: usize) -> usize
-    requires { at ≤ length line.now }
-    ensures { result ≡ text_start (length line.now) (drop at line.now) }
-{
-    if at < line.len() { at + 1 } else { at }
 }
 
 // The text behind the numbers, behind its space; an empty one leaves its space out as well.
-fn text_behind(line: &[u8], at: usize, text: Text) -> bool
-    requires { at ≤ length line.now }
-    ensures { result ≡ text_ok text (drop at line.now) }
+fn text_behind(rest: &[u8], text: Text) -> bool
+    ensures { result ≡ text_ok text rest.now }
 {
-    if line.len() <= at {
-        return true;
+    match rest.split_first() {
+        None => true,
+        Some((first, behind)) => { *first == b' ' && !behind.is_empty() && is_text(behind, text) }
     }
-    if line[at] != b' ' {
-        return false;
-    }
-    let start = at + 1;
-    if line.len() <= start {
-        return false;
-    }
-    is_text(&line[start..], text)
 }
 
 fn is_text(w: &[u8], text: Text) -> bool
@@ -187,20 +130,17 @@ fn is_text(w: &[u8], text: Text) -> bool
     }
 }
 
+fn all_hex(w: &[u8]) -> bool
+    ensures { result ≡ list_all is_hex w.now }
+{
+    w.iter().all(|b| ascii::is_hex(*b))
+}
+
+#[tactic(auto, unfolding(crate::specs::Bytes::is_hex_text))]
 fn is_hex_text(w: &[u8]) -> bool
     ensures { result ≡ is_hex_text w.now }
 {
-    if w.len() % 2 != 0 {
-        return false;
-    }
-    let mut i = 0;
-    while i < w.len() {
-        if !ascii::is_hex(w[i]) {
-            return false;
-        }
-        i += 1;
-    }
-    true
+    w.len() % 2 == 0 && all_hex(w)
 }
 
 // A byte of a trace; a p may wait for its digit.
@@ -210,7 +150,7 @@ fn is_step_byte(waiting: bool, b: u8) -> bool
     if waiting {
         ascii::is_hex(b)
     } else {
-        (b == b'p') | ((b == b'u') | (b == b'd'))
+        matches!(b, b'p' | b'u' | b'd')
     }
 }
 
@@ -218,14 +158,11 @@ fn is_steps(w: &[u8]) -> bool
     ensures { result ≡ is_steps w.now }
 {
     let mut waiting = false;
-    let mut i = 0;
-    while i < w.len() {
-        let b = w[i];
-        if !is_step_byte(waiting, b) {
+    for b in w {
+        if !is_step_byte(waiting, *b) {
             return false;
         }
-        waiting = !waiting & (b == b'p');
-        i += 1;
+        waiting = !waiting & (*b == b'p');
     }
     !waiting
 }
@@ -234,12 +171,12 @@ fn is_steps(w: &[u8]) -> bool
 pub fn parse(line: &[u8]) -> Order
     ensures { result ≡ order_of line.now }
 {
-    if line.len() == 0 {
+    if line.is_empty() {
         return bare(Command::Nothing, 0);
     }
     if LONGEST < line.len() {
         return bare(Command::Unknown, line.len());
     }
-    let end = word_end(line, 0);
-    numbers(line, end, console_names::row_of(&line[..end]))
+    let (name, behind) = line.split_at(word_len(line));
+    numbers(line.len(), behind, console_names::row_of(name))
 }

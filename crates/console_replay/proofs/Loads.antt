@@ -1,37 +1,29 @@
--- Bytes loaded into the front of a buffer, and what is then held of it.
+-- Bytes loaded into the front of a buffer, and what is held of it.
 -- Assumes nothing.
-use Prim.Native.Nat.{ℕ, suc, ◌+◌, ◌-◌, ◌≤◌, ◌<◌}
+use Prim.Native.Nat.{ℕ, ◌≤◌, min}
 use native.Mathlib.Omega.{arith}
-use native.Mathlib.Numerals.{add-one}
-use mathlib.Core.Path.{◌≡◌, sym, ap, ap₂, ◌∙◌}
+use mathlib.Core.Path.{◌≡◌, sym, ap, ◌∙◌}
 use mathlib.Core.List.{List, ◌++◌}
-use lib.ListN.{length, get_or, take, set, length-take}
-use lib.Seq.{take_all, take-suc, append_snoc, set_at}
+use lib.ListN.{length, take, drop}
+use lib.Seq.{take_all}
+use Rattle.std.proofs.lemmas.List.{drop-replicate}
+use lib.Dec.{leb}
+use borrow.Author.Tests.{leb-true, leb-false}
 use Rattle.laws.specs.Bits.{zeros}
+use Rattle.laws.proofs.Sums.{by_test}
+use Rattle.rules.specs.Recordings.{first_place}
 use Rattle.console_names.specs.Rows.{most_bytes}
 use Rattle.console_replay.specs.declared.Replay.{Replay}
 use Rattle.console_replay.specs.ReplayCommands.{loaded_of}
 
--- the first i bytes of the text are in front, zeros behind them
-abbrev pub Loading : List ℕ → List ℕ → ℕ → Type 0
-Loading text bytes i = (i ≤ length text) × (bytes ≡ take i text ++ zeros (most_bytes - i))
-
-pub load_turn : (text bytes : List ℕ) (i : ℕ) → length text ≤ most_bytes → i < length text → Loading text bytes i
-    → Loading text (set bytes i (get_or text i 0)) (i + 1)
-load_turn text bytes i all h l =
-    let room : most_bytes - i ≡ suc (most_bytes - (i + 1)) = omega arith in
-    let size : length (take i text) ≡ i = omega (arith, length-take i text) in (
-      omega arith,
-      rw (l.1, room, set_at (take i text) 0 (zeros (most_bytes - (i + 1))) (get_or text i 0) i size)
-          (sym (append_snoc (take i text) (get_or text i 0) (zeros (most_bytes - (i + 1))))
-          ∙ ap (λ (w : List ℕ). w ++ zeros (most_bytes - (i + 1))) (sym (ap (λ (k : ℕ). take k text) (add-one i) ∙ take-suc text i 0 h))),
-    )
-
-pub load_end : (text bytes : List ℕ) (i : ℕ) → length text ≤ i → Loading text bytes i
-    → ◌≡◌ {A = Replay} (record { bytes = bytes; len = length text; byte = 0; bit = 0 }) (loaded_of text)
+-- the text in front, zeros behind it
+pub loaded_is : (text front : List ℕ) → front ≡ text → ◌≡◌ {A = Replay} (record { bytes = front ++ drop (length text) (zeros most_bytes); len = length text; place = first_place }) (loaded_of text)
 unfolding loaded_of
-load_end text bytes i h l =
-    let all : i ≡ length text = omega (arith, l.0) in
-    let whole : bytes ≡ text ++ zeros (most_bytes - length text) =
-    l.1 ∙ ap₂ (λ (w : List ℕ) (k : ℕ). w ++ zeros (most_bytes - k)) (take_all i text h) all in
-    ap (λ (w : List ℕ). record { bytes = w; len = length text; byte = 0; bit = 0 }) whole
+loaded_is text front e = rw (e, drop-replicate {X = ℕ} (length text) most_bytes 0)
+
+-- as many bytes as there are, where more are asked for
+pub take_there : (k m n : ℕ) (l : List ℕ) → m ≡ min k (length l) → n ≡ m → take n l ≡ take k l
+take_there k m n l e f =
+    by_test (leb k (length l))
+    (λ y. let same : n ≡ k = omega (arith, leb-true k (length l) y) in ap (λ (i : ℕ). take i l) same)
+    (λ y. let all : length l ≤ n = omega (arith, leb-false k (length l) y) in take_all n l all ∙ sym (take_all k l (omega (arith, leb-false k (length l) y))))

@@ -9,7 +9,8 @@ use lib.ListN.{length, take, drop, replicate, length-append, length-drop, length
 use lib.Dec.{leb}
 use borrow.Author.Tests.{le-leb, lt-leb, leb-true}
 use Rattle.laws.proofs.Sums.{by_test}
-use Rattle.rules.specs.declared.RecordAnswer.{RecordAnswer}
+use Rattle.std.specs.Prelude.{Result}
+use Rattle.rules.specs.declared.Refusal.{Refusal}
 use Rattle.rules.specs.Numbers.{record_says}
 use Rattle.rules.specs.Recordings.{recording_of, record_of}
 use Rattle.trace_bytes.specs.Scripts.{script_of}
@@ -34,7 +35,7 @@ module _ (trace buf out : List ℕ) (at : ℕ) (small : length buf ≤ most_byte
   recorded_short : length recorded_line ≤ line_room
   recorded_short = line_short (says (record_says (trace_record_of trace (length buf)))) (says_short (record_says (trace_record_of trace (length buf))))
 
-  pub buffer_onto : (r : RecordAnswer) (buf' : List ℕ) (k l : Line) (a b end : ℕ) (o p page : List ℕ)
+  pub buffer_onto : (r : Result ℕ Refusal) (buf' : List ℕ) (k l : Line) (a b end : ℕ) (o p page : List ℕ)
       → (r ≡ trace_record_of trace (length buf)) × (buf' ≡ trace_recorded_to trace buf) → length buf' ≡ length buf
       → k ≡ holding (line_of (says (record_says r))) → (a ≡ end_of out at k) × (o ≡ appended out at k)
       → Onto o a (hexed buf') b p → l ≡ holding (line_of []) → (end ≡ end_of p b l) × (page ≡ appended p b l)
@@ -43,7 +44,7 @@ module _ (trace buf out : List ℕ) (at : ℕ) (small : length buf ≤ most_byte
   buffer_onto r buf' k l a b end o p page e size f g q h i =
       hex_lines_onto recorded_line (trace_recorded_to trace buf) out at record_room room recorded_short
       (omega (arith, recorded_short, ap length e.1, size)) k l a b end o p page
-      (f ∙ ap (λ (v : RecordAnswer). holding (line_of (says (record_says v)))) e.0) g (rw e.1 at q) h i
+      (f ∙ ap (λ (v : Result ℕ Refusal). holding (line_of (says (record_says v)))) e.0) g (rw e.1 at q) h i
 
 -- ---- the first n bytes of the longest buffer
 

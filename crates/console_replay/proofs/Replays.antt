@@ -9,8 +9,9 @@ use lib.ListN.{length}
 use lib.Dec.{leb}
 use borrow.Author.Tests.{le-leb, lt-leb}
 use Rattle.rules.specs.declared.State.{State}
-use Rattle.rules.specs.declared.ReplayAnswer.{ReplayAnswer}
-use Rattle.rules.specs.declared.ReplayAnswer.TheVariants.{Called, Ended, Refused}
+use Rattle.std.specs.Prelude.{Result, Ok, Err, Option, Some, None}
+use Rattle.rules.specs.declared.Refusal.{Refusal}
+use Rattle.rules.specs.declared.CallAnswer.{CallAnswer}
 use Rattle.rules.specs.declared.ReplayResult.{ReplayResult}
 use Rattle.rules.specs.Numbers.{number, call_says, refused, ended}
 use Rattle.ascii.specs.Decimal.{letters}
@@ -40,21 +41,20 @@ module _ (t : Replay) (s : State) (text : List ℕ) (l : Line) where
   unfolding recording_after recording_line
   recording_is r h e f = rw (le-leb (length text) most_bytes h, e, f)
 
-pub next_is : (t : Replay) (s : State) (r : ReplayResult) (p : Replay) (l : Line) → r ≡ next_step t s → p ≡ reader_put t r.byte r.bit
-    → l ≡ holding (replay_line s.clock r.answer)
-    → ◌≡◌ {A = ReplayAfter} (record { replay = p; state = r.state; line = l })
+pub next_is : (t : Replay) (s : State) (r : ReplayResult) (l : Line) → r ≡ next_step t s → l ≡ holding (replay_line s.clock r.answer)
+    → ◌≡◌ {A = ReplayAfter} (record { replay = reader_put t r.place; state = r.state; line = l })
     (record {
-      replay = reader_put t (next_step t s).byte (next_step t s).bit;
+      replay = reader_put t (next_step t s).place;
       state = (next_step t s).state;
       line = holding (replay_line s.clock (next_step t s).answer);
     })
-next_is t s r p l e f g = rw (f, g, e)
+next_is t s r l e g = rw (g, e)
 
 -- a line has room for what is printed
-step_fits : (clock : ℕ) (a : ReplayAnswer) → length (replay_line clock a) ≤ line_room
-step_fits clock (Called a) = step_short clock (call_says a)
-step_fits clock Ended = line_short (says ended) (says_short ended)
-step_fits clock (Refused why) = line_short (says (refused (number why))) (says_short (refused (number why)))
+step_fits : (clock : ℕ) (a : Result (Option CallAnswer) Refusal) → length (replay_line clock a) ≤ line_room
+step_fits clock (Ok (Some a)) = step_short clock (call_says a)
+step_fits clock (Ok None) = line_short (says ended) (says_short ended)
+step_fits clock (Err why) = line_short (says (refused (number why))) (says_short (refused (number why)))
 
 pub replay_short : (k : ReplayCommand) (text : List ℕ) (s : State) (t : Replay) → length (replay_line_of k text s t) ≤ line_room
 unfolding recording_line
@@ -65,4 +65,4 @@ replay_short Recording text s t = go (leb (length text) most_bytes)
     go false = omega arith
 replay_short Next text s t = step_fits s.clock (next_step t s).answer
 replay_short Reader text s t = omega arith
-replay_short Where text s t = line_short (at_words t.byte t.bit) (at_short t.byte t.bit)
+replay_short Where text s t = line_short (at_words t.place.byte t.place.bit) (at_short t.place.byte t.place.bit)

@@ -4,8 +4,8 @@ use Rattle.std.specs.Prelude.{ℕ, ◌-◌, cond, List, [], ◌++◌, length, ta
 use Rattle.laws.specs.Bits.{zeros}
 use Rattle.rules.specs.declared.State.{State}
 use Rattle.rules.specs.declared.ReplayResult.{ReplayResult}
-use Rattle.rules.specs.Recordings.{replay_step}
-use Rattle.record_call.specs.Places.{place}
+use Rattle.rules.specs.Recordings.{first_place, replay_step}
+use Rattle.rules.specs.declared.Place.{Place}
 use Rattle.ascii.specs.Decimal.{letters}
 use Rattle.answer_words.specs.Words.{line_of, replay_line}
 use Rattle.console_words.specs.Words.{recording_words, at_words}
@@ -16,7 +16,7 @@ use Rattle.console_replay.specs.declared.Replay.{Replay}
 
 -- "the recording that is replayed .. the reader goes to its start": zeros stand behind its bytes
 unfoldable pub loaded_of : List ℕ → Replay
-loaded_of text = record { bytes = text ++ zeros (most_bytes - length text); len = length text; byte = 0; bit = 0 }
+loaded_of text = record { bytes = text ++ zeros (most_bytes - length text); len = length text; place = first_place }
 
 -- "At first it is empty."
 abbrev pub first_replay : Replay
@@ -27,12 +27,12 @@ abbrev pub held : Replay → List ℕ
 held t = take t.len t.bytes
 
 -- "puts the reader's place"
-abbrev pub reader_put : Replay → ℕ → ℕ → Replay
-reader_put t byte bit = record { bytes = t.bytes; len = t.len; byte = byte; bit = bit }
+abbrev pub reader_put : Replay → Place → Replay
+reader_put t p = record { bytes = t.bytes; len = t.len; place = p }
 
 -- "one step of the replay on the console's state"
 abbrev pub next_step : Replay → State → ReplayResult
-next_step t s = replay_step s (held t) (place t.byte t.bit)
+next_step t s = replay_step s (held t) t.place
 
 -- "at most 1,024 bytes, else `?`", which changes nothing; "Prints `recording N` with its bytes."
 unfoldable pub recording_after : List ℕ → Replay → Replay
@@ -44,8 +44,8 @@ recording_line text = line_of (cond (leb (length text) most_bytes) (recording_wo
 -- The replay after a command with these numbers, where the console holds the state s; `text` is the bytes behind `recording`.
 abbrev pub replay_after : ReplayCommand → List ℕ → List ℕ → State → Replay → Replay
 replay_after Recording ns text s t = recording_after text t
-replay_after Next ns text s t = reader_put t (next_step t s).byte (next_step t s).bit
-replay_after Reader ns text s t = reader_put t (nth ns 0) (nth ns 1)
+replay_after Next ns text s t = reader_put t (next_step t s).place
+replay_after Reader ns text s t = reader_put t (record { byte = nth ns 0; bit = nth ns 1 })
 replay_after Where ns text s t = t
 
 -- The state: only a step changes it.
@@ -63,4 +63,4 @@ replay_line_of Next text s t = replay_line s.clock (next_step t s).answer
 -- "Prints `put`."
 replay_line_of Reader text s t = line_of (letters "put")
 -- "prints `at BYTE BIT`"
-replay_line_of Where text s t = line_of (at_words t.byte t.bit)
+replay_line_of Where text s t = line_of (at_words t.place.byte t.place.bit)

@@ -1,21 +1,19 @@
 // The console's replay and its recordings: what each command leaves of what the console holds, and what it prints.
 #![tactic(auto)]
 
-ghost use Rattle.std.specs.Prelude.{◌≡◌, ◌≤◌, true, length, take, replicate};
-ghost use Rattle.rules.specs.Recordings.{replay_step};
-ghost use Rattle.record_call.specs.Places.{place};
+ghost use Rattle.std.specs.Prelude.{◌≡◌, ◌≤◌, true, length, replicate};
 ghost use Rattle.ascii.specs.Decimal.{letters};
 ghost use Rattle.line.specs.Line.{holding};
 ghost use Rattle.answer_words.specs.Words.{line_of, replay_line};
 ghost use Rattle.console_words.specs.Words.{at_words};
 ghost use Rattle.page.specs.Pages.{room_for, Onto};
 ghost use Rattle.console_names.specs.Rows.{most_bytes};
-ghost use Rattle.console_replay.specs.ReplayCommands.{loaded_of, first_replay, reader_put, next_step, recording_after, recording_line, replay_after, replay_state_after, replay_line_of};
+ghost use Rattle.console_replay.specs.ReplayCommands.{loaded_of, first_replay, held, reader_put, next_step, recording_after, recording_line, replay_after, replay_state_after, replay_line_of};
 ghost use Rattle.console_replay.specs.Records.{buffer_lines, record_lines, record_room, Records};
 
 use console_names::{NUMBERS, ReplayCommand};
 use line::Line;
-use rules::{ReplayResult, State};
+use rules::{Place, State};
 
 // The bytes of the longest recording that is taken, and of the longest buffer.
 const MOST_BYTES: usize = console_names::MOST_BYTES as usize;
@@ -24,12 +22,12 @@ const MOST_BYTES: usize = console_names::MOST_BYTES as usize;
 const RECORD_ROOM: usize = line::ROOM + (2 * MOST_BYTES + 1);
 
 // What the console holds of a replay: the recording, in the first len of its bytes, and the reader's place.
+// kept: no heap, fixed memory
 #[derive(Clone, Copy)]
 pub struct Replay {
     pub bytes: [u8; MOST_BYTES],
     pub len: usize,
-    pub byte: usize,
-    pub bit: u32,
+    pub place: Place,
 }
 
 // What the console holds after a command, and the line that is printed.
@@ -48,16 +46,11 @@ fn loaded(text: &[u8]) -> Replay
     ensures { result ≡ loaded_of text.now }
 {
     let mut bytes = [0u8; MOST_BYTES];
-    let mut i = 0;
-    while i < text.len() {
-        bytes[i] = text[i];
-        i += 1;
-    }
+    bytes[..text.len()].copy_from_slice(text);
     Replay {
         bytes,
         len: text.len(),
-        byte: 0,
-        bit: 0,
+        place: Place { byte: 0, bit: 0 },
     }
 }
 
@@ -79,9 +72,8 @@ fn recording(t: Replay, s: State, text: &[u8]) -> ReplayAfter
             line: console_words::unknown_line(),
         };
     }
-    let replay = loaded(text);
     ReplayAfter {
-        replay,
+        replay: loaded(text),
         state: s,
         line: console_words::recording_line(text.len()),
     }
@@ -89,63 +81,47 @@ fn recording(t: Replay, s: State, text: &[u8]) -> ReplayAfter
 
 // ---- the reader
 
-fn put_reader(t: Replay, byte: usize, bit: u32) -> Replay
-    ensures { result ≡ reader_put t byte bit }
+fn reader(t: Replay, s: State, place: Place) -> ReplayAfter
+    ensures { result ≡ record { replay = reader_put t place; state = s; line = holding (line_of (letters "put")) } }
 {
-    let mut next = t;
-    next.byte = byte;
-    next.bit = bit;
-    next
-}
-
-fn reader(t: Replay, s: State, byte: usize, bit: u32) -> ReplayAfter
-    ensures { result ≡ record { replay = reader_put t byte bit; state = s; line = holding (line_of (letters "put")) } }
-{
-    let replay = put_reader(t, byte, bit);
     ReplayAfter {
-        replay,
+        replay: Replay { place, ..t },
         state: s,
         line: console_words::put_line(),
     }
 }
 
 fn reader_is(t: Replay, s: State) -> ReplayAfter
-    ensures { result ≡ record { replay = t; state = s; line = holding (line_of (at_words t.byte t.bit)) } }
+    ensures { result ≡ record { replay = t; state = s; line = holding (line_of (at_words t.place.byte t.place.bit)) } }
 {
-    let byte = t.byte;
-    let bit = t.bit;
     ReplayAfter {
         replay: t,
         state: s,
-        line: console_words::at_line(byte, bit),
+        line: console_words::at_line(t.place),
     }
 }
 
 // ---- a step
 
-// One step of the recording that stands in the first len of these bytes, or in all of them where they are fewer.
-fn step(bytes: &[u8], len: usize, byte: usize, bit: u32, s: State) -> ReplayResult
-    ensures { result ≡ replay_step s (take len bytes.now) (place byte bit) }
+// The recording that is held.
+fn held(t: &Replay) -> &[u8]
+    ensures { result.now ≡ held t.now }
 {
-    if len < bytes.len() {
-        return replay_step::step(&bytes[..len], byte, bit, s);
-    }
-    replay_step::step(bytes, byte, bit, s)
+    &t.bytes[..t.len.min(MOST_BYTES)]
 }
 
 fn next(t: Replay, s: State) -> ReplayAfter
-    ensures { result ≡ record { replay = reader_put t (next_step t s).byte (next_step t s).bit; state = (next_step t s).state; line = holding (replay_line s.clock (next_step t s).answer) } }
+    ensures { result ≡ record { replay = reader_put t (next_step t s).place; state = (next_step t s).state; line = holding (replay_line s.clock (next_step t s).answer) } }
 {
-    let bytes = t.bytes;
     let clock = s.clock;
-    let r = step(&bytes, t.len, t.byte, t.bit, s);
-    let replay = put_reader(t, r.byte, r.bit);
-    let state = r.state;
-    let answer = r.answer;
+    let r = replay_step::step(held(&t), t.place, s);
     ReplayAfter {
-        replay,
-        state,
-        line: answer_words::replay_line(clock, answer),
+        replay: Replay {
+            place: r.place,
+            ..t
+        },
+        state: r.state,
+        line: answer_words::replay_line(clock, r.answer),
     }
 }
 
@@ -156,7 +132,14 @@ pub fn after(t: Replay, s: State, k: ReplayCommand, n: [u32; NUMBERS], text: &[u
     match k {
         ReplayCommand::Recording => recording(t, s, text),
         ReplayCommand::Next => next(t, s),
-        ReplayCommand::Reader => reader(t, s, n[0] as usize, n[1]),
+        ReplayCommand::Reader => reader(
+            t,
+            s,
+            Place {
+                byte: n[0] as usize,
+                bit: n[1],
+            },
+        ),
         ReplayCommand::Where => reader_is(t, s),
     }
 }

@@ -23,18 +23,14 @@ pub struct SetAfter {
 fn put_stages(s: Stream, n: usize) -> Stream
     ensures { result ≡ stages_put s n }
 {
-    let mut next = s;
-    next.depth = n;
-    next
+    Stream { depth: n, ..s }
 }
 
 fn put_stage(s: Stream, j: usize, task: usize, cost: u32) -> Stream
     ensures { result ≡ stage_put s j task cost }
 {
     let mut next = s;
-    if j < 4 {
-        next.stages[j] = Stage { task, cost };
-    }
+    console_names::place(&mut next.stages, j, Stage { task, cost });
     next
 }
 
@@ -42,17 +38,16 @@ fn put_tuple(s: Stream, j: usize, t: Tuple) -> Stream
     ensures { result ≡ tuple_put s j t }
 {
     let mut next = s;
-    if j < 4 {
-        next.tuples[j] = TuplePlace { tuple: t };
-    }
+    console_names::place(&mut next.tuples, j, TuplePlace { tuple: t });
     next
 }
 
 // One stage, or none where all four numbers are 0.
+#[tactic(auto, unfolding(crate::specs::SetCommands::depth_of))]
 fn depth_of(task: usize, cost: u32, deadline: u32, count: usize) -> usize
     ensures { result ≡ depth_of task cost deadline count }
 {
-    if (task == 0) & ((cost == 0) & ((deadline == 0) & (count == 0))) {
+    if task == 0 && cost == 0 && deadline == 0 && count == 0 {
         0
     } else {
         1
@@ -63,11 +58,12 @@ fn depth_of(task: usize, cost: u32, deadline: u32, count: usize) -> usize
 fn put_stream(s: Stream, task: usize, cost: u32, deadline: u32, count: usize) -> Stream
     ensures { result ≡ stream_put s task cost deadline count }
 {
-    let mut next = put_stage(s, 0, task, cost);
-    next.depth = depth_of(task, cost, deadline, count);
-    next.deadline = deadline;
-    next.count = count;
-    next
+    Stream {
+        depth: depth_of(task, cost, deadline, count),
+        deadline,
+        count,
+        ..put_stage(s, 0, task, cost)
+    }
 }
 
 // ---- what is put into the set; a place that there is not stays out
@@ -75,26 +71,21 @@ fn put_stream(s: Stream, task: usize, cost: u32, deadline: u32, count: usize) ->
 fn put_streams(x: Set, n: usize) -> Set
     ensures { result ≡ streams_put x n }
 {
-    let mut next = x;
-    next.count = n;
-    next
+    Set { count: n, ..x }
 }
 
 fn put_version(x: Set, n: u32) -> Set
     ensures { result ≡ version_put x n }
 {
-    let mut next = x;
-    next.version = n;
-    next
+    Set { version: n, ..x }
 }
 
+#[tactic(auto, unfolding(crate::specs::SetCommands::with_stream))]
 fn put_at(x: Set, i: usize, s: Stream) -> Set
     ensures { result ≡ with_stream x i s }
 {
     let mut next = x;
-    if i < 16 {
-        next.streams[i] = s;
-    }
+    console_names::place(&mut next.streams, i, s);
     next
 }
 
@@ -109,20 +100,19 @@ fn put(x: Set) -> SetAfter
     }
 }
 
+#[tactic(auto, unfolding(crate::specs::SetCommands::set_read))]
 fn read(sheet: &[u8]) -> SetAfter
     ensures { result ≡ set_read sheet.now }
 {
     let r = sheet_read::read(sheet);
-    let answer = r.answer;
-    let set = r.set;
-    let count = set.count;
     SetAfter {
-        set,
-        line: console_words::read_line(answer, count),
+        set: r.set,
+        line: console_words::read_line(r.answer, r.set.count),
     }
 }
 
 // A command with its numbers; `sheet` is the bytes behind `read`, and no other looks at it.
+#[tactic(auto, unfolding(crate::specs::SetCommands::set_read))]
 pub fn after(x: Set, k: SetCommand, n: [u32; NUMBERS], sheet: &[u8]) -> SetAfter
     ensures { result ≡ record { set = set_after k n sheet.now x; line = holding (set_line k sheet.now) } }
 {

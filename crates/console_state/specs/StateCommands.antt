@@ -4,7 +4,7 @@ use Rattle.std.specs.Prelude.{ℕ, Bool, true, false, cond, List, eqb, set}
 use Rattle.rules.specs.declared.Set.{Set}
 use Rattle.rules.specs.declared.State.{State}
 use Rattle.rules.specs.declared.Party.TheVariants.{Ours, Theirs}
-use Rattle.rules.specs.declared.Owner.{Owner}
+use Rattle.rules.specs.declared.Party.{Party}
 use Rattle.rules.specs.declared.Places.{Places}
 use Rattle.rules.specs.Parties.{all_ours, all_places}
 use Rattle.rules.specs.States.{with_clock, with_messages, with_waits}
@@ -42,8 +42,8 @@ abbrev pub door_put : State → ℕ → ℕ → State
 door_put s i n = with_waits s (set s.waits i n)
 
 -- **CR 8**: "P 0 ours or 1 theirs", and the places of the two
-abbrev pub owner_of : ℕ → Owner
-owner_of n = record { party = cond (eqb n 0) Ours Theirs }
+abbrev pub owner_of : ℕ → Party
+owner_of n = cond (eqb n 0) Ours Theirs
 
 abbrev pub places_for : ℕ → ℕ → Places
 places_for a b = record { ours = a; theirs = b }

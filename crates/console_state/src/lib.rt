@@ -9,12 +9,12 @@ ghost use Rattle.console_state.specs.StateCommands.{clock_put, pending_put, mess
 
 use console_names::{NUMBERS, StateCommand};
 use line::Line;
-use rules::{Message, Owner, Party, Places, Set, State};
+use rules::{Message, Party, Places, PostResult, Set, StartResult, State, UnitResult};
 
 // What a start uses beside the set: whose each stream is, and the parties' places.
 #[derive(Clone, Copy)]
 pub struct Terms {
-    pub owners: [Owner; 16],
+    pub owners: [Party; 16],
     pub places: Places,
 }
 
@@ -41,31 +41,29 @@ pub fn first() -> Terms
 fn put_clock(s: State, n: u32) -> State
     ensures { result ≡ clock_put s n }
 {
-    let mut next = s;
-    next.clock = n;
-    next
+    State { clock: n, ..s }
 }
 
 fn put_pending(s: State, n: usize) -> State
     ensures { result ≡ pending_put s n }
 {
-    let mut next = s;
-    next.count = n;
-    next
+    State { count: n, ..s }
 }
 
 fn put_message(s: State, i: usize, stream: usize, deadline: u32, used: u32) -> State
     ensures { result ≡ message_put s i stream deadline used }
 {
     let mut next = s;
-    if i < 64 {
-        next.messages[i] = Message {
+    console_names::place(
+        &mut next.messages,
+        i,
+        Message {
             stream,
             deadline,
             used,
             stage: 0,
-        };
-    }
+        },
+    );
     next
 }
 
@@ -73,10 +71,8 @@ fn put_staged(s: State, i: usize, n: usize) -> State
     ensures { result ≡ staged_put s i n }
 {
     let mut next = s;
-    if i < 64 {
-        let mut m = next.messages[i];
-        m.stage = n;
-        next.messages[i] = m;
+    if i < next.messages.len() {
+        next.messages[i].stage = n;
     }
     next
 }
@@ -85,62 +81,50 @@ fn put_door(s: State, i: usize, n: u32) -> State
     ensures { result ≡ door_put s i n }
 {
     let mut next = s;
-    if i < 16 {
-        next.waits[i] = n;
-    }
+    console_names::place(&mut next.waits, i, n);
     next
 }
 
 // ---- whose the streams are, and the parties' places: in the state, and in what a start uses
 
-fn owner_of(n: u32) -> Owner
+fn owner_of(n: u32) -> Party
     ensures { result ≡ owner_of n }
 {
-    if n == 0 {
-        Owner { party: Party::Ours }
-    } else {
-        Owner {
-            party: Party::Theirs,
-        }
-    }
+    if n == 0 { Party::Ours } else { Party::Theirs }
 }
 
 fn put_owns(s: State, i: usize, n: u32) -> State
     ensures { result ≡ owns_put s i n }
 {
     let mut next = s;
-    if i < 16 {
-        next.owners[i] = owner_of(n);
-    }
+    console_names::place(&mut next.owners, i, owner_of(n));
     next
 }
 
 fn put_room(s: State, ours: u32, theirs: u32) -> State
     ensures { result ≡ room_put s ours theirs }
 {
-    let mut next = s;
-    let places = Places { ours, theirs };
-    next.places = places;
-    next
+    State {
+        places: Places { ours, theirs },
+        ..s
+    }
 }
 
 fn put_owner(t: Terms, i: usize, n: u32) -> Terms
     ensures { result ≡ owner_put t i n }
 {
     let mut next = t;
-    if i < 16 {
-        next.owners[i] = owner_of(n);
-    }
+    console_names::place(&mut next.owners, i, owner_of(n));
     next
 }
 
 fn put_places(t: Terms, ours: u32, theirs: u32) -> Terms
     ensures { result ≡ places_put t ours theirs }
 {
-    let mut next = t;
-    let places = Places { ours, theirs };
-    next.places = places;
-    next
+    Terms {
+        places: Places { ours, theirs },
+        ..t
+    }
 }
 
 // ---- every command
@@ -155,14 +139,11 @@ fn put(s: State, t: Terms) -> StateAfter
     }
 }
 
+#[tactic(auto, unfolding(crate::specs::StateCommands::started))]
 fn start(x: Set, t: Terms) -> StateAfter
     ensures { result ≡ started x t }
 {
-    let owners = t.owners;
-    let places = t.places;
-    let r = scheduler::start_for(x, owners, places);
-    let answer = r.answer;
-    let state = r.state;
+    let StartResult { answer, state } = scheduler::start_for(x, t.owners, t.places);
     StateAfter {
         state,
         terms: t,
@@ -170,35 +151,32 @@ fn start(x: Set, t: Terms) -> StateAfter
     }
 }
 
+#[tactic(auto, unfolding(crate::specs::StateCommands::posted))]
 fn post(s: State, t: Terms, k: u32) -> StateAfter
     ensures { result ≡ posted s t k }
 {
-    let clock = s.clock;
-    let r = scheduler::post(s, k as usize);
-    let answer = r.answer;
-    let state = r.state;
+    let PostResult { answer, state } = scheduler::post(s, k as usize);
     StateAfter {
         state,
         terms: t,
-        line: answer_words::post_line(clock, answer),
+        line: answer_words::post_line(s.clock, answer),
     }
 }
 
+#[tactic(auto, unfolding(crate::specs::StateCommands::ran))]
 fn unit(s: State, t: Terms, done: bool) -> StateAfter
     ensures { result ≡ ran s t done }
 {
-    let clock = s.clock;
-    let r = scheduler::unit(s, done);
-    let answer = r.answer;
-    let state = r.state;
+    let UnitResult { answer, state } = scheduler::unit(s, done);
     StateAfter {
         state,
         terms: t,
-        line: answer_words::unit_line(clock, answer),
+        line: answer_words::unit_line(s.clock, answer),
     }
 }
 
 // A command with its numbers, where the console holds the set x, the state s and the terms t.
+#[tactic(auto, unfolding(crate::specs::StateCommands::started, crate::specs::StateCommands::posted, crate::specs::StateCommands::ran))]
 pub fn after(x: Set, s: State, t: Terms, k: StateCommand, n: [u32; NUMBERS]) -> StateAfter
     ensures { result ≡ record { state = state_after k n x t s; terms = terms_after k n t; line = holding (state_line k n x t s) } }
 {

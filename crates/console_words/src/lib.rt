@@ -1,52 +1,30 @@
 // The lines of the answers that only the console prints.
 #![tactic(auto)]
 
-ghost use Rattle.std.specs.Prelude.{◌≡◌, ◌≤◌, length, []};
-ghost use Rattle.rules.specs.Numbers.{start_says, choose_says, count_says, jitter_says, write_says, record_says, feed_says};
-ghost use Rattle.line.specs.Line.{holding, puts};
+ghost use Rattle.std.specs.Prelude.{◌≡◌, ◌≤◌, length, [], MatchResult};
+ghost use Rattle.line.specs.declared.Line.{Line};
+ghost use Rattle.rules.specs.Numbers.{number, refused as RefusedWith, start_says, choose_says, count_says, jitter_says, write_says, record_says, feed_says};
+ghost use Rattle.line.specs.Line.{holding, put_of, puts};
 ghost use Rattle.ascii.specs.Decimal.{letters};
 ghost use Rattle.answer_words.specs.Words.{tuple_words, says, read_words, line_of};
 ghost use Rattle.console_words.specs.Words.{valid_words, formed_words, recording_words, at_words};
 
 use line::Line;
-use rules::{
-    ChooseAnswer, CountAnswer, FeedAnswer, JitterAnswer, ReadAnswer, RecordAnswer, StartAnswer,
-    Tuple, WriteAnswer,
-};
+use rules::{Place, Refusal, Running, Tuple};
 
-fn start_words(l: Line, a: StartAnswer) -> Line
-    ensures { result ≡ puts l (says (start_says a)) }
+// A line with an answer's words, or with its refusal.
+#[tactic(auto, using(answer_words::proofs::Ends::ended, answer_words::proofs::Lengths::says_short))]
+fn told<T, F: FnOnce(T) -> Line>(a: Result<T, Refusal>, words: F) -> Line
+    requires { F.IsAlwaysCallable words }
+    ensures { MatchResult a (λ x. (l : Line) × (F.post words x l) × (result ≡ put_of l 10)) (λ why. result ≡ holding (line_of (says (RefusedWith (number why))))) }
 {
     match a {
-        StartAnswer::Started => line::word(l, b"started"),
-        StartAnswer::Refused(why) => answer_words::refused(l, why),
+        Ok(x) => line::put(words(x), b'\n'),
+        Err(why) => line::put(answer_words::refused(line::blank(), why), b'\n'),
     }
 }
 
-fn choose_words(l: Line, a: ChooseAnswer) -> Line
-    ensures { result ≡ puts l (says (choose_says a)) }
-{
-    match a {
-        ChooseAnswer::Nothing => line::word(l, b"none"),
-        ChooseAnswer::Runs(t, k) => line::one(
-            line::one(l, b"task", t as u64),
-            b" stream",
-            k as u64,
-        ),
-        ChooseAnswer::Refused(why) => answer_words::refused(l, why),
-    }
-}
-
-fn count_words(l: Line, a: CountAnswer) -> Line
-    ensures { result ≡ puts l (says (count_says a)) }
-{
-    match a {
-        CountAnswer::Number(n) => line::decimal(l, n),
-        CountAnswer::Refused(why) => line::number(answer_words::refused(l, why), 0),
-    }
-}
-
-fn tuple_words(l: Line, t: Tuple) -> Line
+fn put_tuple(l: Line, t: Tuple) -> Line
     ensures { result ≡ puts l (tuple_words t) }
 {
     match t {
@@ -55,91 +33,76 @@ fn tuple_words(l: Line, t: Tuple) -> Line
     }
 }
 
-fn jitter_words(l: Line, a: JitterAnswer) -> Line
-    ensures { result ≡ puts l (says (jitter_says a)) }
+fn put_choice(l: Line, next: Option<Running>) -> Line
+    ensures { result ≡ puts l (says (choose_says (Ok next))) }
 {
-    match a {
-        JitterAnswer::Tuples(t, u) => tuple_words(line::put(tuple_words(l, t), b' '), u),
-        JitterAnswer::Refused(why) => answer_words::refused(l, why),
+    match next {
+        None => line::word(l, b"none"),
+        Some(Running { task: t, stream: k }) => line::one(
+            line::one(l, b"task", t as u64),
+            b" stream",
+            k as u64,
+        ),
     }
 }
 
-fn write_words(l: Line, a: WriteAnswer) -> Line
-    ensures { result ≡ puts l (says (write_says a)) }
+#[tactic(auto, using(line::proofs::Puts::then, line::proofs::Puts::first), unfolding(answer_words::specs::Words::says))]
+fn put_tuples(l: Line, t: Tuple, u: Tuple) -> Line
+    ensures { result ≡ puts l (says (jitter_says (Ok (t, u)))) }
+{
+    put_tuple(line::put(put_tuple(l, t), b' '), u)
+}
+
+fn put_count(l: Line, a: Result<u64, Refusal>) -> Line
+    ensures { result ≡ puts l (says (count_says a)) }
 {
     match a {
-        WriteAnswer::Wrote(n) => line::one(l, b"wrote", n as u64),
-        WriteAnswer::Refused(why) => answer_words::refused(l, why),
+        Ok(n) => line::decimal(l, n),
+        Err(why) => line::number(answer_words::refused(l, why), 0),
     }
 }
 
-fn record_words(l: Line, a: RecordAnswer) -> Line
-    ensures { result ≡ puts l (says (record_says a)) }
-{
-    match a {
-        RecordAnswer::Recorded(n) => line::one(l, b"recorded", n as u64),
-        RecordAnswer::Refused(why) => answer_words::refused(l, why),
-    }
-}
-
-fn feed_words(l: Line, a: FeedAnswer) -> Line
-    ensures { result ≡ puts l (says (feed_says a)) }
-{
-    match a {
-        FeedAnswer::Fed => line::word(l, b"fed"),
-        FeedAnswer::Refused(why) => answer_words::refused(l, why),
-    }
-}
-
-fn read_words(l: Line, a: ReadAnswer, n: usize) -> Line
-    ensures { result ≡ puts l (read_words a n) }
-{
-    match a {
-        ReadAnswer::Read => line::one(l, b"set", n as u64),
-        ReadAnswer::Refused(why) => answer_words::refused(l, why),
-    }
-}
-
-pub fn start_line(a: StartAnswer) -> Line
+pub fn start_line(a: Result<(), Refusal>) -> Line
     ensures { result ≡ holding (line_of (says (start_says a))) }
 {
-    line::put(start_words(line::blank(), a), b'\n')
+    told(a, |()| line::word(line::blank(), b"started"))
 }
 
-pub fn choose_line(a: ChooseAnswer) -> Line
+pub fn choose_line(a: Result<Option<Running>, Refusal>) -> Line
     ensures { result ≡ holding (line_of (says (choose_says a))) }
 {
-    line::put(choose_words(line::blank(), a), b'\n')
+    told(a, |next| put_choice(line::blank(), next))
 }
 
-pub fn count_line(a: CountAnswer) -> Line
+#[tactic(auto, using(answer_words::proofs::Ends::ended, answer_words::proofs::Lengths::says_short))]
+pub fn count_line(a: Result<u64, Refusal>) -> Line
     ensures { result ≡ holding (line_of (says (count_says a))) }
 {
-    line::put(count_words(line::blank(), a), b'\n')
+    line::put(put_count(line::blank(), a), b'\n')
 }
 
-pub fn jitter_line(a: JitterAnswer) -> Line
+pub fn jitter_line(a: Result<(Tuple, Tuple), Refusal>) -> Line
     ensures { result ≡ holding (line_of (says (jitter_says a))) }
 {
-    line::put(jitter_words(line::blank(), a), b'\n')
+    told(a, |(t, u)| put_tuples(line::blank(), t, u))
 }
 
-pub fn write_line(a: WriteAnswer) -> Line
+pub fn write_line(a: Result<usize, Refusal>) -> Line
     ensures { result ≡ holding (line_of (says (write_says a))) }
 {
-    line::put(write_words(line::blank(), a), b'\n')
+    told(a, |n| line::one(line::blank(), b"wrote", n as u64))
 }
 
-pub fn record_line(a: RecordAnswer) -> Line
+pub fn record_line(a: Result<usize, Refusal>) -> Line
     ensures { result ≡ holding (line_of (says (record_says a))) }
 {
-    line::put(record_words(line::blank(), a), b'\n')
+    told(a, |n| line::one(line::blank(), b"recorded", n as u64))
 }
 
-pub fn feed_line(a: FeedAnswer) -> Line
+pub fn feed_line(a: Result<(), Refusal>) -> Line
     ensures { result ≡ holding (line_of (says (feed_says a))) }
 {
-    line::put(feed_words(line::blank(), a), b'\n')
+    told(a, |()| line::word(line::blank(), b"fed"))
 }
 
 // The bytes of a recording.
@@ -150,23 +113,24 @@ pub fn recording_line(n: usize) -> Line
 }
 
 // The reader's place.
-pub fn at_line(byte: usize, bit: u32) -> Line
-    ensures { result ≡ holding (line_of (at_words byte bit)) }
+pub fn at_line(place: Place) -> Line
+    ensures { result ≡ holding (line_of (at_words place.byte place.bit)) }
 {
     line::put(
-        line::two(line::blank(), b"at", byte as u64, bit as u64),
+        line::two(line::blank(), b"at", place.byte as u64, place.bit as u64),
         b'\n',
     )
 }
 
 // A sheet that was read is told by the number of streams of its set.
-pub fn read_line(a: ReadAnswer, n: usize) -> Line
+pub fn read_line(a: Result<(), Refusal>, n: usize) -> Line
     ensures { result ≡ holding (line_of (read_words a n)) }
 {
-    line::put(read_words(line::blank(), a, n), b'\n')
+    told(a, |()| line::one(line::blank(), b"set", n as u64))
 }
 
 // A word as a line.
+#[tactic(auto, using(answer_words::proofs::Ends::ended))]
 fn word_line(w: &[u8]) -> Line
     requires { length w.now ≤ 95 }
     ensures { result ≡ holding (line_of w.now) }

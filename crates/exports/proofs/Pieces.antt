@@ -1,27 +1,40 @@
 -- Bytes that are fed piece by piece.
 -- Assumes nothing.
-use Prim.Native.Nat.{ℕ, ◌+◌, ◌-◌, ◌≤◌}
-use mathlib.Core.List.{List}
-use mathlib.Core.Path.{◌≡◌, sym, ap, ◌∙◌}
-use native.Mathlib.Omega.{arith}
-use lib.ListN.{length, take, drop}
-use lib.Seq.{take-add, take_all}
+use Prim.Native.Nat.{ℕ}
+use mathlib.Core.List.{List, [], ◌∷◌, ◌++◌, append_assoc, append-nil}
+use mathlib.Core.Path.{◌≡◌, ap, sym, ◌∙◌}
+use lib.ListN.{length}
+use Rattle.std.proofs.lemmas.List.{nil_from_length}
 use Rattle.laws.specs.Bits.{bits}
-use Rattle.laws.proofs.Fields.{AreBytes, IsByte, all_take}
+use Rattle.laws.proofs.Fields.{AreBytes}
 use Rattle.sheet_carried.specs.declared.Carried.{Carried}
 use Rattle.sheet_carried.specs.Reader.{run, start_of}
 use Rattle.sheet_read.specs.declared.FeedResult.{FeedResult}
 use Rattle.sheet_read.specs.Cable.{feed_of}
 use Rattle.sheet_read.proofs.Pieces.{after, feed_more}
 
-pub fed_none : (s : List ℕ) (c : Carried) → c ≡ start_of → c ≡ after (take 0 s)
+-- some of the bytes have been fed, and the rest is left
+pub record Fed (bytes rest : List ℕ) (c : Carried) : Type 0 where
+  pub came : List ℕ
+  pub carried : c ≡ after came
+  pub parts : came ++ rest ≡ bytes
+
+pub fed_none : (bytes rest : List ℕ) (c : Carried) → c ≡ start_of → rest ≡ bytes → Fed bytes rest c
 unfolding bits run
-fed_none s c e = e
+fed_none bytes rest c e f = record { came = []; carried = e; parts = f }
 
-pub fed_next : (s : List ℕ) (at end : ℕ) (c : Carried) (r : FeedResult) → AreBytes s → at ≤ end → c ≡ after (take at s) → r ≡ feed_of c (take (end - at) (drop at s)) → r.carried ≡ after (take end s)
-fed_next s at end c r b h e q =
-    ap (λ (y : FeedResult). y.carried) (q ∙ ap (λ (y : Carried). feed_of y (take (end - at) (drop at s))) e ∙ feed_more (take at s) (take (end - at) (drop at s)) (all_take IsByte at s b))
-    ∙ ap after (sym (take-add at (end - at) s) ∙ ap (λ (n : ℕ). take n s) (let i : at + (end - at) ≡ end = omega arith in i))
+front_bytes : (a b : List ℕ) → AreBytes (a ++ b) → AreBytes a
+front_bytes [] b h = tt
+front_bytes (x ∷ a) b h = (h.0, front_bytes a b h.1)
 
-pub fed_all : (s : List ℕ) (at : ℕ) (c : Carried) → length s ≤ at → c ≡ after (take at s) → c ≡ after s
-fed_all s at c h e = e ∙ ap after (take_all at s h)
+pub fed_next : (bytes rest piece left : List ℕ) (c : Carried) (r : FeedResult) → AreBytes bytes → Fed bytes rest c → rest ≡ piece ++ left → r ≡ feed_of c piece → Fed bytes left r.carried
+fed_next bytes rest piece left c r b h e q = record {
+  came = h.came ++ piece;
+  carried =
+      ap (λ (y : FeedResult). y.carried) (q ∙ ap (λ (y : Carried). feed_of y piece) h.carried ∙ feed_more h.came piece (front_bytes h.came rest (rw h.parts b)));
+  parts = append_assoc h.came piece left ∙ ap (λ (y : List ℕ). h.came ++ y) (sym e) ∙ h.parts;
+}
+
+pub fed_all : (bytes rest : List ℕ) (c : Carried) → Fed bytes rest c → length rest ≡ 0 → c ≡ after bytes
+fed_all bytes rest c h e =
+    h.carried ∙ ap after (sym (append-nil h.came) ∙ ap (λ (y : List ℕ). h.came ++ y) (sym (nil_from_length rest e)) ∙ h.parts)

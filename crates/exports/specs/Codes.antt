@@ -2,8 +2,8 @@
 -- Assumes nothing.
 use Rattle.std.specs.Prelude.{ℕ, ◌+◌, ◌*◌, ◌%◌, List, ◌≡◌}
 use Rattle.rules.specs.declared.State.{State}
-use Rattle.rules.specs.declared.ReadAnswer.{ReadAnswer}
-use Rattle.rules.specs.declared.ReadAnswer.TheVariants.{Read, Refused as ReadRefused}
+use Rattle.std.specs.Prelude.{Result, Ok, Err}
+use Rattle.rules.specs.declared.Refusal.{Refusal}
 use Rattle.rules.specs.declared.ReadResult.{ReadResult}
 use Rattle.rules.specs.declared.Verdict.{Verdict}
 use Rattle.rules.specs.declared.Verdict.TheVariants.{Accept, Late, Overload, Refused}
@@ -21,9 +21,9 @@ halves upper lower = upper % 4294967296 * 4294967296 + lower % 4294967296
 -- ---- reading
 
 -- 0 for a set that was read, else the refusal's number
-abbrev pub answer_number : ReadAnswer → ℕ
-answer_number Read = 0
-answer_number (ReadRefused why) = number why
+abbrev pub answer_number : Result (Unit {0}) Refusal → ℕ
+answer_number (Ok tt) = 0
+answer_number (Err why) = number why
 
 -- the answer's number, and the deadline of stream k
 unfoldable pub read_code : ReadResult → ℕ → ℕ

@@ -33,23 +33,23 @@ impl fmt::Display for Ascii<'_> {
     }
 }
 
+// The bytes of a line.
+fn bytes_of(l: &Line) -> &[u8] {
+    &l.bytes[..page::within(l.len, &l.bytes)]
+}
+
 // Writes a line out.
 pub fn say(rt: &impl Print, l: Line) -> io::Result<()> {
-    let mut out = [0u8; BUFFER];
-    let end = page::append(&mut out, 0, l);
-    let n = page::within(end, &out);
-    rt.write_all(&out[..n])
+    rt.write_all(bytes_of(&l))
 }
 
 // Writes a line on standard error.
 pub fn warn(rt: &impl Eprint, l: Line) -> io::Result<()> {
-    let mut out = [0u8; BUFFER];
-    let end = page::append(&mut out, 0, l);
-    let n = page::within(end, &out);
-    rt.eprint(Ascii(&out[..n]))
+    rt.eprint(Ascii(bytes_of(&l)))
 }
 
 // The first words of a text, as many as there is room for.
+// kept: no heap, fixed memory: no allocator reaches a message that tells of a failure
 #[derive(Clone, Copy)]
 struct Words {
     bytes: [u8; 256],
@@ -59,8 +59,8 @@ struct Words {
 impl fmt::Write for Words {
     fn write_str(&mut self, s: &str) -> fmt::Result {
         for b in s.as_bytes() {
-            if self.len < 256 {
-                self.bytes[self.len] = *b;
+            if let Some(place) = self.bytes.get_mut(self.len) {
+                *place = *b;
                 self.len += 1;
             }
         }
@@ -174,31 +174,25 @@ pub fn input_buffer(alloc: Global) -> Result<Vec<u8>, AllocError>
     Ok(vec![in alloc; 0; 2097153]?)
 }
 
-// The bytes of the whole input, or that a message on standard error says why there are none.
-#[derive(Clone, Copy)]
-pub enum Input {
-    Whole(usize),
-    Told,
-}
-
-fn tell_unread(rt: &impl Eprint, why: io::Error) -> io::Result<Input> {
+fn tell_unread(rt: &impl Eprint, why: io::Error) -> io::Result<Option<usize>> {
     fail(rt, "standard input", why)?;
-    Ok(Input::Told)
+    Ok(None)
 }
 
-fn tell_long(rt: &impl Eprint, room: usize) -> io::Result<Input> {
+fn tell_long(rt: &impl Eprint, room: usize) -> io::Result<Option<usize>> {
     let number = line::one(line::blank(), b"standard input:", room as u64);
     warn(rt, line::word(number, b" bytes or more\n"))?;
-    Ok(Input::Told)
+    Ok(None)
 }
 
-// Reads standard input to its end, into the front of a buffer that is longer.
-pub fn read_input(rt: &(impl io::Input + Eprint), buf: &mut [u8]) -> io::Result<Input> {
+// Reads standard input to its end, into the front of a buffer that is longer, and answers how many bytes that are; or none, where a message on
+// standard error says why.
+pub fn read_input(rt: &(impl io::Input + Eprint), buf: &mut [u8]) -> io::Result<Option<usize>> {
     let mut input = rt.reader();
     let mut n = 0;
     while n < buf.len() {
         match input.read(&mut buf[n..]) {
-            Ok(0) => return Ok(Input::Whole(n)),
+            Ok(0) => return Ok(Some(n)),
             Ok(more) => n += more,
             Err(why) => return tell_unread(rt, why),
         }

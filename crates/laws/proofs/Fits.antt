@@ -10,7 +10,8 @@ use borrow.Author.Tests.{ltb-true, ltb-false, lt-ltb, le-ltb}
 use lib.Dec.{ltb}
 use lib.ListN.{length, get_or, take, drop, drop_of_length-le}
 use lib.Seq.{drop-cons}
-use Rattle.laws.specs.Lists.{all, scan}
+use Rattle.std.specs.List.{list_all}
+use Rattle.laws.specs.Lists.{scan}
 use Rattle.laws.proofs.Sums.{by_test}
 
 pub and_assoc : (a b c : Bool) → (a && (b && c)) ≡ ((a && b) && c)
@@ -24,12 +25,10 @@ and_true false = refl
 -- ---- one test for all places; the whole is z
 
 module _ {A : Type 0} (p : A → Bool) where
-  pub and_go : (l : List A) (k : ℕ) (ok r z : Bool) (d x : A) → (ok && all p (drop k l)) ≡ z → x ≡ get_or l k d → r ≡ p x → k < length l → ((ok && r) && all p (drop (k + 1) l)) ≡ z
-  unfolding all
-  and_go l k ok r z d x inv e t h = sym (and_assoc ok r (all p (drop (k + 1) l))) ∙ rw (t, e, add-one) (rw (drop-cons l k d h) at inv)
+  pub and_go : (l : List A) (k : ℕ) (ok r z : Bool) (d x : A) → (ok && list_all p (drop k l)) ≡ z → x ≡ get_or l k d → r ≡ p x → k < length l → ((ok && r) && list_all p (drop (k + 1) l)) ≡ z
+  and_go l k ok r z d x inv e t h = sym (and_assoc ok r (list_all p (drop (k + 1) l))) ∙ rw (t, e, add-one) (rw (drop-cons l k d h) at inv)
 
-  pub and_end : (l : List A) (k : ℕ) (ok z : Bool) → (ok && all p (drop k l)) ≡ z → length l ≤ k → ok ≡ z
-  unfolding all
+  pub and_end : (l : List A) (k : ℕ) (ok z : Bool) → (ok && list_all p (drop k l)) ≡ z → length l ≤ k → ok ≡ z
   and_end l k ok z inv h = sym (and_true ok) ∙ rw (drop_of_length-le l {i = k} h) at inv
 
 -- ---- the first n places pass p, which sees what f read off the place before, b at the first; the others pass q
@@ -40,18 +39,18 @@ module _ {A B : Type 0} (p : B → A → Bool) (f : A → B) (q : A → Bool) wh
   fits zero b (x ∷ l) = q x && fits zero (f x) l
   fits (suc n) b (x ∷ l) = p b x && fits n (f x) l
 
-  fits_both : (n : ℕ) (b : B) (l : List A) → fits n b l ≡ (scan p f b (take n l) && all q (drop n l))
-  unfolding fits scan all
+  fits_both : (n : ℕ) (b : B) (l : List A) → fits n b l ≡ (scan p f b (take n l) && list_all q (drop n l))
+  unfolding fits scan
   fits_both zero b [] = refl
   fits_both (suc n) b [] = refl
   fits_both zero b (x ∷ l) = ap (λ (r : Bool). q x && r) (fits_both zero (f x) l)
-  fits_both (suc n) b (x ∷ l) = ap (λ (r : Bool). p b x && r) (fits_both n (f x) l) ∙ and_assoc (p b x) (scan p f (f x) (take n l)) (all q (drop n l))
+  fits_both (suc n) b (x ∷ l) = ap (λ (r : Bool). p b x && r) (fits_both n (f x) l) ∙ and_assoc (p b x) (scan p f (f x) (take n l)) (list_all q (drop n l))
 
   -- the tests of the places from k on
   unfoldable pub fits_from : ℕ → ℕ → B → List A → Bool
   fits_from k n b l = fits (n - k) b (drop k l)
 
-  pub fits_start : (n : ℕ) (b : B) (l : List A) → fits_from 0 n b l ≡ (scan p f b (take n l) && all q (drop n l))
+  pub fits_start : (n : ℕ) (b : B) (l : List A) → fits_from 0 n b l ≡ (scan p f b (take n l) && list_all q (drop n l))
   unfolding fits_from
   fits_start n b l = let e : n - 0 ≡ n = omega arith in rw e (fits_both n b l)
 
@@ -107,7 +106,7 @@ module _ {A B : Type 0} (p : B → A → Bool) (f : A → B) (q : A → Bool) wh
   fits_done l n k b z inv h = rw (drop_of_length-le l {i = k} h) at inv
 
 -- a test that does not look back
-pub scan_all : {A B : Type 0} (p : A → Bool) (f : A → B) (b : B) (l : List A) → scan (λ (c : B) (x : A). p x) f b l ≡ all p l
-unfolding scan all
+pub scan_all : {A B : Type 0} (p : A → Bool) (f : A → B) (b : B) (l : List A) → scan (λ (c : B) (x : A). p x) f b l ≡ list_all p l
+unfolding scan
 scan_all p f b [] = refl
 scan_all p f b (x ∷ l) = ap (λ (r : Bool). p x && r) (scan_all p f (f x) l)

@@ -12,7 +12,8 @@ use native.Mathlib.Omega.{arith}
 use lib.ListN.{length, get_or, drop}
 use lib.Seq.{drop-append-le}
 use lib.Dec.{T, leb, eqb, le→leb, leb→le, eqb→eq, eqb_refl}
-use Rattle.laws.specs.Lists.{below, all, any, sum, top, remove}
+use Rattle.std.specs.List.{list_all, list_any}
+use Rattle.laws.specs.Lists.{below, sum, top, remove}
 use Rattle.laws.proofs.Sums.{and_parts, sum_append}
 
 -- ---- cases
@@ -134,15 +135,14 @@ module _ {A : Type 0} where
   top_member f (Memᴰ.head e) = omega (arith, ap f e)
   top_member f (Memᴰ.tail q) = omega (arith, top_member f q)
 
-  pub any_member : (p : A → Bool) {m : A} {l : List A} → Memᴰ m l → T (p m) → T (any p l)
-  unfolding any
+  pub any_member : (p : A → Bool) {m : A} {l : List A} → Memᴰ m l → T (p m) → T (list_any p l)
   any_member p {m = m} {l = []} x5 t = elim x5 [ ]
-  any_member p {l = b ∷ xs} (Memᴰ.head e) t = go (p b) (any p xs) (subst (λ (x : A). T (p x)) e t)
+  any_member p {l = b ∷ xs} (Memᴰ.head e) t = go (p b) (list_any p xs) (subst (λ (x : A). T (p x)) e t)
     where
       go : (a b : Bool) → T a → T (a || b)
       go true b t = tt
       go false b t = absurd t
-  any_member p {l = b ∷ xs} (Memᴰ.tail q) t = go (p b) (any p xs) (any_member p q t)
+  any_member p {l = b ∷ xs} (Memᴰ.tail q) t = go (p b) (list_any p xs) (any_member p q t)
     where
       go : (a b : Bool) → T b → T (a || b)
       go true b t = tt
@@ -212,20 +212,18 @@ module _ {A : Type 0} where
 
 module _ {A : Type 0} where
   -- all of a list pass, so do all after its first n, one less
-  pub all_drop : (p : A → Bool) (n : ℕ) (l : List A) → all p (drop n l) ≡ true → all p (drop (suc n) l) ≡ true
-  unfolding all
+  pub all_drop : (p : A → Bool) (n : ℕ) (l : List A) → list_all p (drop n l) ≡ true → list_all p (drop (suc n) l) ≡ true
   all_drop p n [] e = nothing n e
     where
-      nothing : (n : ℕ) → all p (drop n []) ≡ true → all p (drop (suc n) []) ≡ true
+      nothing : (n : ℕ) → list_all p (drop n []) ≡ true → list_all p (drop (suc n) []) ≡ true
       nothing zero e = e
       nothing (suc n) e = e
-  all_drop p zero (x ∷ l) e = (and_parts (p x) (all p l) e).1
+  all_drop p zero (x ∷ l) e = (and_parts (p x) (list_all p l) e).1
   all_drop p (suc n) (x ∷ l) e = all_drop p n l e
 
-  pub all_last : (p : A → Bool) (l : List A) (x : A) → all p l ≡ true → p x ≡ true → all p (l ++ (x ∷ [])) ≡ true
-  unfolding all
+  pub all_last : (p : A → Bool) (l : List A) (x : A) → list_all p l ≡ true → p x ≡ true → list_all p (l ++ (x ∷ [])) ≡ true
   all_last p [] x e h = rw h
-  all_last p (y ∷ l) x e h = rw ((and_parts (p y) (all p l) e).0, all_last p l x (and_parts (p y) (all p l) e).1 h)
+  all_last p (y ∷ l) x e h = rw ((and_parts (p y) (list_all p l) e).0, all_last p l x (and_parts (p y) (list_all p l) e).1 h)
 
   -- what stands behind the first n, when a place before them is taken out
   pub drop_remove : (d : A) (i n : ℕ) (l : List A) → i ≤ n → n < length l → drop n (remove d i l) ≡ drop (suc n) l ++ (d ∷ [])

@@ -13,7 +13,8 @@ use borrow.Author.Tests.{eqb-true, eqb-false, leb-true, leb-false, le-leb, lt-le
 use lib.Dec.{leb, eqb}
 use lib.ListN.{length, get_or, take, drop, set, length-take, length-append, drop_of_length-le, length-map, get_or-eq_default}
 use lib.Seq.{drop-cons, get_or-take, take_all, take-append-le}
-use Rattle.laws.specs.Lists.{every, below, all, sum, count, find, scan, remove, first_by}
+use Rattle.std.specs.List.{list_all}
+use Rattle.laws.specs.Lists.{every, below, sum, count, find, scan, remove, first_by}
 use Rattle.laws.proofs.Sums.{and_parts, by_test}
 
 -- ---- the places k to n of a list, shut, so that its arguments are found
@@ -59,16 +60,13 @@ sized f l n e = sym (length-map l f) ∙ e
 -- ---- a loop over the places, whose result is z: it goes on, it stops at an element, it comes to the end
 
 module _ {A : Type 0} (p : A → Bool) where
-  pub all_go : (l : List A) (n k : ℕ) (z : Bool) (d x : A) → all p (part k n l) ≡ z → x ≡ get_or l k d → p x ≡ true → k < n → k < length l → all p (part (k + 1) n l) ≡ z
-  unfolding all
+  pub all_go : (l : List A) (n k : ℕ) (z : Bool) (d x : A) → list_all p (part k n l) ≡ z → x ≡ get_or l k d → p x ≡ true → k < n → k < length l → list_all p (part (k + 1) n l) ≡ z
   all_go l n k z d x inv e t h g = rw (part_cons l n k d h g, ← e, t) at inv
 
-  pub all_no : (l : List A) (n k : ℕ) (z : Bool) (d x : A) → all p (part k n l) ≡ z → x ≡ get_or l k d → p x ≡ false → k < n → k < length l → false ≡ z
-  unfolding all
+  pub all_no : (l : List A) (n k : ℕ) (z : Bool) (d x : A) → list_all p (part k n l) ≡ z → x ≡ get_or l k d → p x ≡ false → k < n → k < length l → false ≡ z
   all_no l n k z d x inv e t h g = rw (part_cons l n k d h g, ← e, t) at inv
 
-  pub all_end : (l : List A) (n k : ℕ) (z : Bool) → all p (part k n l) ≡ z → (n ≤ k) ⊎ (length l ≤ k) → true ≡ z
-  unfolding all
+  pub all_end : (l : List A) (n k : ℕ) (z : Bool) → list_all p (part k n l) ≡ z → (n ≤ k) ⊎ (length l ≤ k) → true ≡ z
   all_end l n k z inv h = rw (part_nil l n k h) at inv
 
 module _ {A B : Type 0} (p : B → A → Bool) (f : A → B) where
@@ -125,20 +123,18 @@ every_at_lem (t ∷ (u ∷ ts)) zero e = (and_parts t (every (u ∷ ts)) e).0
 every_at_lem (t ∷ (u ∷ ts)) (suc k) e = every_at_lem (u ∷ ts) k (and_parts t (every (u ∷ ts)) e).1
 
 module _ {A : Type 0} (p : A → Bool) where
-  pub all_at : (l : List A) (k : ℕ) (d : A) → all p l ≡ true → k < length l → p (get_or l k d) ≡ true
-  unfolding all
+  pub all_at : (l : List A) (k : ℕ) (d : A) → list_all p l ≡ true → k < length l → p (get_or l k d) ≡ true
   all_at [] k d e h = absurd (let z : k < 0 = h in omega arith)
-  all_at (x ∷ l) zero d e h = (and_parts (p x) (all p l) e).0
-  all_at (x ∷ l) (suc k) d e h = all_at l k d (and_parts (p x) (all p l) e).1 (omega arith)
+  all_at (x ∷ l) zero d e h = (and_parts (p x) (list_all p l) e).0
+  all_at (x ∷ l) (suc k) d e h = all_at l k d (and_parts (p x) (list_all p l) e).1 (omega arith)
 
   -- at any place, where the default passes
-  pub all_any : (l : List A) (k : ℕ) (d : A) → p d ≡ true → all p l ≡ true → p (get_or l k d) ≡ true
-  unfolding all
+  pub all_any : (l : List A) (k : ℕ) (d : A) → p d ≡ true → list_all p l ≡ true → p (get_or l k d) ≡ true
   all_any [] k d t e = rw (get_or-eq_default [] d {n = k} (omega arith)) t
-  all_any (x ∷ l) zero d t e = (and_parts (p x) (all p l) e).0
-  all_any (x ∷ l) (suc k) d t e = all_any l k d t (and_parts (p x) (all p l) e).1
+  all_any (x ∷ l) zero d t e = (and_parts (p x) (list_all p l) e).0
+  all_any (x ∷ l) (suc k) d t e = all_any l k d t (and_parts (p x) (list_all p l) e).1
 
-  pub all_within : (l : List A) (n k : ℕ) (d : A) → all p (take n l) ≡ true → k < n → k < length l → p (get_or l k d) ≡ true
+  pub all_within : (l : List A) (n k : ℕ) (d : A) → list_all p (take n l) ≡ true → k < n → k < length l → p (get_or l k d) ≡ true
   all_within l n k d e h g = rw (get_or-take n l k d h) at (all_at (take n l) k d e (simp length-take (omega arith)))
 
 -- a test that looks back is passed by each element at some value of what it looks at
@@ -208,23 +204,21 @@ first_by_same before after (suc n) h =
 -- ---- the numbers below n
 
 module _ (p : ℕ → Bool) where
-  pub below_all : (n : ℕ) → ((k : ℕ) → k < n → p k ≡ true) → all p (below n) ≡ true
-  unfolding all
+  pub below_all : (n : ℕ) → ((k : ℕ) → k < n → p k ≡ true) → list_all p (below n) ≡ true
   below_all zero h = refl
   below_all (suc n) h = rw (h n (omega arith), below_all n (λ k q. h k (omega arith)))
 
-  pub below_at : (n k : ℕ) → all p (below n) ≡ true → k < n → p k ≡ true
-  unfolding all
+  pub below_at : (n k : ℕ) → list_all p (below n) ≡ true → k < n → p k ≡ true
   below_at zero k e h = absurd (let z : k < 0 = h in omega arith)
   below_at (suc n) k e h =
-      by_test (eqb k n) (λ q. rw (eqb-true k n q) (and_parts (p n) (all p (below n)) e).0)
-      (λ q. below_at n k (and_parts (p n) (all p (below n)) e).1 (below_less k n h (eqb-false k n q)))
+      by_test (eqb k n) (λ q. rw (eqb-true k n q) (and_parts (p n) (list_all p (below n)) e).0)
+      (λ q. below_at n k (and_parts (p n) (list_all p (below n)) e).1 (below_less k n h (eqb-false k n q)))
     where
       below_less : (a b : ℕ) → a < suc b → (a ≡ b → ⊥) → a < b
       below_less a b l f = ⊎_elim (λ (x : a ≡ b). absurd (f x)) (λ (x : a < b). x) (eq-or-lt_of_le (omega arith))
 
-  pub below_no : (n k : ℕ) → k < n → p k ≡ false → false ≡ all p (below n)
-  below_no n k h e = by_test (all p (below n)) (λ t. absurd (false≢true (sym e ∙ below_at n k t h))) sym
+  pub below_no : (n k : ℕ) → k < n → p k ≡ false → false ≡ list_all p (below n)
+  below_no n k h e = by_test (list_all p (below n)) (λ t. absurd (false≢true (sym e ∙ below_at n k t h))) sym
 
 -- ---- counts
 

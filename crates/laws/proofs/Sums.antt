@@ -9,7 +9,8 @@ use mathlib.Core.List.{List, [], ◌∷◌, ◌++◌}
 use mathlib.Core.Bool.{Bool, true, false, cond, ◌&&◌, ◌||◌, or-false}
 use lib.ListN.{length, take, get_or, length-take}
 use lib.Seq.{take-suc, get_or-take}
-use Rattle.laws.specs.Lists.{every, below, all, any, sum, top, All}
+use Rattle.std.specs.List.{list_all, list_any}
+use Rattle.laws.specs.Lists.{every, below, sum, top, All}
 
 -- ---- tests
 
@@ -58,10 +59,9 @@ every_all (b ∷ (c ∷ bs)) e = ((and_parts b (every (c ∷ bs)) e).0, every_al
 
 module _ {A : Type 0} where
   -- a test of every element, and a property of every element
-  pub all_all : (p : A → Bool) (P : A → Type 0) → ((x : A) → p x ≡ true → P x) → (xs : List A) → all p xs ≡ true → All P xs
-  unfolding all
+  pub all_all : (p : A → Bool) (P : A → Type 0) → ((x : A) → p x ≡ true → P x) → (xs : List A) → list_all p xs ≡ true → All P xs
   all_all p P f [] e = tt
-  all_all p P f (x ∷ xs) e = (f x (and_parts (p x) (all p xs) e).0, all_all p P f xs (and_parts (p x) (all p xs) e).1)
+  all_all p P f (x ∷ xs) e = (f x (and_parts (p x) (list_all p xs) e).0, all_all p P f xs (and_parts (p x) (list_all p xs) e).1)
 
   pub all_map : (P Q : A → Type 0) (xs : List A) → ((x : A) → P x → Q x) → All P xs → All Q xs
   all_map P Q [] f a = tt
@@ -180,27 +180,23 @@ module _ {A : Type 0} where
 
   -- ---- some element passes
 
-  any_snoc : (f : A → Bool) (xs : List A) (y : A) → any f (xs ++ (y ∷ [])) ≡ any f xs || f y
-  unfolding any
+  any_snoc : (f : A → Bool) (xs : List A) (y : A) → list_any f (xs ++ (y ∷ [])) ≡ list_any f xs || f y
   any_snoc f [] y = or-false (f y)
-  any_snoc f (x ∷ xs) y = ap (λ (b : Bool). f x || b) (any_snoc f xs y) ∙ sym (or_joined (f x) (any f xs) (f y))
+  any_snoc f (x ∷ xs) y = ap (λ (b : Bool). f x || b) (any_snoc f xs y) ∙ sym (or_joined (f x) (list_any f xs) (f y))
 
-  pub any_take : (f : A → Bool) (xs : List A) (j : ℕ) (d : A) → j < length xs → any f (take (j + 1) xs) ≡ any f (take j xs) || f (get_or xs j d)
+  pub any_take : (f : A → Bool) (xs : List A) (j : ℕ) (d : A) → j < length xs → list_any f (take (j + 1) xs) ≡ list_any f (take j xs) || f (get_or xs j d)
   any_take f xs j d h =
-      ap (λ (n : ℕ). any f (take n xs)) (add-one j) ∙ ap (any f) (take-suc xs j d h) ∙ any_snoc f (take j xs) (get_or xs j d)
+      ap (λ (n : ℕ). list_any f (take n xs)) (add-one j) ∙ ap (list_any f) (take-suc xs j d h) ∙ any_snoc f (take j xs) (get_or xs j d)
 
-  pub any_none : (f : A → Bool) (xs : List A) → All (λ x. f x ≡ false) xs → any f xs ≡ false
-  unfolding any
+  pub any_none : (f : A → Bool) (xs : List A) → All (λ x. f x ≡ false) xs → list_any f xs ≡ false
   any_none f [] a = refl
   any_none f (x ∷ xs) a = rw a.0 (any_none f xs a.1)
 
-  pub none_any : (f : A → Bool) (xs : List A) → any f xs ≡ false → All (λ x. f x ≡ false) xs
-  unfolding any
+  pub none_any : (f : A → Bool) (xs : List A) → list_any f xs ≡ false → All (λ x. f x ≡ false) xs
   none_any f [] e = tt
-  none_any f (x ∷ xs) e = ((or_parts (f x) (any f xs) e).0, none_any f xs (or_parts (f x) (any f xs) e).1)
+  none_any f (x ∷ xs) e = ((or_parts (f x) (list_any f xs) e).0, none_any f xs (or_parts (f x) (list_any f xs) e).1)
 
-  pub any_eq : (f g : A → Bool) (xs : List A) → All (λ x. f x ≡ g x) xs → any f xs ≡ any g xs
-  unfolding any
+  pub any_eq : (f g : A → Bool) (xs : List A) → All (λ x. f x ≡ g x) xs → list_any f xs ≡ list_any g xs
   any_eq f g [] a = refl
   any_eq f g (x ∷ xs) a = ap₂ ◌||◌ a.0 (any_eq f g xs a.1)
 

@@ -1,6 +1,6 @@
 -- Words about lists and tests that the rules are written in. No cranes here.
 -- Assumes nothing.
-use Rattle.std.specs.Prelude.{ℕ, zero, suc, ◌+◌, max, Bool, true, false, cond, ◌&&◌, ◌||◌, List, [], ◌∷◌, ◌++◌, leb}
+use Rattle.std.specs.Prelude.{ℕ, zero, suc, ◌+◌, max, Bool, true, cond, ◌&&◌, List, [], ◌∷◌, ◌++◌, leb}
 
 -- all the tests of a list pass; the last stands alone, as in `a && (b && c)`
 abbrev pub every : List Bool → Bool
@@ -18,16 +18,6 @@ below zero = []
 below (suc n) = n ∷ below n
 
 module _ {A : Type 0} where
-  -- every element passes the test
-  unfoldable pub all : (A → Bool) → List A → Bool
-  all p [] = true
-  all p (x ∷ xs) = p x && all p xs
-
-  -- some element passes the test
-  unfoldable pub any : (A → Bool) → List A → Bool
-  any p [] = false
-  any p (x ∷ xs) = p x || any p xs
-
   -- the sum of f over a list
   unfoldable pub sum : (A → ℕ) → List A → ℕ
   sum f [] = 0

@@ -7,14 +7,15 @@ use mathlib.Core.Path.{◌≡◌}
 use mathlib.Core.List.{List}
 use mathlib.Core.Bool.{Bool, true, false, cond}
 use lib.Dec.{leb, lit≤}
-use lib.ListN.{get_or}
-use Rattle.laws.specs.Lists.{below, any, top, All}
-use Rattle.laws.proofs.Sums.{all_map, all_each, all_below, length_below, sum_le, top_le, cond_le}
+use Rattle.std.specs.List.{list_any}
+use Rattle.laws.specs.Lists.{below, top, All}
+use Rattle.laws.proofs.Sums.{all_map, all_each, sum_le, top_le, cond_le}
 use Rattle.rules.specs.declared.Stream.{Stream}
 use Rattle.rules.specs.Load.{urgent, blocks_for, blocks, blocking}
 use Rattle.rules.proofs.Stages.{blocks_for_fits}
 use Rattle.rules.specs.Valid.{ValidStream}
-use Rattle.load_check.specs.Dues.{row_due, due_at, dues_below, RowsFit}
+use Rattle.load_check.specs.declared.Row.{Row}
+use Rattle.load_check.specs.Dues.{row_due, dues, RowFits, RowsFit}
 use Rattle.load_check.specs.Blocked.{blockings_of}
 
 -- ---- blocking
@@ -29,7 +30,7 @@ blocks_fit t i s v = other (leb s.deadline i) (blocks_for t s) (omega (arith, bl
 pub blocking_fits : (ss : List Stream) (i t : ℕ) → All ValidStream ss → blocking ss i t ≤ 65535
 unfolding blocking
 blocking_fits ss i t v =
-    cond_le (any (urgent t i) ss) (top (blocks t i) ss) 65535 (top_le (blocks t i) 65535 ss (all_map ValidStream (λ s. blocks t i s ≤ 65535) ss (blocks_fit t i) v))
+    cond_le (list_any (urgent t i) ss) (top (blocks t i) ss) 65535 (top_le (blocks t i) 65535 ss (all_map ValidStream (λ s. blocks t i s ≤ 65535) ss (blocks_fit t i) v))
 
 pub blockings_fit : (ss : List Stream) (i n : ℕ) → n ≡ blockings_of ss i → All ValidStream ss → n ≤ 1048560
 unfolding blockings_of
@@ -39,20 +40,13 @@ blockings_fit ss i n e v =
 
 -- ---- rows
 
-pub row_fits : (c f z i : ℕ) → c ≤ 262140 → i ≤ 4294967295 → row_due c f z i ≤ 1125882726973440
+pub row_fits : (i : ℕ) (r : Row) → RowFits r → i ≤ 4294967295 → row_due i r ≤ 1125882726973440
 unfolding row_due
-row_fits c f z i h k =
-    cond_le (leb f i) (c * ((i - f) / z + 1)) 1125882726973440
-    (le_trans (mul-le-mul {n₂ = 262140} {m₂ = 4294967296} h (omega (arith, div-le_self (i - f) z))) (lit≤ tt))
+row_fits i r h k =
+    cond_le (leb r.first i) (r.cost * ((i - r.first) / r.cycle + 1)) 1125882726973440
+    (le_trans (mul-le-mul {n₂ = 262140} {m₂ = 4294967296} h.cost (omega (arith, div-le_self (i - r.first) r.cycle))) (lit≤ tt))
 
-pub dues_fit : (costs firsts cycles : List ℕ) (n i : ℕ) → RowsFit costs cycles n → i ≤ 4294967295 → dues_below costs firsts cycles n i ≤ 72056494526300160
-unfolding dues_below
-dues_fit costs firsts cycles n i s k =
-    omega (
-      arith,
-      s.room,
-      length_below n,
-      sum_le (due_at costs firsts cycles i) 1125882726973440 (below n)
-          (all_below (λ j. due_at costs firsts cycles i j ≤ 1125882726973440) n
-          (λ j h. row_fits (get_or costs j 0) (get_or firsts j 0) (get_or cycles j 0) i (s.cost j h) k)),
-    )
+pub dues_fit : (rs : List Row) (i : ℕ) → RowsFit rs → i ≤ 4294967295 → dues rs i ≤ 72056494526300160
+unfolding dues
+dues_fit rs i s k =
+    omega (arith, s.room, sum_le (row_due i) 1125882726973440 rs (all_map RowFits (λ r. row_due i r ≤ 1125882726973440) rs (λ r h. row_fits i r h k) s.each))

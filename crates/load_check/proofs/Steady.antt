@@ -3,45 +3,24 @@
 use Prim.Native.Nat.{ℕ, ◌+◌, ◌≤◌, ◌<◌}
 use native.Mathlib.Omega.{arith}
 use mathlib.Core.Path.{◌≡◌, ap, ap₂, sym, ◌∙◌}
-use mathlib.Core.List.{List, []}
+use mathlib.Core.List.{List}
 use mathlib.Core.Bool.{Bool, true, false, cond, ◌&&◌}
 use mathlib.Core.Logic.{inl, inr}
 use lib.Dec.{leb}
-use lib.ListN.{length, get_or, take}
 use borrow.Author.Tests.{le-leb, lt-leb}
-use Rattle.laws.specs.Lists.{below, any, top, All}
-use Rattle.laws.proofs.Sums.{all_map, all_each, all_take_more, any_eq, top_eq, sum_eq}
+use Rattle.laws.specs.Lists.{below, All}
+use Rattle.laws.proofs.Sums.{all_map, all_each, any_eq, top_eq, sum_eq}
 use Rattle.rules.specs.declared.Stream.{Stream}
 use Rattle.rules.specs.declared.Set.{Set}
 use Rattle.rules.specs.declared.Refusal.TheVariants.{OutOfRule}
-use Rattle.rules.specs.declared.CountAnswer.TheVariants.{Number, Refused}
+use Rattle.std.specs.Prelude.{Ok, Err}
 use Rattle.rules.specs.Streams.{streams_of, valid}
 use Rattle.rules.specs.Load.{has, urgent, blocks, blocking, demand, demand_of}
+use Rattle.load_check.specs.declared.Row.{Row}
 use Rattle.load_check.specs.declared.Rows.{Rows}
-use Rattle.load_check.specs.Dues.{rows_due, RowsOf}
-use Rattle.load_check.specs.Blocked.{blockings_of, blocking_of, Apart, ApartFrom, Nearer}
+use Rattle.load_check.specs.Dues.{dues, used, RowsOf}
+use Rattle.load_check.specs.Blocked.{blockings_of, blocking_of, ApartFrom}
 use Rattle.load_check.specs.Lengths.{rows_with}
-
--- ---- looking for the next deadline
-
-apart_less : (i r u d : ℕ) → u ≤ r → Apart i r d → Apart i u d
-apart_less i r u d h (inl a) = inl a
-apart_less i r u d h (inr b) = inr (omega arith)
-
-pub apart_none : (i r : ℕ) → All (ApartFrom i r) []
-apart_none i r = tt
-
-pub apart_more : (i r u : ℕ) (ss : List Stream) (k : ℕ) (e : Stream) → k < length ss → All (ApartFrom i r) (take k ss) → Nearer i (get_or ss k e).deadline r u
-    → All (ApartFrom i u) (take (k + 1) ss)
-apart_more i r u ss k e h a n =
-    all_take_more (ApartFrom i u) ss k e h (all_map (ApartFrom i r) (ApartFrom i u) (take k ss) (λ s x. apart_less i r u s.deadline n.near x) a) n.apart
-
--- ---- the blocking of a task, from a pass over the streams
-
-pub blocking_by : (ss : List Stream) (i t n k most : ℕ) (b : Bool) → k ≡ n → b ≡ any (urgent t i) (take k ss) → most ≡ top (blocks t i) (take k ss)
-    → cond b most 0 ≡ blocking (take n ss) i t
-unfolding blocking
-blocking_by ss i t n k most b e p q = ap₂ (λ (x : Bool) (m : ℕ). cond x m 0) p q ∙ ap (λ (m : ℕ). blocking (take m ss) i t) e
 
 -- ---- what stays the same up to it
 
@@ -68,27 +47,27 @@ module _ (i j r : ℕ) (low : i ≤ j) (high : j < r) where
   same_blockings ss a = sum_eq (blocking ss j) (blocking ss i) (below 16) (all_each _ (below 16) (same_blocking ss a))
 
   -- rows with the blocking of i give the demand of j
-  pub same_demand : (ss : List Stream) (t : Rows) (b : ℕ) → All (ApartFrom i r) ss → RowsOf ss t → b ≡ blockings_of ss i → j ≤ 4294967295 → rows_with t b j ≡ demand ss j
+  pub same_demand : (ss : List Stream) (t : Rows) (rs : List Row) (b : ℕ) → All (ApartFrom i r) ss → RowsOf ss t → rs ≡ used t → b ≡ blockings_of ss i → j ≤ 4294967295 → rows_with rs b j ≡ demand ss j
   unfolding demand blockings_of
-  same_demand ss t b a rows e h = omega (arith, rows.say j h, same_blockings ss a)
+  same_demand ss t rs b a rows q e h = rw q (omega (arith, rows.say j h, same_blockings ss a))
 
 -- ---- demand as an answer
 
-pub demand_is : (x : Set) (t : Rows) (i a b : ℕ) → valid x ≡ true → RowsOf (streams_of x) t → i ≤ 4294967295 → a ≡ rows_due t i → b ≡ blockings_of (streams_of x) i
-    → Number (a + b) ≡ demand_of x i
+pub demand_is : (x : Set) (t : Rows) (i a b : ℕ) → valid x ≡ true → RowsOf (streams_of x) t → i ≤ 4294967295 → a ≡ dues (used t) i → b ≡ blockings_of (streams_of x) i
+    → Ok (a + b) ≡ demand_of x i
 unfolding demand_of demand blockings_of
-demand_is x t i a b ok rows h p q = rw ok (ap Number (omega (arith, rows.say i h)))
+demand_is x t i a b ok rows h p q = rw ok (ap Ok (omega (arith, rows.say i h)))
 
-pub demand_refused : (x : Set) (i : ℕ) → valid x ≡ false → Refused OutOfRule ≡ demand_of x i
+pub demand_refused : (x : Set) (i : ℕ) → valid x ≡ false → Err OutOfRule ≡ demand_of x i
 unfolding demand_of
 demand_refused x i bad = rw bad
 
 -- ---- the blocking of a task as an answer
 
-pub blocking_is : (x : Set) (i t : ℕ) {n : ℕ} → valid x ≡ true → n ≡ blocking (streams_of x) i t → Number n ≡ blocking_of x i t
+pub blocking_is : (x : Set) (i t : ℕ) {n : ℕ} → valid x ≡ true → n ≡ blocking (streams_of x) i t → Ok n ≡ blocking_of x i t
 unfolding blocking_of
-blocking_is x i t ok e = rw ok (ap Number e)
+blocking_is x i t ok e = rw ok (ap Ok e)
 
-pub blocking_refused : (x : Set) (i t : ℕ) → valid x ≡ false → Refused OutOfRule ≡ blocking_of x i t
+pub blocking_refused : (x : Set) (i t : ℕ) → valid x ≡ false → Err OutOfRule ≡ blocking_of x i t
 unfolding blocking_of
 blocking_refused x i t bad = rw bad

@@ -5,8 +5,8 @@ use Rattle.laws.specs.Lists.{below, sum, All}
 use Rattle.rules.specs.declared.Stream.{Stream}
 use Rattle.rules.specs.declared.Set.{Set}
 use Rattle.rules.specs.declared.Refusal.TheVariants.{OutOfRule}
-use Rattle.rules.specs.declared.CountAnswer.{CountAnswer}
-use Rattle.rules.specs.declared.CountAnswer.TheVariants.{Number, Refused}
+use Rattle.std.specs.Prelude.{Result, Ok, Err}
+use Rattle.rules.specs.declared.Refusal.{Refusal}
 use Rattle.rules.specs.Streams.{streams_of, valid}
 use Rattle.rules.specs.Load.{blocking}
 
@@ -15,8 +15,8 @@ unfoldable pub blockings_of : List Stream → ℕ → ℕ
 blockings_of ss i = sum (blocking ss i) (below 16)
 
 -- "The blocking of a task" as an answer, 7 for an invalid set
-unfoldable pub blocking_of : Set → ℕ → ℕ → CountAnswer
-blocking_of x i t = cond (valid x) (Number (blocking (streams_of x) i t)) (Refused OutOfRule)
+unfoldable pub blocking_of : Set → ℕ → ℕ → Result ℕ Refusal
+blocking_of x i t = cond (valid x) (Ok (blocking (streams_of x) i t)) (Err OutOfRule)
 
 -- the deadline d does not lie after i and before r
 abbrev pub Apart : ℕ → ℕ → ℕ → Type 0

@@ -1,124 +1,99 @@
 // A set's tuples laid out in rows, so that the loop over lengths reads plain numbers in place.
-ghost use Rattle.std.specs.Prelude.{◌≡◌, ◌≤◌, ◌<◌};
+ghost use Rattle.std.specs.Prelude.{◌≡◌, ◌≤◌, ◌<◌, ◌+◌, ◌++◌, ◌∷◌, [], length};
 ghost use Rattle.rules.specs.Valid.{Between, ValidCycle, ValidStream, ValidSet};
 ghost use Rattle.rules.specs.Streams.{offset, streams_of};
-ghost use Rattle.load_check.specs.Dues.{row_due, dues_below, rows_due, tuple_due, stream_due, RowsFit, Grows, RowsOf};
+ghost use Rattle.load_check.specs.Dues.{row_due, used, dues, stream_due, RowFor, RowsFit, Grows, RowsOf};
 
-use crate::{Rows, wide};
+use crate::{Row, Rows};
 use rules::{Set, Stream, Tuple};
 
 // ---- laying out
 
-fn no_rows() -> Rows
-    ensures { result.count ≡ 0 }
-{
-    let costs = [0u32; 64];
-    let firsts = [0u32; 64];
-    let cycles = [0u32; 64];
-    Rows {
-        count: 0,
-        costs,
-        firsts,
-        cycles,
-    }
-}
-
-fn put_row(t: Rows, cost: u32, first: u32, cycle: u32) -> Rows
-    requires { (t.count < 64) × (RowsFit t.costs t.cycles t.count) × (cost ≤ 262140) × (0 < cycle) }
-    ensures { Grows t 1 (row_due cost first cycle) result }
-{
-    let k = t.count;
-    let mut r = t;
-    r.costs[k] = cost;
-    r.firsts[k] = first;
-    r.cycles[k] = cycle;
-    r.count = k + 1;
-    r
-}
-
 // A tuple of a stream is first due at deadline plus offset. Once is a cycle that no length of 32 bits completes.
-fn put_tuple(t: Rows, cost: u32, deadline: u32, tuple: Tuple) -> Rows
-    requires { (t.count < 64) × (RowsFit t.costs t.cycles t.count) × (cost ≤ 262140) × (Between 1 deadline 200000) × (offset tuple ≤ 100000) × (ValidCycle tuple) }
-    ensures { Grows t 1 (tuple_due cost deadline tuple) result }
+fn row_of(cost: u32, deadline: u32, tuple: Tuple) -> Row
+    requires { (cost ≤ 262140) × (Between 1 deadline 200000) × (offset tuple ≤ 100000) × (ValidCycle tuple) }
+    ensures { RowFor cost deadline tuple result }
 {
     match tuple {
-        Tuple::Once(a) => put_row(t, cost, deadline + a, 4294967295),
-        Tuple::Every(z, a) => put_row(t, cost, deadline + a, z),
+        Tuple::Once(a) => Row {
+            cost,
+            first: deadline + a,
+            cycle: 4294967295,
+        },
+        Tuple::Every(cycle, a) => Row {
+            cost,
+            first: deadline + a,
+            cycle,
+        },
     }
 }
 
-fn put_stream(t: Rows, s: Stream) -> Rows
-    requires { (t.count ≤ 60) × (RowsFit t.costs t.cycles t.count) × (ValidStream s) }
-    ensures { Grows t 4 (stream_due s) result }
+fn put_row(t: &mut Rows, row: Row)
+    requires { t.old.count < 64 }
+    ensures rows { used t.new ≡ used t.old ++ row ∷ [] }
+    ensures count { t.new.count ≡ t.old.count + 1 }
 {
-    let n = s.count;
-    let cost = load_cycles::stream_cost(s) as u32;
-    let deadline = s.deadline;
-    let mut r = t;
-    let mut j: usize = 0;
-    while j < n {
-        let p = s.tuples[j];
-        let tuple = p.tuple;
-        r = put_tuple(r, cost, deadline, tuple);
-        j = j + 1;
-    }
-    r
+    t.rows[t.count] = row;
+    t.count += 1;
 }
 
-pub(crate) fn rows_of(x: Set) -> Rows
-    requires { ValidSet x }
-    ensures { RowsOf (streams_of x) result }
+fn put_stream(t: &mut Rows, s: &Stream)
+    requires { (t.old.count ≤ 60) × (RowsFit (used t.old)) × (ValidStream s.now) }
+    ensures { Grows t.old 4 (stream_due s.now) t.new }
 {
-    let n = x.count;
-    let mut r = no_rows();
-    let mut k: usize = 0;
-    while k < n {
-        let s = x.streams[k];
-        r = put_stream(r, s);
-        k = k + 1;
+    let cost = load_cycles::stream_cost(*s) as u32;
+    for p in stream_valid::tuples_of(s) {
+        put_row(t, row_of(cost, s.deadline, p.tuple));
     }
-    r
+}
+
+pub(crate) fn rows_of(x: &Set) -> Rows
+    requires { ValidSet x.now }
+    ensures { RowsOf (streams_of x.now) result }
+{
+    let mut t = Rows {
+        count: 0,
+        rows: [Row {
+            cost: 0,
+            first: 0,
+            cycle: 0,
+        }; 64],
+    };
+    for s in stream_valid::streams_of(x) {
+        put_stream(&mut t, s);
+    }
+    t
 }
 
 // ---- reading
 
-fn row_due(cost: u32, first: u32, cycle: u32, i: u32) -> u64
-    requires { 0 < cycle }
-    ensures { result ≡ row_due cost first cycle i }
+// The rows in use.
+pub(crate) fn used(t: &Rows) -> &[Row]
+    requires { t.now.count ≤ 64 }
+    ensures { result.now ≡ used t.now }
 {
-    if first <= i {
-        wide(cost) * (wide((i - first) / cycle) + 1)
+    &t.rows[..t.count]
+}
+
+fn row_due(row: Row, i: u32) -> u64
+    requires { 0 < row.cycle }
+    ensures { result ≡ row_due i row }
+{
+    if row.first <= i {
+        u64::from(row.cost) * (u64::from((i - row.first) / row.cycle) + 1)
     } else {
         0
     }
 }
 
-// What the first n rows add by the length i.
-pub(crate) fn dues_at(
-    costs: &[u32; 64],
-    firsts: &[u32; 64],
-    cycles: &[u32; 64],
-    n: usize,
-    i: u32,
-) -> u64
-    requires { RowsFit costs.now cycles.now n }
-    ensures { result ≡ dues_below costs.now firsts.now cycles.now n i }
+// What the rows add by the length i.
+pub(crate) fn dues_at(rows: &[Row], i: u32) -> u64
+    requires { RowsFit rows.now }
+    ensures { result ≡ dues rows.now i }
 {
-    let mut acc: u64 = 0;
-    let mut k: usize = 0;
-    while k < n {
-        acc = acc + row_due(costs[k], firsts[k], cycles[k], i);
-        k = k + 1;
+    let mut acc = 0;
+    for row in rows {
+        acc += row_due(*row, i);
     }
     acc
-}
-
-pub(crate) fn rows_due(t: Rows, i: u32) -> u64
-    requires { RowsFit t.costs t.cycles t.count }
-    ensures { result ≡ rows_due t i }
-{
-    let costs = t.costs;
-    let firsts = t.firsts;
-    let cycles = t.cycles;
-    dues_at(&costs, &firsts, &cycles, t.count, i)
 }

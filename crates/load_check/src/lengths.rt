@@ -5,53 +5,38 @@ ghost use Rattle.rules.specs.Streams.{streams_of};
 ghost use Rattle.load_check.specs.Dues.{RowsFit};
 ghost use Rattle.load_check.specs.Lengths.{Spanned, Ranged};
 
-use crate::{Rows, Tested, blocked, dues, wide};
+use crate::{Row, blocked, dues};
 use rules::Set;
 
-fn late_at(i: u32, w: u64) -> Tested
-    ensures { result ≡ Tested.Late i w }
+// The lengths from `from` up to `stop`, at all of which the blocking is `blocked`: the first late one and its demand.
+fn test_span(rows: &[Row], blocked: u64, from: u32, stop: u32) -> Option<(u64, u64)>
+    requires { (RowsFit rows.now) × (blocked ≤ 1048560) }
+    ensures { Spanned rows.now blocked from stop result }
 {
-    Tested::Late(wide(i), w)
-}
-
-// The lengths from `from` up to `stop`, at all of which the blocking is `blocked`.
-fn test_span(t: Rows, blocked: u64, from: u32, stop: u32) -> Tested
-    requires { (RowsFit t.costs t.cycles t.count) × (blocked ≤ 1048560) }
-    ensures { Spanned t blocked from stop result }
-{
-    let n = t.count;
-    let costs = t.costs;
-    let firsts = t.firsts;
-    let cycles = t.cycles;
-    let mut i = from;
-    while i < stop {
-        let w = dues::dues_at(&costs, &firsts, &cycles, n, i) + blocked;
-        if wide(i) < w {
-            return late_at(i, w);
+    for i in from..stop {
+        let w = dues::dues_at(rows, i) + blocked;
+        if u64::from(i) < w {
+            return Some((u64::from(i), w));
         }
-        i = i + 1;
     }
-    Tested::Clear
+    None
 }
 
-// The lengths from `from` up to `end`, in order, from deadline to deadline.
-pub(crate) fn test_range(x: Set, from: u32, end: u32) -> Tested
-    requires { ValidSet x }
-    ensures { Ranged (streams_of x) from end result }
+// The lengths from `from` up to `end`, in order, from deadline to deadline: the first late one and its demand.
+pub(crate) fn test_range(x: &Set, from: u32, end: u32) -> Option<(u64, u64)>
+    requires { ValidSet x.now }
+    ensures { Ranged (streams_of x.now) from end result }
 {
     let t = dues::rows_of(x);
+    let rows = dues::used(&t);
     let mut i = from;
+    // kept: the new form is no plainer, since this steps from deadline to deadline
     while i < end {
         let stop = blocked::next_deadline(x, i, end);
-        let found = test_span(t, blocked::blockings(x, i), i, stop);
-        match found {
-            Tested::Late(at, w) => {
-                return Tested::Late(at, w);
-            }
-            Tested::Clear => {
-                i = stop;
-            }
+        if let Some(late) = test_span(rows, blocked::blockings(x, i), i, stop) {
+            return Some(late);
         }
+        i = stop;
     }
-    Tested::Clear
+    None
 }

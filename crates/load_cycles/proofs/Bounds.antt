@@ -1,9 +1,12 @@
 -- How large the numbers of a valid set are: load, greatest deadline and offset.
 -- Assumes nothing.
-use Prim.Native.Nat.{ℕ, ◌*◌, ◌≤◌}
+use Prim.Native.Nat.{ℕ, ◌*◌, ◌≤◌, max, min}
 use native.Mathlib.Nat.{div-le_self, le_trans, mul-le-mul}
 use native.Mathlib.Omega.{arith}
 use mathlib.Core.List.{List, []}
+use mathlib.Core.Path.{◌≡◌}
+use Rattle.std.specs.Ordering.{ord_max, ord_min, nat_cmp}
+use Rattle.std.proofs.lemmas.Grind.{common_steps}
 use lib.Dec.{lit≤}
 use lib.ListN.{length-take}
 use Rattle.laws.specs.Lists.{All}
@@ -20,10 +23,6 @@ use Rattle.rules.specs.Valid.{ValidPlace, ValidStream}
 -- what stands at a place past the end of the streams
 abbrev pub blank : Stream
 blank = record { depth = 0; stages = []; deadline = 0; count = 0; tuples = [] }
-
--- a product of two numbers of 32 bits, one of them counted up by 1
-pub product_fits : (a b : ℕ) → a ≤ 4294967295 → b ≤ 4294967296 → a * b ≤ 18446744069414584320
-product_fits a b h k = le_trans (mul-le-mul {n₂ = 4294967295} {m₂ = 4294967296} h k) (lit≤ tt)
 
 -- ---- load
 
@@ -57,3 +56,10 @@ offset_fits s v = top_le offset_at 100000 (tuples_of s) (all_map ValidPlace (λ 
 pub offsets_fit : (ss : List Stream) → All ValidStream ss → greatest_offset ss ≤ 100000
 unfolding greatest_offset
 offsets_fit ss v = top_le stream_offset 100000 ss (all_map ValidStream (λ s. stream_offset s ≤ 100000) ss offset_fits v)
+
+-- std's `max` and `min` of two numbers
+pub ord_max_nat : (a b : ℕ) → ord_max nat_cmp a b ≡ max a b
+ord_max_nat a b = grind (arith, common_steps)
+
+pub ord_min_nat : (a b : ℕ) → ord_min nat_cmp a b ≡ min a b
+ord_min_nat a b = grind (arith, common_steps)

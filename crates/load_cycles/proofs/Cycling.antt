@@ -13,8 +13,8 @@ use Rattle.laws.proofs.Divide.{lcm_of_gcd, with_none, with_more, with_above, lea
 use Rattle.rules.specs.declared.Tuple.TheVariants.{Once, Every}
 use Rattle.rules.specs.declared.Stream.{Stream}
 use Rattle.rules.specs.declared.Set.{Set}
-use Rattle.rules.specs.declared.CountAnswer.{CountAnswer}
-use Rattle.rules.specs.declared.CountAnswer.TheVariants.{Number, Refused}
+use Rattle.std.specs.Prelude.{Some, None, Result, Ok, Err}
+use Rattle.rules.specs.declared.Refusal.{Refusal}
 use Rattle.rules.specs.declared.Refusal.TheVariants.{OutOfRule, LongCycles}
 use Rattle.rules.specs.Streams.{streams_of, valid}
 use Rattle.rules.specs.Load.{IsH}
@@ -22,7 +22,6 @@ use Rattle.rules.specs.Valid.{Between, ValidStream}
 use Rattle.rules.proofs.Valid.{valid_set}
 use Rattle.rules.proofs.Cycles.{join_every, join_once, least_is_h, h_of, h_of_lem}
 use Rattle.rules.proofs.Verdicts.{h_unique}
-use Rattle.load_cycles.specs.declared.Joined.TheVariants.{Is, Above}
 use Rattle.load_cycles.specs.Cycles.{CycleOf, CommonOf, JoinedBy, ShortH, LongH, HBy, HIf, HOf}
 
 -- ---- one cycle more
@@ -30,14 +29,14 @@ use Rattle.load_cycles.specs.Cycles.{CycleOf, CommonOf, JoinedBy, ShortH, LongH,
 lcm_joins : (h z a g : ℕ) → Between 1 h 1000000 → Between 1 z 1000000 → IsGcd h z g → LeastWith h (CycleOf (Every z a)) (h / g * z)
 lcm_joins h z a g bh bz d = join_every h z a (h / g * z) (lcm_of_gcd h z g bh.low bz.low d)
 
-pub cycle_is : (h z a g r : ℕ) → Between 1 h 1000000 → Between 1 z 1000000 → IsGcd h z g → r ≡ h / g * z → r ≤ 1000000 → JoinedBy h (CycleOf (Every z a)) (Is r)
+pub cycle_is : (h z a g r : ℕ) → Between 1 h 1000000 → Between 1 z 1000000 → IsGcd h z g → r ≡ h / g * z → r ≤ 1000000 → JoinedBy h (CycleOf (Every z a)) (Some r)
 cycle_is h z a g r bh bz d e le = (subst (LeastWith h (CycleOf (Every z a))) (sym e) (lcm_joins h z a g bh bz d), le)
 
-pub cycle_above : (h z a g r : ℕ) → Between 1 h 1000000 → Between 1 z 1000000 → IsGcd h z g → r ≡ h / g * z → 1000000 < r → JoinedBy h (CycleOf (Every z a)) Above
+pub cycle_above : (h z a g r : ℕ) → Between 1 h 1000000 → Between 1 z 1000000 → IsGcd h z g → r ≡ h / g * z → 1000000 < r → JoinedBy h (CycleOf (Every z a)) None
 cycle_above h z a g r bh bz d e big =
     least_above 1000000 h (CycleOf (Every z a)) r (subst (LeastWith h (CycleOf (Every z a))) (sym e) (lcm_joins h z a g bh bz d)) big
 
-pub once_is : (h a : ℕ) → Between 1 h 1000000 → JoinedBy h (CycleOf (Once a)) (Is h)
+pub once_is : (h a : ℕ) → Between 1 h 1000000 → JoinedBy h (CycleOf (Once a)) (Some h)
 once_is h a b = (join_once h a b.low, b.high)
 
 -- ---- along a list: C m x says that m is a multiple of the cycles of x
@@ -52,48 +51,41 @@ module _ {A : Type 0} (C : ℕ → A → Type 0) where
   so_far h xs b = record { least = with_none C h b.low; range = b }
 
   pub so_far_more : ((m n : ℕ) (x : A) → m ∣ n → C m x → C n x) → (h : ℕ) (xs : List A) (j r s : ℕ) (d : A) → j < length xs
-      → SoFar h xs j r → JoinedBy r (λ m. C m (get_or xs j d)) (Is s) → SoFar h xs (j + 1) s
+      → SoFar h xs j r → JoinedBy r (λ m. C m (get_or xs j d)) (Some s) → SoFar h xs (j + 1) s
   so_far_more up h xs j r s d k a b =
       record { least = with_more C up xs j d k h r s a.least b.0; range = record { low = omega (arith, b.0.positive); high = b.1 } }
 
-  pub so_far_above : (h : ℕ) (xs : List A) (n j r : ℕ) (d : A) → j < n → j < length xs → SoFar h xs j r
-      → JoinedBy r (λ m. C m (get_or xs j d)) Above → JoinedBy h (λ m. All (C m) (take n xs)) Above
-  so_far_above h xs n j r d l k a b = with_above C 1000000 xs n j d l k h r a.least b
-
-  pub so_far_end : (h : ℕ) (xs : List A) (n j r : ℕ) → j ≡ n → SoFar h xs j r → JoinedBy h (λ m. All (C m) (take n xs)) (Is r)
-  so_far_end h xs n j r e a = (subst (λ (k : ℕ). LeastWith h (λ m. All (C m) (take k xs)) r) e a.least, a.range.high)
-
 -- ---- H
 
-pub h_short : (ss : List Stream) (h : ℕ) → JoinedBy 1 (CommonOf ss) (Is h) → ShortH ss h
+pub h_short : (ss : List Stream) (h : ℕ) → JoinedBy 1 (CommonOf ss) (Some h) → ShortH ss h
 h_short ss h j = record { is_h = least_is_h ss h j.0; short = j.1 }
 
-pub h_long : (ss : List Stream) → All ValidStream ss → JoinedBy 1 (CommonOf ss) Above → LongH ss LongCycles
+pub h_long : (ss : List Stream) → All ValidStream ss → JoinedBy 1 (CommonOf ss) None → LongH ss LongCycles
 h_long ss v j =
     let y : IsH ss (h_of ss) = h_of_lem ss v in
     record { number = refl; h = h_of ss; is_h = y; long = j (h_of ss) y.positive (one-dvd (h_of ss)) y.common }
 
 -- the answers that `h_of` gives
-pub h_is : (x : Set) (h k : ℕ) → valid x ≡ true → JoinedBy 1 (CommonOf (streams_of x)) (Is h) → k ≡ h → HOf x (Number k)
+pub h_is : (x : Set) (h k : ℕ) → valid x ≡ true → JoinedBy 1 (CommonOf (streams_of x)) (Some h) → k ≡ h → HOf x (Ok k)
 unfolding HOf
 h_is x h k ok j e = rw (ok, e) (h_short (streams_of x) h j)
 
-pub h_above : (x : Set) → valid x ≡ true → JoinedBy 1 (CommonOf (streams_of x)) Above → HOf x (Refused LongCycles)
+pub h_above : (x : Set) → valid x ≡ true → JoinedBy 1 (CommonOf (streams_of x)) None → HOf x (Err LongCycles)
 unfolding HOf
 h_above x ok j = rw ok (h_long (streams_of x) (valid_set x ok).streams j)
 
-pub h_refused : (x : Set) → valid x ≡ false → HOf x (Refused OutOfRule)
+pub h_refused : (x : Set) → valid x ≡ false → HOf x (Err OutOfRule)
 unfolding HOf
 h_refused x bad = rw bad refl
 
-by_unique : (ss : List Stream) (a b : CountAnswer) → HBy ss a → HBy ss b → a ≡ b
-by_unique ss (Number h) (Number k) p q = ap Number (h_unique ss h k p.is_h q.is_h)
-by_unique ss (Number h) (Refused why) p q = absurd (omega (arith, p.short, q.long, h_unique ss h q.h p.is_h q.is_h))
-by_unique ss (Refused why) (Number k) p q = absurd (omega (arith, q.short, p.long, h_unique ss k p.h q.is_h p.is_h))
-by_unique ss (Refused why) (Refused also) p q = ap Refused (p.number ∙ sym q.number)
+by_unique : (ss : List Stream) (a b : Result ℕ Refusal) → HBy ss a → HBy ss b → a ≡ b
+by_unique ss (Ok h) (Ok k) p q = ap Ok (h_unique ss h k p.is_h q.is_h)
+by_unique ss (Ok h) (Err why) p q = absurd (omega (arith, p.short, q.long, h_unique ss h q.h p.is_h q.is_h))
+by_unique ss (Err why) (Ok k) p q = absurd (omega (arith, q.short, p.long, h_unique ss k p.h q.is_h p.is_h))
+by_unique ss (Err why) (Err also) p q = ap Err (p.number ∙ sym q.number)
 
 -- two answers allowed for the H of one set are the same
-pub h_answer_unique : (x : Set) (a b : CountAnswer) → HOf x a → HOf x b → a ≡ b
+pub h_answer_unique : (x : Set) (a b : Result ℕ Refusal) → HOf x a → HOf x b → a ≡ b
 unfolding HOf
 h_answer_unique x a b p q = go (valid x) p q
   where

@@ -1,5 +1,4 @@
 -- Laws that the functions' proofs cite, and the uniqueness of what the public functions answer. Assumes nothing.
 pub mod Bounds
 pub mod Cycling
-pub mod Fronts
 pub mod Settle

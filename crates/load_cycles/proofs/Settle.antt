@@ -5,6 +5,7 @@ use native.Mathlib.Nat.{one-dvd}
 use native.Mathlib.Omega.{arith}
 use mathlib.Core.Path.{◌≡◌, refl, ap, subst}
 use mathlib.Core.Bool.{true, false}
+use Rattle.std.specs.Prelude.{Option, Some, None, Result, Ok, Err}
 use Rattle.rules.specs.declared.Set.{Set}
 use Rattle.rules.specs.declared.Refusal.TheVariants.{OutOfRule, LongCycles}
 use Rattle.rules.specs.declared.Verdict.{Verdict}
@@ -17,10 +18,6 @@ use Rattle.rules.proofs.Judge.{overloads, too_long}
 use Rattle.rules.proofs.Verdicts.{verdict_unique}
 use Rattle.rules.proofs.Resumed.{lengths_unique, not_stopped}
 use Rattle.rules.specs.Resumed.{AtOpening, StopsWith}
-use Rattle.load_cycles.specs.declared.Joined.{Joined}
-use Rattle.load_cycles.specs.declared.Joined.TheVariants.{Is, Above}
-use Rattle.load_cycles.specs.declared.Opening.{Opening}
-use Rattle.load_cycles.specs.declared.Opening.TheVariants.{Stops, Until}
 use Rattle.load_cycles.specs.Cycles.{CommonOf, JoinedBy}
 use Rattle.load_cycles.specs.Openings.{UpTo, OpeningOf}
 
@@ -36,24 +33,24 @@ stops_is : (x : Set) (v : Verdict) → valid x ≡ true → AtOpening v → Judg
 stops_is x v ok early j = record { verdict = verdict_is x v ok j; opening = early }
 
 -- H of the cycles that were joined, r, where it is not above 1,000,000
-joined_h : (x : Set) {r : Joined} {h : ℕ} → JoinedBy 1 (CommonOf (streams_of x)) r → r ≡ Is h → JoinedBy 1 (CommonOf (streams_of x)) (Is h)
+joined_h : (x : Set) {r : Option ℕ} {h : ℕ} → JoinedBy 1 (CommonOf (streams_of x)) r → r ≡ Some h → JoinedBy 1 (CommonOf (streams_of x)) (Some h)
 joined_h x j e = subst (JoinedBy 1 (CommonOf (streams_of x))) e j
 
-pub joined_short : (x : Set) {r : Joined} {h : ℕ} → JoinedBy 1 (CommonOf (streams_of x)) r → r ≡ Is h → h ≤ 1000000
+pub joined_short : (x : Set) {r : Option ℕ} {h : ℕ} → JoinedBy 1 (CommonOf (streams_of x)) r → r ≡ Some h → h ≤ 1000000
 joined_short x j e = (joined_h x j e).1
 
-pub verdict_long : (x : Set) {r : Joined} → valid x ≡ true → JoinedBy 1 (CommonOf (streams_of x)) r → r ≡ Above → StopsWith x (Refused LongCycles)
+pub verdict_long : (x : Set) {r : Option ℕ} → valid x ≡ true → JoinedBy 1 (CommonOf (streams_of x)) r → r ≡ None → StopsWith x (Refused LongCycles)
 verdict_long x ok j e =
     stops_is x (Refused LongCycles) ok tt
     (too_long (streams_of x) (valid_set x ok).streams (λ m p c. subst (JoinedBy 1 (CommonOf (streams_of x))) e j m p (one-dvd m) c))
 
-pub verdict_overload : (x : Set) {r : Joined} {h k w : ℕ} → valid x ≡ true → JoinedBy 1 (CommonOf (streams_of x)) r → r ≡ Is h → k ≡ h → w ≡ load (streams_of x) h → k < w
+pub verdict_overload : (x : Set) {r : Option ℕ} {h k w : ℕ} → valid x ≡ true → JoinedBy 1 (CommonOf (streams_of x)) r → r ≡ Some h → k ≡ h → w ≡ load (streams_of x) h → k < w
     → StopsWith x Overload
 verdict_overload x {h = h} ok j e f g heavy =
     stops_is x Overload ok tt
     (overloads (streams_of x) h (least_is_h (streams_of x) h (joined_h x j e).0) (joined_short x j e) (omega arith))
 
-pub goes_on_lem : (x : Set) {r : Joined} {h k w d o e : ℕ} → valid x ≡ true → JoinedBy 1 (CommonOf (streams_of x)) r → r ≡ Is h → k ≡ h → w ≡ load (streams_of x) h
+pub goes_on_lem : (x : Set) {r : Option ℕ} {h k w d o e : ℕ} → valid x ≡ true → JoinedBy 1 (CommonOf (streams_of x)) r → r ≡ Some h → k ≡ h → w ≡ load (streams_of x) h
     → d ≡ greatest_deadline (streams_of x) → o ≡ greatest_offset (streams_of x) → e ≡ h + d + o + 1 → w ≤ k → UpTo x e
 unfolding last_length
 goes_on_lem x {h = h} ok j i f g p q r light =
@@ -74,8 +71,8 @@ same_end : (x : Set) (e f : ℕ) → UpTo x e → UpTo x f → e ≡ f
 same_end x e f a b = omega (arith, a.end, b.end, lengths_unique x a.last b.last a.lengths b.lengths)
 
 -- two openings allowed for one set are the same
-pub opening_unique : (x : Set) (a b : Opening) → OpeningOf x a → OpeningOf x b → a ≡ b
-opening_unique x (Stops v) (Stops w) p q = ap Stops (verdict_unique x v w p.verdict q.verdict)
-opening_unique x (Stops v) (Until f) p q = absurd (not_stopped x v q.last p q.lengths)
-opening_unique x (Until e) (Stops w) p q = absurd (not_stopped x w p.last q p.lengths)
-opening_unique x (Until e) (Until f) p q = ap Until (same_end x e f p q)
+pub opening_unique : (x : Set) (a b : Result ℕ Verdict) → OpeningOf x a → OpeningOf x b → a ≡ b
+opening_unique x (Err v) (Err w) p q = ap Err (verdict_unique x v w p.verdict q.verdict)
+opening_unique x (Err v) (Ok f) p q = absurd (not_stopped x v q.last p q.lengths)
+opening_unique x (Ok e) (Err w) p q = absurd (not_stopped x w p.last q p.lengths)
+opening_unique x (Ok e) (Ok f) p q = ap Ok (same_end x e f p q)

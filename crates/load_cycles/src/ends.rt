@@ -1,54 +1,38 @@
 // The greatest deadline and offset, and the end of the lengths to test.
+#![tactic(auto, using(laws::proofs::Sums::top_none, laws::proofs::Sums::top_take, std::proofs::lemmas::List::take_all), unfolding(rules::specs::Load::greatest_deadline, rules::specs::Load::stream_offset, rules::specs::Load::greatest_offset))]
+
 ghost use Rattle.std.specs.Prelude.{◌≡◌, ◌+◌, ◌≤◌};
-ghost use Rattle.rules.specs.Valid.{ValidStream, ValidSet};
 ghost use Rattle.rules.specs.Load.{greatest_deadline, stream_offset, greatest_offset};
 ghost use Rattle.rules.specs.Streams.{streams_of};
 
-use crate::larger;
 use rules::{Set, Stream};
 
-pub(crate) fn greatest_deadline(x: Set) -> u32
-    requires { ValidSet x }
-    ensures { result ≡ greatest_deadline (streams_of x) }
+pub(crate) fn greatest_deadline(x: &Set) -> u32
+    ensures { result ≡ greatest_deadline (streams_of x.now) }
 {
-    let n = x.count;
-    let mut most: u32 = 0;
-    let mut k: usize = 0;
-    while k < n {
-        let s = x.streams[k];
-        most = larger(most, s.deadline);
-        k = k + 1;
+    let mut most = 0;
+    for s in stream_valid::streams_of(x) {
+        most = most.max(s.deadline);
     }
     most
 }
 
-fn stream_offset(s: Stream) -> u32
-    requires { ValidStream s }
-    ensures { result ≡ stream_offset s }
+fn stream_offset(s: &Stream) -> u32
+    ensures { result ≡ stream_offset s.now }
 {
-    let n = s.count;
-    let mut most: u32 = 0;
-    let mut j: usize = 0;
-    while j < n {
-        let p = s.tuples[j];
-        let t = p.tuple;
-        most = larger(most, stream_valid::offset_of(t));
-        j = j + 1;
+    let mut most = 0;
+    for p in stream_valid::tuples_of(s) {
+        most = most.max(stream_valid::offset_of(p.tuple));
     }
     most
 }
 
-pub(crate) fn greatest_offset(x: Set) -> u32
-    requires { ValidSet x }
-    ensures { result ≡ greatest_offset (streams_of x) }
+pub(crate) fn greatest_offset(x: &Set) -> u32
+    ensures { result ≡ greatest_offset (streams_of x.now) }
 {
-    let n = x.count;
-    let mut most: u32 = 0;
-    let mut k: usize = 0;
-    while k < n {
-        let s = x.streams[k];
-        most = larger(most, stream_offset(s));
-        k = k + 1;
+    let mut most = 0;
+    for s in stream_valid::streams_of(x) {
+        most = most.max(stream_offset(s));
     }
     most
 }

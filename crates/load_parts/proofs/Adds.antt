@@ -13,17 +13,17 @@ use Rattle.laws.specs.Lists.{below, sum}
 use Rattle.laws.proofs.Sums.{all_each, sum_append, sum_take, sum_eq}
 use Rattle.rules.specs.declared.Stream.{Stream}
 use Rattle.rules.specs.declared.Set.{Set}
-use Rattle.rules.specs.declared.CountAnswer.TheVariants.{Number}
+use Rattle.std.specs.Prelude.{Option, Some, None, Ok}
 use Rattle.rules.specs.Streams.{no_stream, streams_of, stream_at, limit, valid}
 use Rattle.rules.specs.Load.{cost_in, due, blocking, demand}
 use Rattle.rules.proofs.Valid.{valid_set}
 use Rattle.load_check.specs.Blocked.{blocking_of}
 use Rattle.load_parts.specs.declared.Part.{Part}
-use Rattle.load_parts.specs.declared.Part.TheVariants.{Nothing, Due, Blocks}
+use Rattle.load_parts.specs.declared.Part.TheVariants.{Due, Blocks}
 use Rattle.load_parts.specs.Parts.{due_part, stream_part, block_part, task_part, first_of, parts_of, amount, PartsAddUp}
 
 -- the amounts of parts in order
-sum_first : (f : ℕ → Part) (n : ℕ) → sum amount (first_of f n) ≡ sum (λ k. amount (f k)) (below n)
+sum_first : (f : ℕ → Option Part) (n : ℕ) → sum amount (first_of f n) ≡ sum (λ k. amount (f k)) (below n)
 unfolding first_of sum
 sum_first f zero = refl
 sum_first f (suc n) = omega (arith, sum_append amount (first_of f n) (f n ∷ []), sum_first f n)
@@ -34,7 +34,7 @@ due_adds : (i k : ℕ) (s : Stream) → amount (due_part i k s) ≡ due i s
 unfolding due_part due
 due_adds i k s = go (leb s.deadline i)
   where
-    go : (b : Bool) → amount (cond b (Due k (cost_in s) (limit s (i - s.deadline))) Nothing) ≡ cond b (cost_in s * limit s (i - s.deadline)) 0
+    go : (b : Bool) → amount (cond b (Some (Due k (cost_in s) (limit s (i - s.deadline)))) None) ≡ cond b (cost_in s * limit s (i - s.deadline)) 0
     go true = refl
     go false = refl
 
@@ -82,10 +82,10 @@ module _ (x : Set) (i : ℕ) (places : length x.streams ≡ 16) (ok : valid x �
 
   -- ---- the tasks
 
-  block_adds : (t b : ℕ) → amount (block_part t (Number b)) ≡ b
+  block_adds : (t b : ℕ) → amount (block_part t (Ok b)) ≡ b
   block_adds t b = go (eqb b 0) refl
     where
-      go : (z : Bool) → eqb b 0 ≡ z → amount (cond z Nothing (Blocks t b)) ≡ b
+      go : (z : Bool) → eqb b 0 ≡ z → amount (cond z None (Some (Blocks t b))) ≡ b
       go true e = sym (eqb-true b 0 e)
       go false e = refl
 

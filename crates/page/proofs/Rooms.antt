@@ -28,11 +28,6 @@ module _ (out : List ℕ) (at n : ℕ) where
       (λ e. and_no (leb at (length out)) (leb n (length out - at)) (lt-leb n (length out - at) (omega (arith, leb-true at (length out) e))))
       (λ e. rw e)
 
-  -- the whole test, once the page is long enough for `at`
-  pub rest : at ≤ length out → leb n (length out - at) ≡ room_for out at n
-  unfolding room_for
-  rest h = rw (le-leb at (length out) h)
-
   pub room_is : room_for out at n ≡ true → at + n ≤ length out
   unfolding room_for
   room_is e =
@@ -92,10 +87,7 @@ module _ (out w : List ℕ) (at : ℕ) (h : length w ≤ 128) (g : at + length w
 pub sized : (l : List ℕ) (n : ℕ) → length (map (λ (v : ℕ). v) l) ≡ n → length l ≡ n
 sized l n h = sym (length-map l (λ (v : ℕ). v)) ∙ h
 
--- a turn of the loop that copies, and its end
+-- a turn of a loop that copies
 pub copy_turn : (d₀ d s : List ℕ) (to i : ℕ) → d ≡ paste d₀ to s i → to + i < length d₀ → i < length s
     → set d (to + i) (get_or s i 0) ≡ paste d₀ to s (i + 1)
 copy_turn d₀ d s to i e h g = rw (e, add-one i) (paste-suc d₀ to s i 0 h g)
-
-pub copy_end : (d₀ d s : List ℕ) (to i n : ℕ) → d ≡ paste d₀ to s i → i ≤ n → n ≤ i → d ≡ paste d₀ to s n
-copy_end d₀ d s to i n e h g = let same : i ≡ n = omega arith in e ∙ ap (λ (k : ℕ). paste d₀ to s k) same

@@ -7,29 +7,16 @@ ghost use Rattle.page.specs.Pages.{appended, end_of, room_for};
 
 use line::Line;
 
-// The first n bytes of src, in dst from `to` on.
-fn copy(src: &[u8], dst: &mut [u8], to: usize, n: usize)
-    requires { (n ≤ length src.now) × (to + n ≤ length dst.old) }
-    ensures { dst.new ≡ paste dst.old to src.now n }
-{
-    let mut i = 0;
-    while i < n {
-        dst[to + i] = src[i];
-        i += 1;
-    }
-}
-
 // Is there room for n bytes behind the first `at` bytes of a page?
+#[tactic(auto, unfolding(crate::specs::Pages::room_for))]
 pub fn has_room(out: &[u8], at: usize, n: usize) -> bool
     ensures { result ≡ room_for out.now at n }
 {
-    if out.len() < at {
-        return false;
-    }
-    n <= out.len() - at
+    at <= out.len() && n <= out.len() - at
 }
 
 // A line behind the first `at` bytes of a page, and where it ends; a page that has no room for it stays as it is.
+// kept: no heap, fixed memory: a page is lent by the program, and how far it is filled stands beside it
 pub fn append(out: &mut [u8], at: usize, l: Line) -> usize
     ensures { (result ≡ end_of out.old at l) × (out.new ≡ appended out.old at l) }
 {
@@ -40,8 +27,7 @@ pub fn append(out: &mut [u8], at: usize, l: Line) -> usize
     if !has_room(out, at, n) {
         return at;
     }
-    let bytes = l.bytes;
-    copy(&bytes, out, at, n);
+    out[at..at + n].copy_from_slice(&l.bytes[..n]);
     at + n
 }
 

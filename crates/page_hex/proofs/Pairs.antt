@@ -1,8 +1,8 @@
 -- Hex digits, two at a time, read into a buffer.
 -- Assumes nothing.
-use Prim.Native.Nat.{ℕ, zero, suc, ◌+◌, ◌-◌, ◌*◌, ◌/◌, ◌≤◌, ◌<◌, min}
+use Prim.Native.Nat.{ℕ, zero, suc, ◌+◌, ◌*◌, ◌/◌, ◌≤◌, ◌<◌, min}
 use native.Mathlib.Omega.{arith}
-use native.Mathlib.Nat.{zero-add, min-eq_left, min-eq_right, min-le_left, min-le_right}
+use native.Mathlib.Nat.{zero-add, min-eq_left, min-le_left, min-le_right}
 use mathlib.Core.Path.{◌≡◌, refl, sym, ap, ap₂, ◌∙◌}
 use mathlib.Core.List.{List, [], ◌∷◌}
 use lib.ListN.{length, get_or, take, set}
@@ -58,27 +58,11 @@ module _ (digits buf₀ buf : List ℕ) (n : ℕ) (r : Reading digits buf₀ buf
       }
 
   -- the end: the buffer is full, or the digits are all read
-  ended : n ≡ fitting digits buf₀ → (n ≡ fitting digits buf₀) × (buf ≡ unhexed_in digits buf₀)
-  unfolding unhexed_in
-  ended e = (e, r.read ∙ ap (λ (k : ℕ). paste buf₀ 0 (unhexed digits) k) e)
-
-  full : length buf ≤ n → n ≡ fitting digits buf₀
-  unfolding fitting
-  full h =
-      let all : n ≡ length buf₀ = omega (arith, r.size, r.low) in
-      all ∙ sym (min-eq_right (omega (arith, half digits, r.few)))
-
-  done : length digits / 2 ≤ n → n ≡ fitting digits buf₀
-  unfolding fitting
-  done h =
-      let all : n ≡ length (unhexed digits) = omega (arith, half digits, r.few) in
-      all ∙ sym (min-eq_left (omega (arith, half digits, r.low)))
-
-  pub reading_full : length buf ≤ n → (n ≡ fitting digits buf₀) × (buf ≡ unhexed_in digits buf₀)
-  reading_full h = ended (full h)
-
-  pub reading_done : length digits / 2 ≤ n → (n ≡ fitting digits buf₀) × (buf ≡ unhexed_in digits buf₀)
-  reading_done h = ended (done h)
+  pub reading_end : (m : ℕ) → n ≡ m → m ≡ min (length digits / 2) (length buf₀) → (m ≡ fitting digits buf₀) × (buf ≡ unhexed_in digits buf₀)
+  unfolding unhexed_in fitting
+  reading_end m same h =
+      let e : m ≡ fitting digits buf₀ = rw (half digits) h in
+      (e, r.read ∙ ap (λ (k : ℕ). paste buf₀ 0 (unhexed digits) k) (same ∙ e))
 
 -- ---- for the caller: what is in the first places
 

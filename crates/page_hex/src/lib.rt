@@ -13,7 +13,7 @@ use line::Line;
 fn byte_of(a: u8, b: u8) -> u8
     ensures { result ≡ hex_of a * 16 + hex_of b }
 {
-    ascii::hex_of(a) % 16 * 16 + ascii::hex_of(b) % 16
+    ascii::hex_of(a) * 16 + ascii::hex_of(b)
 }
 
 // The bytes that hex digits stand for, in the first places of a buffer, and how many they are. A buffer too short for all of them
@@ -21,13 +21,9 @@ fn byte_of(a: u8, b: u8) -> u8
 pub fn unhex(digits: &[u8], bytes: &mut [u8]) -> usize
     ensures { (result ≡ fitting digits.now bytes.old) × (bytes.new ≡ unhexed_in digits.now bytes.old) }
 {
-    let mut n = 0;
-    while n < bytes.len() {
-        if digits.len() / 2 <= n {
-            return n;
-        }
-        bytes[n] = byte_of(digits[2 * n], digits[2 * n + 1]);
-        n += 1;
+    let n = (digits.len() / 2).min(bytes.len());
+    for k in 0..n {
+        bytes[k] = byte_of(digits[2 * k], digits[2 * k + 1]);
     }
     n
 }
@@ -52,10 +48,8 @@ pub fn print(bytes: &[u8], out: &mut [u8], at: usize) -> usize
         return at;
     }
     let mut end = at;
-    let mut i = 0;
-    while i < bytes.len() {
-        end = page::append(out, end, pair(bytes[i]));
-        i += 1;
+    for b in bytes {
+        end = page::append(out, end, pair(*b));
     }
     end
 }

@@ -1,7 +1,7 @@
 -- What is promised of a set that is judged and run, and of one that was read from a sheet.
 -- Assumes nothing.
 use Rattle.std.specs.Prelude.{ℕ, ◌≤◌, false, List, ◌≡◌, length}
-use Rattle.rules.specs.declared.Owner.{Owner}
+use Rattle.rules.specs.declared.Party.{Party}
 use Rattle.rules.specs.declared.Places.{Places}
 use Rattle.rules.specs.Parties.{together}
 use Rattle.rules.specs.States.{most_pending}
@@ -22,11 +22,11 @@ pub record Promised (x : Set) (calls : List Call) (r : JudgedRun) : Type 0 where
   pub in_time : r.verdict ≡ Accept → KeepsOpenLimits x (accepted (run_of x calls)) → r.missed ≡ false
 
 -- demand 3 of a set that came from a sheet, whatever its bytes, whosever its streams are: nothing is asked of the set but its verdict
-abbrev pub sheet_start : List ℕ → List Owner → Places → Start
+abbrev pub sheet_start : List ℕ → List Party → Places → Start
 sheet_start sheet owners places = record { set = (read_of sheet).set; owners = owners; places = places }
 
 unfoldable pub Demand3OfSheet : Type 0
 Demand3OfSheet =
-    (sheet : List ℕ) (owners : List Owner) (places : Places) → length owners ≡ 16 → together places ≤ most_pending → VerdictOf (read_of sheet).set Accept
+    (sheet : List ℕ) (owners : List Party) (places : Places) → length owners ≡ 16 → together places ≤ most_pending → VerdictOf (read_of sheet).set Accept
     → (calls : List Call) → KeepsOpenLimits (read_of sheet).set (accepted (run_for (sheet_start sheet owners places) calls))
     → AllLeave (read_of sheet).set (run_for (sheet_start sheet owners places) calls)

@@ -20,10 +20,9 @@ pub fn judged_run(x: Set, calls: &[u8]) -> JudgedRun
 {
     let verdict = load_check::verdict(x);
     let end = scheduler_run::run(x, calls);
-    let state = end.state;
     JudgedRun {
         verdict,
         missed: end.missed,
-        state,
+        state: end.state,
     }
 }

@@ -8,7 +8,8 @@ use native.Mathlib.Omega.{arith}
 use lib.ListN.{length, get_or, drop, length-take}
 use lib.Seq.{drop-cons}
 use lib.Dec.{T, leb, ltb, leb→le, le→leb, ltb→lt, lt→ltb}
-use Rattle.laws.specs.Lists.{below, any, sum, top, count}
+use Rattle.std.specs.List.{list_any}
+use Rattle.laws.specs.Lists.{below, sum, top}
 use Rattle.laws.proofs.Gates.{le_or_lt, both_pass, cond_yes, cond_no, range_mono, sum_places, top_member, any_member}
 use Rattle.rules.specs.declared.Set.{Set}
 use Rattle.rules.specs.declared.Stage.{Stage}
@@ -85,7 +86,7 @@ module _ (S : Set) where
 
     pub blocking_of_lem : (t i : ℕ) → Urged S t i → cap_of S t i ≤ blocking (streams_of S) i t
     unfolding blocking
-    blocking_of_lem t i u = omega (arith, cond_yes (any (urgent t i) (streams_of S)) (top (blocks t i) (streams_of S)) 0 u)
+    blocking_of_lem t i u = omega (arith, cond_yes (list_any (urgent t i) (streams_of S)) (top (blocks t i) (streams_of S)) 0 u)
 
     abbrev pub base : Model
     base = record {

@@ -9,7 +9,7 @@ use native.Mathlib.Omega.{arith}
 use lib.ListN.{take}
 use Rattle.rules.specs.declared.Set.{Set}
 use Rattle.rules.specs.declared.StartResult.{StartResult}
-use Rattle.rules.specs.declared.StartAnswer.TheVariants.{Started}
+use Rattle.std.specs.Prelude.{Ok}
 use Rattle.rules.specs.declared.UnitResult.{UnitResult}
 use Rattle.rules.specs.Streams.{Placed, valid}
 use Rattle.rules.specs.Parties.{owners_for}
@@ -80,7 +80,7 @@ module _ (S : Set) (placed : Placed S) (ok : valid S ≡ true) where
 -- ---- the start
 
 module _ (z : Start) (starts : Starts z) where
-  start_is : start_for z.set z.owners z.places ≡ record { answer = Started; state = fresh_for z.set (owners_for z.set.count z.owners) z.places }
+  start_is : start_for z.set z.owners z.places ≡ record { answer = Ok tt; state = fresh_for z.set (owners_for z.set.count z.owners) z.places }
   unfolding start_for
   start_is = rw (starts.valid_set, le-leb _ _ starts.few)
 

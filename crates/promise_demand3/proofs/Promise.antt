@@ -9,7 +9,8 @@ use lib.ListN.{length, get_or}
 use lib.Dec.{T, ltb, eqb, le→leb, ltb→lt}
 use lib.IntN.{pos, negsuc}
 use lib.Signed.{◌≤ℤ◌, le_z_yes}
-use Rattle.laws.specs.Lists.{any, sum, count}
+use Rattle.std.specs.List.{list_any}
+use Rattle.laws.specs.Lists.{sum, count}
 use Rattle.laws.proofs.Sums.{by_test}
 use Rattle.laws.proofs.Gates.{ifle, ifeq, Each, mem_get_d}
 use Rattle.rules.specs.declared.Set.{Set}
@@ -161,8 +162,7 @@ step_last : (z : Start) (calls : List Call) (c : Call) → run_for z (calls ++ (
 unfolding run_for run_from
 step_last z calls c = from_append (begin_for z) calls (c ∷ [])
 
-none_overdue : (clock : ℕ) (l : List Message) → Each (λ m. clock < m.deadline) l → any (overdue clock) l ≡ false
-unfolding any
+none_overdue : (clock : ℕ) (l : List Message) → Each (λ m. clock < m.deadline) l → list_any (overdue clock) l ≡ false
 none_overdue clock [] h = refl
 none_overdue clock (m ∷ l) h = rw (lt-ltb clock m.deadline (h m (Memᴰ.head refl))) (none_overdue clock l (λ x i. h x (Memᴰ.tail i)))
 

@@ -1,7 +1,8 @@
 -- The messages of documents 01 and 02 as a kind of message of the deadline argument: each pending message with its number.
 -- Assumes nothing.
 use Rattle.std.specs.Prelude.{ℕ, ◌+◌, ◌-◌, ◌<◌, cond, List, [], ◌∷◌, ◌≡◌, T, ltb, drop}
-use Rattle.laws.specs.Lists.{any, sum, top}
+use Rattle.std.specs.List.{list_any}
+use Rattle.laws.specs.Lists.{sum, top}
 use Rattle.rules.specs.declared.Set.{Set}
 use Rattle.rules.specs.declared.Message.{Message}
 use Rattle.rules.specs.Streams.{streams_of, stream_at, stages_of}
@@ -46,7 +47,7 @@ abbrev pub cap_of : Set → ℕ → ℕ → ℕ
 cap_of S t i = top (blocks t i) (streams_of S)
 
 abbrev pub Urged : Set → ℕ → ℕ → Type 0
-Urged S t i = T (any (urgent t i) (streams_of S))
+Urged S t i = T (list_any (urgent t i) (streams_of S))
 
 -- what a departure tells of the message as it stood before its last unit
 pub record Tells (S : Set) (m : Named) (d : Departure) : Type 0 where

@@ -1,13 +1,15 @@
 -- What follows from demand 3 or stands beside it: no pending message is ever due, no laxity is negative, no message leaves twice. The event-limit condition is that
 -- of demand 3: only the streams without a door have to keep it.
 -- Demand 3 itself is `Demand3` of rules. Assumes nothing.
-use Rattle.std.specs.Prelude.{ℕ, ◌+◌, ◌≤◌, ◌<◌, Bool, false, cond, ◌≡◌, length, ltb, eqb, pos, ◌≤ℤ◌}
-use mathlib.Core.List.{List, [], ◌∷◌, ◌++◌, Memᴰ}
+use Rattle.std.specs.Prelude.{ℕ, ◌+◌, ◌<◌, Bool, false, cond, ◌≡◌, length, ltb, eqb, pos, ◌≤ℤ◌}
+use mathlib.Core.List.{List, ◌++◌, Memᴰ}
 use Rattle.laws.specs.Lists.{count}
 use Rattle.rules.specs.declared.Message.{Message}
 use Rattle.rules.specs.declared.Call.{Call}
-use Rattle.rules.specs.declared.UnitAnswer.{UnitAnswer}
-use Rattle.rules.specs.declared.UnitAnswer.TheVariants.{Ran, Passed, Finished, Cut, Idle, Refused}
+use Rattle.std.specs.Prelude.{Result, Ok, Err}
+use Rattle.rules.specs.declared.Outcome.{Outcome}
+use Rattle.rules.specs.declared.Refusal.{Refusal}
+use Rattle.rules.specs.declared.Outcome.TheVariants.{Ran, Passed, Finished, Cut, Idle}
 use Rattle.rules.specs.declared.Verdict.TheVariants.{Accept}
 use Rattle.rules.specs.States.{pending}
 use Rattle.rules.specs.Steps.{unit_of}
@@ -29,13 +31,13 @@ unfoldable pub NeverMissedBehindDoors : Type 0
 NeverMissedBehindDoors = (z : Start) → Starts z → VerdictOf z.set Accept → EachHasDoor z.set → (calls : List Call) → missed_from (begin_for z) calls ≡ false
 
 -- the laxity of an answer, where it has one, is at least 0
-abbrev pub NotLate : UnitAnswer → Type 0
-NotLate (Finished t k l) = pos 0 ≤ℤ l
-NotLate (Cut t k l) = pos 0 ≤ℤ l
-NotLate (Ran t k) = Unit {0}
-NotLate (Passed t k) = Unit {0}
-NotLate Idle = Unit {0}
-NotLate (Refused why) = Unit {0}
+abbrev pub NotLate : Result Outcome Refusal → Type 0
+NotLate (Ok (Finished t k l)) = pos 0 ≤ℤ l
+NotLate (Ok (Cut t k l)) = pos 0 ≤ℤ l
+NotLate (Ok (Ran t k)) = Unit {0}
+NotLate (Ok (Passed t k)) = Unit {0}
+NotLate (Ok Idle) = Unit {0}
+NotLate (Err why) = Unit {0}
 
 -- every laxity answered is at least 0
 unfoldable pub NoLateAnswer : Type 0

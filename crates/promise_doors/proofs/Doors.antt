@@ -16,7 +16,7 @@ use Rattle.rules.specs.declared.Call.TheVariants.{Posts, Units}
 use Rattle.rules.specs.declared.Door.{Door}
 use Rattle.rules.specs.declared.Door.TheVariants.{Unguarded, Single, Spaced}
 use Rattle.rules.specs.declared.StartResult.{StartResult}
-use Rattle.rules.specs.declared.StartAnswer.TheVariants.{Started}
+use Rattle.std.specs.Prelude.{Ok}
 use Rattle.rules.specs.declared.PostResult.{PostResult}
 use Rattle.rules.specs.declared.UnitResult.{UnitResult}
 use Rattle.rules.specs.Streams.{Placed, FourPlaces, no_stream, stream_at, limit, valid}
@@ -138,7 +138,7 @@ module _ (z : Start) (starts : Starts z) where
   from_guards r [] g = g
   from_guards r (c ∷ cs) g = from_guards (step_of r c) cs (call_guards r c g)
 
-  start_is : start_for z.set z.owners z.places ≡ record { answer = Started; state = fresh_for z.set (owners_for z.set.count z.owners) z.places }
+  start_is : start_for z.set z.owners z.places ≡ record { answer = Ok tt; state = fresh_for z.set (owners_for z.set.count z.owners) z.places }
   unfolding start_for
   start_is = rw (starts.valid_set, le-leb _ _ starts.few)
 

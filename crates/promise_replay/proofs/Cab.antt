@@ -1,5 +1,5 @@
 -- The replay of a recording gives the cab's answers, call by call, then end, and the cab's last state. Assumes nothing.
-use Prim.Native.Nat.{ℕ, suc, ◌+◌, ◌-◌, ◌*◌, ◌≤◌, ◌<◌}
+use Prim.Native.Nat.{ℕ, suc, ◌+◌, ◌*◌, ◌≤◌, ◌<◌}
 use native.Mathlib.Omega.{arith}
 use mathlib.Core.Bool.{true}
 use mathlib.Core.List.{List, [], ◌∷◌, ◌++◌, map, append_assoc}
@@ -8,14 +8,14 @@ use borrow.Author.Tests.{le-leb, lt-ltb, ltb-false, eq-eqb}
 use lib.Dec.{ltb}
 use lib.ListN.{length, drop, length-append}
 use lib.Seq.{drop_at}
-use Rattle.laws.specs.Lists.{all, flat}
+use Rattle.std.specs.List.{list_all}
+use Rattle.laws.specs.Lists.{flat}
 use Rattle.laws.specs.Bits.{to_bits, bits, zeros}
 use Rattle.laws.proofs.Sums.{and_parts, by_test}
 use Rattle.laws.proofs.Fields.{bits_length}
 use Rattle.rules.specs.declared.Call.{Call}
-use Rattle.rules.specs.declared.Mark.TheVariants.{Makes}
-use Rattle.rules.specs.declared.ReadAnswer.{ReadAnswer}
-use Rattle.rules.specs.declared.ReadAnswer.TheVariants.{Read, Refused}
+use Rattle.std.specs.Prelude.{Result, Ok, Err, Some}
+use Rattle.rules.specs.declared.Refusal.{Refusal}
 use Rattle.rules.specs.declared.State.{State}
 use Rattle.rules.specs.declared.ReadResult.{ReadResult}
 use Rattle.rules.specs.declared.ReplayResult.{ReplayResult}
@@ -24,7 +24,8 @@ use Rattle.rules.specs.Steps.{start_for}
 use Rattle.rules.specs.Sheet.{read_of}
 use Rattle.rules.specs.Numbers.{Says, replay_says}
 use Rattle.rules.specs.Runs.{Run, said_at, step_to, step_of, Start, Starts, Boxed, start_at, begin_for, run_from, run_for, steps_from, steps_for, answers_for}
-use Rattle.rules.specs.Recordings.{Place, call_bits, recordable, recording_of, place_in, bit_at, place_after, mark_of, replay_by, replay_step, begun_by, replay_start, first_place, place_of_result, replay_answers, replay_state, Stop, ends, refused, tape_of}
+use Rattle.rules.specs.declared.Place.{Place}
+use Rattle.rules.specs.Recordings.{call_bits, recordable, recording_of, place_in, bit_at, place_after, mark_of, replay_by, replay_step, begun_by, replay_start, first_place, replay_answers, replay_state, Stop, ends, refused, tape_of}
 use Rattle.rules.proofs.Events.{step_state}
 use Rattle.sheet_write.specs.Answers.{ReadPlaced}
 use Rattle.sheet_write.proofs.Back.{read_back}
@@ -63,14 +64,14 @@ module _ (recording : List ℕ) (s : State) (p : Place) (formed : well_formed s 
 
 -- one step more, whatever it comes to
 answers_by : (n : ℕ) (recording : List ℕ) (s : State) (p : Place) (r : ReplayResult) → replay_step s recording p ≡ r
-    → replay_answers (suc n) recording s p ≡ replay_says r.answer ∷ replay_answers n recording r.state (place_of_result r)
+    → replay_answers (suc n) recording s p ≡ replay_says r.answer ∷ replay_answers n recording r.state r.place
 unfolding replay_answers
-answers_by n recording s p r e = ap (λ (r : ReplayResult). replay_says r.answer ∷ replay_answers n recording r.state (place_of_result r)) e
+answers_by n recording s p r e = ap (λ (r : ReplayResult). replay_says r.answer ∷ replay_answers n recording r.state r.place) e
 
 state_by : (n : ℕ) (recording : List ℕ) (s : State) (p : Place) (r : ReplayResult) → replay_step s recording p ≡ r
-    → replay_state (suc n) recording s p ≡ replay_state n recording r.state (place_of_result r)
+    → replay_state (suc n) recording s p ≡ replay_state n recording r.state r.place
 unfolding replay_state
-state_by n recording s p r e = ap (λ (r : ReplayResult). replay_state n recording r.state (place_of_result r)) e
+state_by n recording s p r e = ap (λ (r : ReplayResult). replay_state n recording r.state r.place) e
 
 -- ---- all steps
 
@@ -81,7 +82,7 @@ module _ (recording last : List ℕ) (stop : Stop) (is_stop : mark_of last ≡ m
     pub small : p.bit < 8
     pub at : bit_at p ≡ length front
     pub split : bits recording ≡ front ++ (flat call_bits cs ++ last)
-    pub can : all recordable cs ≡ true
+    pub can : list_all recordable cs ≡ true
 
   pub record Gives (r : Run) (p : Place) (cs : List Call) : Type 0 where
     pub answers : replay_answers (suc (length cs)) recording r.state p ≡ map said_at (steps_from r cs) ++ (stop_says stop ∷ [])
@@ -91,21 +92,21 @@ module _ (recording last : List ℕ) (stop : Stop) (is_stop : mark_of last ≡ m
   unfolding flat
   stop_step r p front f = step_is recording r.state p f.formed.formed f.small front last f.at f.split ∙ ap (replay_by r.state p) is_stop
 
-  pub call_step : (r : Run) (p : Place) (front : List ℕ) (c : Call) (cs : List Call) → From r p front (c ∷ cs) → replay_step r.state recording p ≡ replay_by r.state p (Makes c)
-  unfolding flat all
+  pub call_step : (r : Run) (p : Place) (front : List ℕ) (c : Call) (cs : List Call) → From r p front (c ∷ cs) → replay_step r.state recording p ≡ replay_by r.state p (Ok (Some c))
+  unfolding flat
   call_step r p front c cs f =
       step_is recording r.state p f.formed.formed f.small front (call_bits c ++ (flat call_bits cs ++ last)) f.at (f.split ∙ ap (λ (l : List ℕ). front ++ l) (append_assoc (call_bits c) (flat call_bits cs) last))
-      ∙ ap (replay_by r.state p) (mark_call c (flat call_bits cs ++ last) (and_parts (recordable c) (all recordable cs) f.can).0)
+      ∙ ap (replay_by r.state p) (mark_call c (flat call_bits cs ++ last) (and_parts (recordable c) (list_all recordable cs) f.can).0)
 
   -- the place behind a call
   pub from_next : (r : Run) (p : Place) (front : List ℕ) (c : Call) (cs : List Call) → From r p front (c ∷ cs) → From (step_of r c) (place_after p (length (call_bits c))) (front ++ call_bits c) cs
-  unfolding flat all
+  unfolding flat
   from_next r p front c cs f = record {
     formed = step_keeps r c f.formed;
     small = place_bit p (length (call_bits c));
     at = place_later p (length (call_bits c)) ∙ omega (arith, f.at, length-append front (call_bits c));
     split = f.split ∙ ap (λ (l : List ℕ). front ++ l) (append_assoc (call_bits c) (flat call_bits cs) last) ∙ sym (append_assoc front (call_bits c) (flat call_bits cs ++ last));
-    can = (and_parts (recordable c) (all recordable cs) f.can).1;
+    can = (and_parts (recordable c) (list_all recordable cs) f.can).1;
   }
 
   -- the step that stops says so, and leaves the state
@@ -133,9 +134,9 @@ module _ (recording last : List ℕ) (stop : Stop) (is_stop : mark_of last ≡ m
     where
       more : Gives (step_of r c) (place_after p (length (call_bits c))) cs → Gives r p (c ∷ cs)
       more g = record {
-        answers = answers_by (suc (length cs)) recording r.state p (replay_by r.state p (Makes c)) (call_step r p front c cs f)
+        answers = answers_by (suc (length cs)) recording r.state p (replay_by r.state p (Ok (Some c))) (call_step r p front c cs f)
             ∙ ap (λ (l : List Says). said_at (step_to r.state c) ∷ l) (subst (λ (s : State). replay_answers (suc (length cs)) recording s (place_after p (length (call_bits c))) ≡ map said_at (steps_from (step_of r c) cs) ++ (stop_says stop ∷ [])) (step_state r c) g.answers);
-        state = state_by (suc (length cs)) recording r.state p (replay_by r.state p (Makes c)) (call_step r p front c cs f)
+        state = state_by (suc (length cs)) recording r.state p (replay_by r.state p (Ok (Some c))) (call_step r p front c cs f)
             ∙ subst (λ (s : State). replay_state (suc (length cs)) recording s (place_after p (length (call_bits c))) ≡ (run_from (step_of r c) cs).state) (step_state r c) g.state;
       }
 
@@ -156,10 +157,10 @@ replay_is_the_cabs z starts calls can =
 
 -- ---- any recording, from any sheet
 
-replay_formed : (a : ReadAnswer) (z : Start) → Boxed z → Formed (begun_by a (start_for z.set z.owners z.places)).state
+replay_formed : (a : Result (Unit {0}) Refusal) (z : Start) → Boxed z → Formed (begun_by a (start_for z.set z.owners z.places)).state
 unfolding StartGives
-replay_formed Read z b = start_gives z b
-replay_formed (Refused why) z b = empty_formed
+replay_formed (Ok tt) z b = start_gives z b
+replay_formed (Err why) z b = empty_formed
 
 pub any_recording : AnyRecording
 unfolding AnyRecording AllStepsStand ReadPlaced replay_start

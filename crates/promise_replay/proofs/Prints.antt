@@ -8,15 +8,15 @@ use mathlib.Core.Path.{◌≡◌, refl, ap, ap₂, sym, ◌∙◌}
 use lib.ListN.{length}
 use Rattle.laws.specs.Lists.{flat}
 use Rattle.rules.specs.declared.Call.{Call}
-use Rattle.rules.specs.declared.Mark.TheVariants.{Makes}
+use Rattle.std.specs.Prelude.{Result, Ok, Err, Some}
+use Rattle.rules.specs.declared.Refusal.{Refusal}
 use Rattle.rules.specs.declared.Set.{Set}
 use Rattle.rules.specs.declared.State.{State}
-use Rattle.rules.specs.declared.ReadAnswer.{ReadAnswer}
-use Rattle.rules.specs.declared.ReadAnswer.TheVariants.{Read, Refused}
 use Rattle.rules.specs.declared.ReplayResult.{ReplayResult}
 use Rattle.rules.specs.Sheet.{read_of}
 use Rattle.rules.specs.Runs.{Run, step_to, step_of, begin, steps_from, steps_of}
-use Rattle.rules.specs.Recordings.{Place, Stop, ends, refused, call_bits, place_after, mark_of, replay_by, replay_step, first_place, tape_of}
+use Rattle.rules.specs.declared.Place.{Place}
+use Rattle.rules.specs.Recordings.{Stop, ends, refused, call_bits, place_after, mark_of, replay_by, replay_step, first_place, tape_of}
 use Rattle.rules.proofs.Events.{step_state}
 use Rattle.sheet_write.specs.Answers.{ReadPlaced}
 use Rattle.sheet_write.proofs.Rounds.{read_placed}
@@ -36,7 +36,7 @@ use Rattle.promise_replay.proofs.Cab.{From, stop_step, call_step, from_next}
 
 -- a replay that goes on
 abbrev going_at : State → Place → Replaying
-going_at s p = record { state = s; byte = p.byte; bit = p.bit; live = true }
+going_at s p = record { state = s; place = p; live = true }
 
 -- the step that stops a replay
 stop_dead : (s : State) (p : Place) (t : Stop) → (behind_step (replay_by s p (mark_by t))).live ≡ false
@@ -75,11 +75,11 @@ module _ (recording last : List ℕ) (stop : Stop) (is_stop : mark_of last ≡ m
     module _ (c : Call) (cs : List Call) (f : From recording last stop is_stop r p front (c ∷ cs)) where
       pub call_next : replaying_after recording (going_at r.state p) ≡ going_at (step_of r c).state (place_after p (length (call_bits c)))
       call_next =
-          next_is r.state p (replay_by r.state p (Makes c)) (call_step recording last stop is_stop r p front c cs f)
+          next_is r.state p (replay_by r.state p (Ok (Some c))) (call_step recording last stop is_stop r p front c cs f)
           ∙ ap (λ (s : State). going_at s (place_after p (length (call_bits c)))) (sym (step_state r c))
 
       pub call_line : line_after recording (going_at r.state p) ≡ line_of_step (step_to r.state c)
-      call_line = line_is r.state p (replay_by r.state p (Makes c)) (call_step recording last stop is_stop r p front c cs f)
+      call_line = line_is r.state p (replay_by r.state p (Ok (Some c))) (call_step recording last stop is_stop r p front c cs f)
 
   pub stops : (r : Run) (p : Place) (front : List ℕ) (cs : List Call) → From recording last stop is_stop r p front cs
       → (replaying_on (suc (length cs)) recording (going_at r.state p)).live ≡ false
@@ -119,16 +119,16 @@ module _ (sheet recording : List ℕ) where
   from_start = record { formed = alone_gives x (read_placed sheet); small = omega arith; at = refl; split = l.whole; can = l.can }
 
   -- what follows the first line
-  behind : (a : ReadAnswer) (n : ℕ) → (replaying_on n recording (replaying_from x (was_read a))).live ≡ false
+  behind : (a : Result (Unit {0}) Refusal) (n : ℕ) → (replaying_on n recording (replaying_from x (was_read a))).live ≡ false
       → lines_on n recording (replaying_from x (was_read a)) ≡ behind_verdict a (replay_printed x (tape_of recording))
   unfolding replay_printed steps_of begin
-  behind Read n e = prints recording l.rest (tape_of recording).stop l.stop n (begin x) first_place [] (tape_of recording).calls from_start e
-  behind (Refused why) n e = dead_lines recording (replaying_from x false) refl n
+  behind (Ok tt) n e = prints recording l.rest (tape_of recording).stop l.stop n (begin x) first_place [] (tape_of recording).calls from_start e
+  behind (Err why) n e = dead_lines recording (replaying_from x false) refl n
 
-  ends_behind : (a : ReadAnswer) → (replaying_on (suc (length (tape_of recording).calls)) recording (replaying_from x (was_read a))).live ≡ false
+  ends_behind : (a : Result (Unit {0}) Refusal) → (replaying_on (suc (length (tape_of recording).calls)) recording (replaying_from x (was_read a))).live ≡ false
   unfolding begin
-  ends_behind Read = stops recording l.rest (tape_of recording).stop l.stop (begin x) first_place [] (tape_of recording).calls from_start
-  ends_behind (Refused why) = ap (λ (r : Replaying). r.live) (dead_stays recording (replaying_from x false) refl (suc (length (tape_of recording).calls)))
+  ends_behind (Ok tt) = stops recording l.rest (tape_of recording).stop l.stop (begin x) first_place [] (tape_of recording).calls from_start
+  ends_behind (Err why) = ap (λ (r : Replaying). r.live) (dead_stays recording (replaying_from x false) refl (suc (length (tape_of recording).calls)))
 
 pub replay_prints : ReplayPrints
 unfolding ReplayPrints

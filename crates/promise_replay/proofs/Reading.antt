@@ -1,28 +1,29 @@
 -- Calls as bits, and what the bits say: the calls, and the end. Assumes nothing.
-use Prim.Native.Nat.{ℕ, zero, suc, ◌+◌, ◌-◌, ◌^◌, ◌<◌}
+use Prim.Native.Nat.{ℕ, zero, suc, ◌^◌, ◌<◌}
 use native.Mathlib.Omega.{arith}
 use mathlib.Core.Bool.{true, false}
 use mathlib.Core.List.{List, ◌++◌, append_assoc}
 use mathlib.Core.Path.{◌≡◌, refl, ap, ◌∙◌}
 use borrow.Author.Tests.{ltb-true, le-leb, lt-ltb}
 use lib.ListN.{length, length-replicate}
-use Rattle.laws.specs.Lists.{all, flat}
+use Rattle.std.specs.List.{list_all}
+use Rattle.laws.specs.Lists.{flat}
 use Rattle.laws.specs.Bits.{to_bits, bits, zeros}
 use Rattle.laws.proofs.Fields.{all_append, IsBit, to_bits_bits, field_first, field_rest, field_fits}
 use Rattle.laws.proofs.Packing.{pad_of, pad_few, pack_bits}
 use Rattle.rules.specs.declared.Call.{Call}
 use Rattle.rules.specs.declared.Call.TheVariants.{Posts, Units}
-use Rattle.rules.specs.declared.Mark.TheVariants.{Makes, Ends}
+use Rattle.std.specs.Prelude.{Ok, Some, None}
 use Rattle.rules.specs.Sheet.{is_zero}
 use Rattle.record_call.proofs.Widths.{calls_bits}
 use Rattle.rules.specs.Recordings.{call_kind, stream_field, call_bits, recordable, recording_of, post_mark, kind_mark, mark_of}
 
 -- ---- a call's bits say the call
 
-post_says_lem : (k : ℕ) (rest : List ℕ) → k < 16 → post_mark (to_bits 4 k ++ rest) ≡ Makes (Posts k)
+post_says_lem : (k : ℕ) (rest : List ℕ) → k < 16 → post_mark (to_bits 4 k ++ rest) ≡ Ok (Some (Posts k))
 post_says_lem k rest h = rw (le-leb 4 (length (to_bits 4 k ++ rest)) (field_fits 4 k rest), field_first 4 k rest h)
 
-kind_says : (c : Call) (rest : List ℕ) → recordable c ≡ true → kind_mark (call_kind c) (stream_field c ++ rest) ≡ Makes c
+kind_says : (c : Call) (rest : List ℕ) → recordable c ≡ true → kind_mark (call_kind c) (stream_field c ++ rest) ≡ Ok (Some c)
 kind_says (Posts k) rest e = post_says_lem k rest (ltb-true k 16 e)
 kind_says (Units true) rest e = refl
 kind_says (Units false) rest e = refl
@@ -32,7 +33,7 @@ kind_small (Posts k) = omega arith
 kind_small (Units true) = omega arith
 kind_small (Units false) = omega arith
 
-pub mark_call : (c : Call) (rest : List ℕ) → recordable c ≡ true → mark_of (call_bits c ++ rest) ≡ Makes c
+pub mark_call : (c : Call) (rest : List ℕ) → recordable c ≡ true → mark_of (call_bits c ++ rest) ≡ Ok (Some c)
 unfolding mark_of call_bits
 mark_call c rest e =
     ap mark_of (append_assoc (to_bits 2 (call_kind c)) (stream_field c) rest)
@@ -41,12 +42,11 @@ mark_call c rest e =
 
 -- ---- the end
 
-zeros_zero : (n : ℕ) → all is_zero (zeros n) ≡ true
-unfolding all
+zeros_zero : (n : ℕ) → list_all is_zero (zeros n) ≡ true
 zeros_zero zero = refl
 zeros_zero (suc n) = zeros_zero n
 
-pub mark_end : (pad : ℕ) → pad < 8 → mark_of (to_bits 2 3 ++ zeros pad) ≡ Ends
+pub mark_end : (pad : ℕ) → pad < 8 → mark_of (to_bits 2 3 ++ zeros pad) ≡ (Ok None)
 unfolding mark_of
 mark_end pad h =
     rw (le-leb 2 (length (to_bits 2 3 ++ zeros pad)) (field_fits 2 3 (zeros pad)), field_first 2 3 (zeros pad) (omega arith), field_rest 2 3 (zeros pad))

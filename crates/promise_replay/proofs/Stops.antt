@@ -1,5 +1,5 @@
 -- When a replay says 12, 13 and 14. Assumes nothing.
-use Prim.Native.Nat.{ℕ, zero, suc, ◌+◌, ◌-◌, ◌≤◌, ◌<◌}
+use Prim.Native.Nat.{ℕ, zero, suc, ◌≤◌, ◌<◌}
 use native.Mathlib.Omega.{arith}
 use mathlib.Core.Bool.{true, false, ◌&&◌, true≢false}
 use mathlib.Core.List.{List, ◌++◌}
@@ -8,14 +8,14 @@ use borrow.Author.Tests.{leb-true, leb-false, le-leb, lt-leb}
 use lib.Dec.{ltb, leb}
 use lib.ListN.{length, take, drop, length-drop}
 use lib.Seq.{drop_at}
-use Rattle.laws.specs.Lists.{all, flat}
+use Rattle.std.specs.List.{list_all}
+use Rattle.laws.specs.Lists.{flat}
 use Rattle.laws.specs.Bits.{bits, value}
 use Rattle.laws.proofs.Sums.{and_parts, by_test}
 use Rattle.laws.proofs.Fields.{AreBits, IsBit, all_drop, taken_lt, bits_bits}
 use Rattle.rules.specs.declared.Call.{Call}
 use Rattle.rules.specs.declared.Call.TheVariants.{Posts, Units}
-use Rattle.rules.specs.declared.Mark.{Mark}
-use Rattle.rules.specs.declared.Mark.TheVariants.{Makes, Ends, Refused}
+use Rattle.std.specs.Prelude.{Result, Ok, Err, Option, Some, None}
 use Rattle.rules.specs.declared.Refusal.{Refusal}
 use Rattle.rules.specs.declared.Refusal.TheVariants.{StopsEarly, Trailing}
 use Rattle.rules.specs.declared.State.{State}
@@ -23,7 +23,8 @@ use Rattle.rules.specs.States.{well_formed}
 use Rattle.rules.specs.Steps.{call_of}
 use Rattle.rules.specs.Sheet.{is_zero}
 use Rattle.rules.specs.Numbers.{number, call_says, replay_says, refused}
-use Rattle.rules.specs.Recordings.{Place, bit_at, call_bits, place_in, kind_mark, mark_of, replay_by, replay_step, refused as stopped, Tape, tape_of}
+use Rattle.rules.specs.declared.Place.{Place}
+use Rattle.rules.specs.Recordings.{bit_at, call_bits, place_in, kind_mark, mark_of, replay_by, replay_step, refused as stopped, Tape, tape_of}
 use Rattle.promise_steps.specs.Refusals.{Twelve}
 use Rattle.promise_steps.proofs.Refusals.{NotOfRecordings, call_own, twelve}
 use Rattle.promise_replay.specs.Replays.{AllStepsStand, mark_by}
@@ -33,26 +34,26 @@ use Rattle.promise_replay.proofs.Tapes.{all_steps_stand, tape_of_lem}
 -- ---- marks
 
 -- the number of a mark that is a refusal, 0 of any other
-abbrev mark_no : Mark → ℕ
-mark_no (Makes c) = 0
-mark_no Ends = 0
-mark_no (Refused why) = number why
+abbrev mark_no : Result (Option Call) Refusal → ℕ
+mark_no (Ok (Some c)) = 0
+mark_no (Ok None) = 0
+mark_no (Err why) = number why
 
 -- which refusal bits come to
-data Marked (bs : List ℕ) : Mark → Type 0 where
-  goes : (m : Mark) → mark_no m ≡ 0 → Marked bs m
-  early : Early bs → Marked bs (Refused StopsEarly)
-  trails : Trails bs → Marked bs (Refused Trailing)
+data Marked (bs : List ℕ) : Result (Option Call) Refusal → Type 0 where
+  goes : (m : Result (Option Call) Refusal) → mark_no m ≡ 0 → Marked bs m
+  early : Early bs → Marked bs (Err StopsEarly)
+  trails : Trails bs → Marked bs (Err Trailing)
 
 module _ (bs : List ℕ) (there : 2 ≤ length bs) where
   marked_kind : (k : ℕ) → k < 4 → value (take 2 bs) ≡ k → Marked bs (kind_mark k (drop 2 bs))
   marked_kind zero h e = by_test (leb 4 (length (drop 2 bs)))
-      (λ y. rw y (goes (Makes (Posts (value (take 4 (drop 2 bs))))) refl))
+      (λ y. rw y (goes (Ok (Some (Posts (value (take 4 (drop 2 bs)))))) refl))
       (λ y. rw y (early (no_stream there e (omega (arith, leb-false 4 (length (drop 2 bs)) y, length-drop 2 bs)))))
-  marked_kind (suc zero) h e = goes (Makes (Units false)) refl
-  marked_kind (suc (suc zero)) h e = goes (Makes (Units true)) refl
-  marked_kind (suc (suc (suc zero))) h e = by_test (ltb (length (drop 2 bs)) 8 && all is_zero (drop 2 bs))
-      (λ y. rw y (goes Ends refl))
+  marked_kind (suc zero) h e = goes (Ok (Some (Units false))) refl
+  marked_kind (suc (suc zero)) h e = goes (Ok (Some (Units true))) refl
+  marked_kind (suc (suc (suc zero))) h e = by_test (ltb (length (drop 2 bs)) 8 && list_all is_zero (drop 2 bs))
+      (λ y. rw y (goes (Ok None) refl))
       (λ y. rw y (trails (record { there = there; is_end = e; more = y })))
   marked_kind (suc (suc (suc (suc k)))) h e = absurd (omega arith)
 
@@ -62,27 +63,27 @@ marked bs h = by_test (leb 2 (length bs))
     (λ y. rw y (marked_kind bs (leb-true 2 (length bs) y) (value (take 2 bs)) (taken_lt 2 bs h (leb-true 2 (length bs) y)) refl))
     (λ y. rw y (early (no_kind (leb-false 2 (length bs) y))))
 
-is_early : (bs : List ℕ) (m : Mark) → Marked bs m → mark_no m ≡ 13 → Early bs
+is_early : (bs : List ℕ) (m : Result (Option Call) Refusal) → Marked bs m → mark_no m ≡ 13 → Early bs
 is_early bs m (goes n e) f = absurd (omega arith)
 is_early bs m (early e) f = e
 is_early bs m (trails t) f = absurd (omega arith)
 
-is_trailing : (bs : List ℕ) (m : Mark) → Marked bs m → mark_no m ≡ 14 → Trails bs
+is_trailing : (bs : List ℕ) (m : Result (Option Call) Refusal) → Marked bs m → mark_no m ≡ 14 → Trails bs
 is_trailing bs m (goes n e) f = absurd (omega arith)
 is_trailing bs m (early e) f = absurd (omega arith)
 is_trailing bs m (trails t) f = t
 
-never_twelve : (bs : List ℕ) (m : Mark) → Marked bs m → mark_no m ≡ 12 → ⊥
+never_twelve : (bs : List ℕ) (m : Result (Option Call) Refusal) → Marked bs m → mark_no m ≡ 12 → ⊥
 never_twelve bs m (goes n e) f = omega arith
 never_twelve bs m (early e) f = omega arith
 never_twelve bs m (trails t) f = omega arith
 
-early_mark : (bs : List ℕ) → Early bs → mark_of bs ≡ Refused StopsEarly
+early_mark : (bs : List ℕ) → Early bs → mark_of bs ≡ Err StopsEarly
 unfolding mark_of
 early_mark bs (no_kind h) = rw (lt-leb 2 (length bs) h)
 early_mark bs (no_stream h e f) = rw (le-leb 2 (length bs) h, e, lt-leb 4 (length (drop 2 bs)) (omega (arith, length-drop 2 bs)))
 
-trails_mark : (bs : List ℕ) → Trails bs → mark_of bs ≡ Refused Trailing
+trails_mark : (bs : List ℕ) → Trails bs → mark_of bs ≡ Err Trailing
 unfolding mark_of
 trails_mark bs t = rw (le-leb 2 (length bs) t.there, t.is_end, t.more)
 
@@ -105,20 +106,20 @@ module _ (s : State) (recording : List ℕ) (p : Place) where
   ill_says e = rw e
 
   -- 13 and 14, which no call gives, are the mark's, and so is 12 in a state that is well formed
-  mark_says : (n : ℕ) → (NotOfRecordings n → ⊥) → (m : Mark) → replay_says (replay_by s p m).answer ≡ refused n → mark_no m ≡ n
-  mark_says n h (Makes c) e = absurd (h (call_own s c n e))
-  mark_says n h Ends e = absurd (let z : ◌≡◌ {A = ℕ} 0 1 = cc in omega arith)
-  mark_says n h (Refused why) e = cc
+  mark_says : (n : ℕ) → (NotOfRecordings n → ⊥) → (m : Result (Option Call) Refusal) → replay_says (replay_by s p m).answer ≡ refused n → mark_no m ≡ n
+  mark_says n h (Ok (Some c)) e = absurd (h (call_own s c n e))
+  mark_says n h (Ok None) e = absurd (let z : ◌≡◌ {A = ℕ} 0 1 = cc in omega arith)
+  mark_says n h (Err why) e = cc
 
   call_formed : (c : Call) → well_formed s ≡ true → call_says (call_of s c).answer ≡ refused 12 → ⊥
   unfolding Twelve call_of
   call_formed (Posts k) w e = true≢false (sym w ∙ ((twelve s).post k).0 e)
   call_formed (Units done) w e = true≢false (sym w ∙ ((twelve s).unit done).0 e)
 
-  twelve_mark : well_formed s ≡ true → (m : Mark) → replay_says (replay_by s p m).answer ≡ refused 12 → mark_no m ≡ 12
-  twelve_mark w (Makes c) e = absurd (call_formed c w e)
-  twelve_mark w Ends e = absurd (let z : ◌≡◌ {A = ℕ} 0 1 = cc in omega arith)
-  twelve_mark w (Refused why) e = cc
+  twelve_mark : well_formed s ≡ true → (m : Result (Option Call) Refusal) → replay_says (replay_by s p m).answer ≡ refused 12 → mark_no m ≡ 12
+  twelve_mark w (Ok (Some c)) e = absurd (call_formed c w e)
+  twelve_mark w (Ok None) e = absurd (let z : ◌≡◌ {A = ℕ} 0 1 = cc in omega arith)
+  twelve_mark w (Err why) e = cc
 
   is_ill : step_says s recording p ≡ refused 12 → (well_formed s && place_in recording p) ≡ false
   is_ill e = by_test (well_formed s && place_in recording p)
@@ -132,8 +133,8 @@ module _ (s : State) (recording : List ℕ) (p : Place) where
       record { formed = u.0; inside = u.1; such = back (mark_says n f (mark_of here) (sym (step_by_lem y) ∙ e)) })
       (λ y. absurd (let q : refused 12 ≡ refused n = sym (ill_says y) ∙ e in let same : 12 ≡ n = cc in omega arith))
 
-  says_mark : (why : Refusal) (Such : List ℕ → Type 0) → (Such here → mark_of here ≡ Refused why) → At s recording p Such → step_says s recording p ≡ refused (number why)
-  says_mark why Such mark a = step_by_lem (rw (a.formed, a.inside)) ∙ ap (λ (m : Mark). replay_says (replay_by s p m).answer) (mark a.such)
+  says_mark : (why : Refusal) (Such : List ℕ → Type 0) → (Such here → mark_of here ≡ Err why) → At s recording p Such → step_says s recording p ≡ refused (number why)
+  says_mark why Such mark a = step_by_lem (rw (a.formed, a.inside)) ∙ ap (λ (m : Result (Option Call) Refusal). replay_says (replay_by s p m).answer) (mark a.such)
 
 pub step_twelve : StepTwelve
 unfolding StepTwelve
@@ -164,7 +165,7 @@ tail_bits xs ys h = rw (← drop_front xs ys) (all_drop IsBit (length xs) (xs ++
     drop_front xs ys = drop_at xs ys (length xs) refl
 
 module _ (recording : List ℕ) (why : Refusal) (Such : List ℕ → Type 0) where
-  then_of : ((bs : List ℕ) → AreBits bs → mark_of bs ≡ Refused why → Such bs) → (tape_of recording).stop ≡ stopped why → Then recording Such
+  then_of : ((bs : List ℕ) → AreBits bs → mark_of bs ≡ Err why → Such bs) → (tape_of recording).stop ≡ stopped why → Then recording Such
   unfolding AllStepsStand
   then_of back e =
       let l = all_steps_stand recording in
@@ -176,7 +177,7 @@ module _ (recording : List ℕ) (why : Refusal) (Such : List ℕ → Type 0) whe
         such = back l.rest (tail_bits (flat call_bits (tape_of recording).calls) l.rest (rw (← l.whole) (bits_bits recording))) (l.stop ∙ ap mark_by e);
       }
 
-  stop_of : ((bs : List ℕ) → Such bs → mark_of bs ≡ Refused why) → Then recording Such → (tape_of recording).stop ≡ stopped why
+  stop_of : ((bs : List ℕ) → Such bs → mark_of bs ≡ Err why) → Then recording Such → (tape_of recording).stop ≡ stopped why
   stop_of mark t = ap (λ (x : Tape). x.stop) (tape_of_lem recording t.calls t.rest (stopped why) t.can t.whole (mark t.rest t.such))
 
 pub stops_at_thirteen : StopsAtThirteen

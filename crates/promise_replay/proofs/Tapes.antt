@@ -1,6 +1,6 @@
 -- A recording and its calls determine each other: its bits say the calls that were recorded, and a recording that ends is that of the calls that it says.
 -- Assumes nothing.
-use Prim.Native.Nat.{ℕ, zero, suc, ◌+◌, ◌≤◌, ◌<◌}
+use Prim.Native.Nat.{ℕ, zero, suc, ◌≤◌, ◌<◌}
 use native.Mathlib.Omega.{arith}
 use mathlib.Core.Bool.{Bool, true, false, cond, ◌&&◌}
 use mathlib.Core.List.{List, [], ◌∷◌, ◌++◌, append_assoc, append-nil}
@@ -9,14 +9,14 @@ use borrow.Author.Tests.{leb-true, ltb-true, lt-ltb, eqb-true}
 use lib.Dec.{ltb, leb}
 use lib.ListN.{length, take, drop, length-append}
 use lib.Seq.{drop_at}
-use Rattle.laws.specs.Lists.{all, flat}
+use Rattle.std.specs.List.{list_all}
+use Rattle.laws.specs.Lists.{flat}
 use Rattle.laws.specs.Bits.{to_bits, value, bits, zeros}
 use Rattle.laws.proofs.Sums.{and_parts, by_test}
 use Rattle.laws.proofs.Fields.{IsBit, AreBits, all_append, all_drop, to_bits_bits, to_bits_length, taken_split, taken_lt, bits_bits}
 use Rattle.laws.proofs.Packing.{pack_unique}
 use Rattle.rules.specs.declared.Call.{Call}
-use Rattle.rules.specs.declared.Mark.{Mark}
-use Rattle.rules.specs.declared.Mark.TheVariants.{Makes, Ends, Refused}
+use Rattle.std.specs.Prelude.{Result, Ok, Err, Option, Some, None}
 use Rattle.rules.specs.declared.Call.TheVariants.{Posts, Units}
 use Rattle.rules.specs.declared.Refusal.{Refusal}
 use Rattle.rules.specs.declared.Refusal.TheVariants.{StopsEarly, Trailing}
@@ -37,21 +37,21 @@ calls_few [] = omega arith
 calls_few (c ∷ cs) = omega (arith, calls_few cs, call_some c, length-append (call_bits c) (flat call_bits cs))
 
 -- behind calls, bits that stop
-pub tape_from_lem : (last : List ℕ) (stop : Stop) → mark_of last ≡ mark_by stop → (n : ℕ) (cs : List Call) → all recordable cs ≡ true → length cs < n
+pub tape_from_lem : (last : List ℕ) (stop : Stop) → mark_of last ≡ mark_by stop → (n : ℕ) (cs : List Call) → list_all recordable cs ≡ true → length cs < n
     → tape_from n (flat call_bits cs ++ last) ≡ record { calls = cs; stop = stop }
-unfolding tape_from flat all
+unfolding tape_from flat
 tape_from_lem last stop is zero cs can h = absurd (omega arith)
-tape_from_lem last stop is (suc n) [] can h = ap (λ (m : Mark). tape_by m (λ c. tape_from n (drop (length (call_bits c)) last))) is ∙ stops stop
+tape_from_lem last stop is (suc n) [] can h = ap (λ (m : Result (Option Call) Refusal). tape_by m (λ c. tape_from n (drop (length (call_bits c)) last))) is ∙ stops stop
   where
     stops : (t : Stop) → tape_by (mark_by t) (λ c. tape_from n (drop (length (call_bits c)) last)) ≡ record { calls = []; stop = t }
     stops ends = refl
     stops (refused why) = refl
 tape_from_lem last stop is (suc n) (c ∷ cs) can h =
     ap (λ (bs : List ℕ). tape_by (mark_of bs) (λ d. tape_from n (drop (length (call_bits d)) bs))) (append_assoc (call_bits c) (flat call_bits cs) last)
-    ∙ rw (mark_call c (flat call_bits cs ++ last) (and_parts (recordable c) (all recordable cs) can).0, drop_at (call_bits c) (flat call_bits cs ++ last) (length (call_bits c)) refl)
-    (ap (behind c) (tape_from_lem last stop is n cs (and_parts (recordable c) (all recordable cs) can).1 (omega arith)))
+    ∙ rw (mark_call c (flat call_bits cs ++ last) (and_parts (recordable c) (list_all recordable cs) can).0, drop_at (call_bits c) (flat call_bits cs ++ last) (length (call_bits c)) refl)
+    (ap (behind c) (tape_from_lem last stop is n cs (and_parts (recordable c) (list_all recordable cs) can).1 (omega arith)))
 
-pub tape_of_lem : (recording : List ℕ) (cs : List Call) (last : List ℕ) (stop : Stop) → all recordable cs ≡ true → bits recording ≡ flat call_bits cs ++ last → mark_of last ≡ mark_by stop
+pub tape_of_lem : (recording : List ℕ) (cs : List Call) (last : List ℕ) (stop : Stop) → list_all recordable cs ≡ true → bits recording ≡ flat call_bits cs ++ last → mark_of last ≡ mark_by stop
     → tape_of recording ≡ record { calls = cs; stop = stop }
 unfolding tape_of
 tape_of_lem recording cs last stop can e is =
@@ -65,16 +65,15 @@ tape_back calls can = tape_of_lem (recording_of calls) calls (to_bits 2 3 ++ zer
 -- ---- back: what bits say
 
 -- a call in front, the end, or a refusal
-data Reads (bs : List ℕ) : Mark → Type 0 where
-  a_call : (c : Call) (rest : List ℕ) → recordable c ≡ true → bs ≡ call_bits c ++ rest → Reads bs (Makes c)
-  the_end : (k : ℕ) → k < 8 → bs ≡ to_bits 2 3 ++ zeros k → Reads bs Ends
-  a_refusal : (why : Refusal) → Reads bs (Refused why)
+data Reads (bs : List ℕ) : Result (Option Call) Refusal → Type 0 where
+  a_call : (c : Call) (rest : List ℕ) → recordable c ≡ true → bs ≡ call_bits c ++ rest → Reads bs (Ok (Some c))
+  the_end : (k : ℕ) → k < 8 → bs ≡ to_bits 2 3 ++ zeros k → Reads bs (Ok None)
+  a_refusal : (why : Refusal) → Reads bs (Err why)
 
-all_zeros : (bs : List ℕ) → all is_zero bs ≡ true → bs ≡ zeros (length bs)
-unfolding all
+all_zeros : (bs : List ℕ) → list_all is_zero bs ≡ true → bs ≡ zeros (length bs)
 all_zeros [] e = refl
 all_zeros (b ∷ bs) e =
-    let u = and_parts (is_zero b) (all is_zero bs) e in
+    let u = and_parts (is_zero b) (list_all is_zero bs) e in
     ap₂ (λ (x : ℕ) (l : List ℕ). x ∷ l) (eqb-true b 0 u.0) (all_zeros bs u.1)
 
 module _ (bs rest : List ℕ) (bits_of : AreBits rest) where
@@ -85,13 +84,13 @@ module _ (bs rest : List ℕ) (bits_of : AreBits rest) where
       (e ∙ ap (λ (l : List ℕ). to_bits 2 0 ++ l) (sym (taken_split 4 rest bits_of (leb-true 4 (length rest) y))) ∙ sym (append_assoc (to_bits 2 0) (to_bits 4 (value (take 4 rest))) (drop 4 rest)))))
       (λ y. rw y (a_refusal StopsEarly))
 
-  reads_unit : (done : Bool) → bs ≡ to_bits 2 (cond done 2 1) ++ rest → Reads bs (Makes (Units done))
+  reads_unit : (done : Bool) → bs ≡ to_bits 2 (cond done 2 1) ++ rest → Reads bs (Ok (Some (Units done)))
   unfolding call_bits
   reads_unit done e = a_call (Units done) rest refl (e ∙ ap (λ (l : List ℕ). l ++ rest) (sym (append-nil (to_bits 2 (cond done 2 1)))))
 
   reads_end : bs ≡ to_bits 2 3 ++ rest → Reads bs (end_mark rest)
-  reads_end e = by_test (ltb (length rest) 8 && all is_zero rest)
-      (λ y. let u = and_parts (ltb (length rest) 8) (all is_zero rest) y in
+  reads_end e = by_test (ltb (length rest) 8 && list_all is_zero rest)
+      (λ y. let u = and_parts (ltb (length rest) 8) (list_all is_zero rest) y in
       rw y (the_end (length rest) (ltb-true (length rest) 8 u.0) (e ∙ ap (λ (l : List ℕ). to_bits 2 3 ++ l) (all_zeros rest u.1))))
       (λ y. rw y (a_refusal Trailing))
 
@@ -114,7 +113,7 @@ record Left (n : ℕ) (bs : List ℕ) : Type 0 where
   rest : List ℕ
   whole : bs ≡ flat call_bits (tape_from n bs).calls ++ rest
   are_bits : AreBits rest
-  can : all recordable (tape_from n bs).calls ≡ true
+  can : list_all recordable (tape_from n bs).calls ≡ true
   stop : mark_of rest ≡ mark_by (tape_from n bs).stop
 
 tail_bits : (xs ys : List ℕ) → AreBits (xs ++ ys) → AreBits ys
@@ -122,14 +121,14 @@ tail_bits [] ys h = h
 tail_bits (x ∷ xs) ys h = tail_bits xs ys h.1
 
 left : (n : ℕ) (bs : List ℕ) → AreBits bs → length bs < n → Left n bs
-unfolding tape_from flat all
+unfolding tape_from flat
 left zero bs h f = absurd (omega arith)
 left (suc n) bs h f = go (mark_of bs) refl (reads bs h) (λ c rest e. left n rest (tail_bits (call_bits c) rest (subst AreBits e h)) (omega (arith, ap length e, length-append (call_bits c) rest, call_some c)))
   where
-    go : (m : Mark) → mark_of bs ≡ m → Reads bs m → ((c : Call) (rest : List ℕ) → bs ≡ call_bits c ++ rest → Left n rest) → Left (suc n) bs
+    go : (m : Result (Option Call) Refusal) → mark_of bs ≡ m → Reads bs m → ((c : Call) (rest : List ℕ) → bs ≡ call_bits c ++ rest → Left n rest) → Left (suc n) bs
     go m e (a_call c rest ok q) more = call_first c rest e ok q (more c rest q)
       where
-        call_first : (c : Call) (rest : List ℕ) → mark_of bs ≡ Makes c → recordable c ≡ true → bs ≡ call_bits c ++ rest → Left n rest → Left (suc n) bs
+        call_first : (c : Call) (rest : List ℕ) → mark_of bs ≡ Ok (Some c) → recordable c ≡ true → bs ≡ call_bits c ++ rest → Left n rest → Left (suc n) bs
         call_first c rest e ok q l =
             let d : drop (length (call_bits c)) bs ≡ rest = ap (drop (length (call_bits c))) q ∙ drop_at (call_bits c) rest (length (call_bits c)) refl in
             record {
@@ -147,7 +146,7 @@ unfolding AllStepsStand tape_of
 all_steps_stand s = let l = left (suc (length (bits s))) (bits s) (bits_bits s) (omega arith) in record { rest = l.rest; whole = l.whole; can = l.can; stop = l.stop }
 
 -- a recording that ends
-ends_as : (bs : List ℕ) (m : Mark) → m ≡ Ends → Reads bs m → (k : ℕ) × (k < 8) × (bs ≡ to_bits 2 3 ++ zeros k)
+ends_as : (bs : List ℕ) (m : Result (Option Call) Refusal) → m ≡ (Ok None) → Reads bs m → (k : ℕ) × (k < 8) × (bs ≡ to_bits 2 3 ++ zeros k)
 ends_as bs m e (a_call c rest ok q) = absurd (let z : ◌≡◌ {A = ℕ} 0 1 = cc in omega arith)
 ends_as bs m e (the_end k small q) = (k, small, q)
 ends_as bs m e (a_refusal why) = absurd (let z : ◌≡◌ {A = ℕ} 0 1 = cc in omega arith)

@@ -1,7 +1,8 @@
 -- Document 02, request 1: when a replay says 12, 13 and 14.
 -- Assumes nothing.
 use Rattle.std.specs.Prelude.{ℕ, ◌<◌, ◌≤◌, true, false, ◌&&◌, List, ◌++◌, ◌↔◌, ◌≡◌, ltb, length, take, drop}
-use Rattle.laws.specs.Lists.{all, flat}
+use Rattle.std.specs.List.{list_all}
+use Rattle.laws.specs.Lists.{flat}
 use Rattle.laws.specs.Bits.{bits, value}
 use Rattle.rules.specs.declared.Call.{Call}
 use Rattle.rules.specs.declared.State.{State}
@@ -9,7 +10,8 @@ use Rattle.rules.specs.declared.Refusal.TheVariants.{StopsEarly, Trailing}
 use Rattle.rules.specs.States.{well_formed}
 use Rattle.rules.specs.Sheet.{is_zero}
 use Rattle.rules.specs.Numbers.{Says, replay_says, refused}
-use Rattle.rules.specs.Recordings.{Place, bit_at, call_bits, place_in, recordable, replay_step, tape_of, refused as stopped}
+use Rattle.rules.specs.declared.Place.{Place}
+use Rattle.rules.specs.Recordings.{bit_at, call_bits, place_in, recordable, replay_step, tape_of, refused as stopped}
 
 -- "13 for a recording that stops before end": fewer than 2 bits are left, or a post has fewer than 4 behind its kind
 pub data Early (bs : List ℕ) : Type 0 where
@@ -20,7 +22,7 @@ pub data Early (bs : List ℕ) : Type 0 where
 pub record Trails (bs : List ℕ) : Type 0 where
   pub there : 2 ≤ length bs
   pub is_end : value (take 2 bs) ≡ 3
-  pub more : (ltb (length (drop 2 bs)) 8 && all is_zero (drop 2 bs)) ≡ false
+  pub more : (ltb (length (drop 2 bs)) 8 && list_all is_zero (drop 2 bs)) ≡ false
 
 -- ---- of a step
 
@@ -48,7 +50,7 @@ StepFourteen = (s : State) (recording : List ℕ) (p : Place) → (step_says s r
 -- calls, and behind them such bits
 pub record Then (recording : List ℕ) (Such : List ℕ → Type 0) : Type 0 where
   pub calls : List Call
-  pub can : all recordable calls ≡ true
+  pub can : list_all recordable calls ≡ true
   pub rest : List ℕ
   pub whole : bits recording ≡ flat call_bits calls ++ rest
   pub such : Such rest

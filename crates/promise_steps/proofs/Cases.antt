@@ -6,7 +6,7 @@ use mathlib.Core.Logic.{◌≢◌}
 use mathlib.Core.Path.{◌≡◌, refl, sym, ap, ◌∙◌}
 use native.Mathlib.Numerals.{add-one}
 use native.Mathlib.Omega.{arith}
-use lib.ListN.{length, get_or, take, drop, set}
+use lib.ListN.{length, get_or, take, drop}
 use lib.Seq.{take-suc-set, take-set-lt, set_split, get_or-take, length-take-le, take-take}
 use lib.Dec.{T, ltb, eqb, ltb→lt, eqb→eq, T_not}
 use lib.IntN.{ℤ}
@@ -17,9 +17,9 @@ use Rattle.rules.specs.declared.State.{State}
 use Rattle.rules.specs.declared.Refusal.{Refusal}
 use Rattle.rules.specs.declared.Refusal.TheVariants.{NoStream, Full, LastClock, NothingPending, IllFormed, Early}
 use Rattle.rules.specs.declared.PostResult.{PostResult}
-use Rattle.rules.specs.declared.PostAnswer.TheVariants.{Posted}
+use Rattle.std.specs.Prelude.{Ok, Err}
 use Rattle.rules.specs.declared.UnitResult.{UnitResult}
-use Rattle.rules.specs.declared.UnitAnswer.TheVariants.{Ran, Passed, Finished, Cut, Idle, Refused as UnitRefused}
+use Rattle.rules.specs.declared.Outcome.TheVariants.{Ran, Passed, Finished, Cut, Idle}
 use Rattle.rules.specs.Parties.{places_of}
 use Rattle.rules.specs.States.{no_message, pending, party_of, held_by, stages_in, task_of, cost_of, last_clock, well_formed}
 use Rattle.rules.specs.Doors.{shut}
@@ -29,7 +29,7 @@ use Rattle.rules.specs.Steps.{door_at, wait_at, has_place, new_message, added, p
 
 pub data PostCase (s : State) (k : ℕ) : PostResult → Type 0 where
   refuses : (why : Refusal) → PostCase s k (post_refused s why)
-  accepts : k < s.set.count → held_by s (party_of s k) < places_of s.places (party_of s k) → shut (door_at s k) (wait_at s k) ≡ false → PostCase s k (record { answer = Posted k (new_message s k).deadline; state = added s (new_message s k) })
+  accepts : k < s.set.count → held_by s (party_of s k) < places_of s.places (party_of s k) → shut (door_at s k) (wait_at s k) ≡ false → PostCase s k (record { answer = Ok (record { stream = k; deadline = (new_message s k).deadline }); state = added s (new_message s k) })
 
 pub post_case : (s : State) (k : ℕ) → PostCase s k (post_of s k)
 unfolding post_of
@@ -41,7 +41,7 @@ post_case s k = go (well_formed s) (ltb k s.set.count) (shut (door_at s k) (wait
         (cond d
         (post_refused s Early)
         (cond c
-        (record { answer = Posted k (new_message s k).deadline; state = added s (new_message s k) })
+        (record { answer = Ok (record { stream = k; deadline = (new_message s k).deadline }); state = added s (new_message s k) })
         (post_refused s Full)))
         (post_refused s NoStream))
         (post_refused s IllFormed)
@@ -68,12 +68,12 @@ abbrev pub chosen_laxity : State → ℤ
 chosen_laxity s = laxity_of (chosen_of s).deadline (s.clock + 1)
 
 pub data UnitCase (s : State) (done : Bool) : UnitResult → Type 0 where
-  stops : (why : Refusal) → UnitCase s done (answered s (UnitRefused why))
-  idles : s.count ≡ 0 → s.clock < last_clock → UnitCase s done (answered (ticked s) Idle)
-  finishes : Serving s → (chosen_of s).stage + 1 ≡ stages_in s.set (chosen_of s) → UnitCase s done (answered (departed s (place_of s)) (Finished (chosen_task s) (chosen_of s).stream (chosen_laxity s)))
-  passes : Serving s → (chosen_of s).stage + 1 ≢ stages_in s.set (chosen_of s) → UnitCase s done (answered (stayed s (place_of s) (passed_on (chosen_of s))) (Passed (chosen_task s) (chosen_of s).stream))
-  cuts : Serving s → (chosen_of s).used + 1 ≡ cost_of s.set (chosen_of s) → UnitCase s done (answered (departed s (place_of s)) (Cut (chosen_task s) (chosen_of s).stream (chosen_laxity s)))
-  runs : Serving s → (chosen_of s).used + 1 ≢ cost_of s.set (chosen_of s) → UnitCase s done (answered (stayed s (place_of s) (gained (chosen_of s))) (Ran (chosen_task s) (chosen_of s).stream))
+  stops : (why : Refusal) → UnitCase s done (answered s (Err why))
+  idles : s.count ≡ 0 → s.clock < last_clock → UnitCase s done (answered (ticked s) (Ok Idle))
+  finishes : Serving s → (chosen_of s).stage + 1 ≡ stages_in s.set (chosen_of s) → UnitCase s done (answered (departed s (place_of s)) (Ok (Finished (chosen_task s) (chosen_of s).stream (chosen_laxity s))))
+  passes : Serving s → (chosen_of s).stage + 1 ≢ stages_in s.set (chosen_of s) → UnitCase s done (answered (stayed s (place_of s) (passed_on (chosen_of s))) (Ok (Passed (chosen_task s) (chosen_of s).stream)))
+  cuts : Serving s → (chosen_of s).used + 1 ≡ cost_of s.set (chosen_of s) → UnitCase s done (answered (departed s (place_of s)) (Ok (Cut (chosen_task s) (chosen_of s).stream (chosen_laxity s))))
+  runs : Serving s → (chosen_of s).used + 1 ≢ cost_of s.set (chosen_of s) → UnitCase s done (answered (stayed s (place_of s) (gained (chosen_of s))) (Ok (Ran (chosen_task s) (chosen_of s).stream)))
 
 served_case : (s : State) (done : Bool) → Serving s → UnitCase s done (served_of s (place_of s) done)
 unfolding served_of
@@ -90,11 +90,11 @@ served_case s done v = go done (eqb ((chosen_of s).stage + 1) (stages_in s.set (
         → (T b → (chosen_of s).used + 1 ≡ cost_of s.set (chosen_of s)) → (T (not b) → (chosen_of s).used + 1 ≢ cost_of s.set (chosen_of s)) → UnitCase s done (
         cond a
         (cond l
-        (answered (departed s (place_of s)) (Finished (chosen_task s) (chosen_of s).stream (chosen_laxity s)))
-        (answered (stayed s (place_of s) (passed_on (chosen_of s))) (Passed (chosen_task s) (chosen_of s).stream)))
+        (answered (departed s (place_of s)) (Ok (Finished (chosen_task s) (chosen_of s).stream (chosen_laxity s))))
+        (answered (stayed s (place_of s) (passed_on (chosen_of s))) (Ok (Passed (chosen_task s) (chosen_of s).stream))))
         (cond b
-        (answered (departed s (place_of s)) (Cut (chosen_task s) (chosen_of s).stream (chosen_laxity s)))
-        (answered (stayed s (place_of s) (gained (chosen_of s))) (Ran (chosen_task s) (chosen_of s).stream)))
+        (answered (departed s (place_of s)) (Ok (Cut (chosen_task s) (chosen_of s).stream (chosen_laxity s))))
+        (answered (stayed s (place_of s) (gained (chosen_of s))) (Ok (Ran (chosen_task s) (chosen_of s).stream))))
         )
     go true true b p q f g = finishes v (p tt)
     go true false b p q f g = passes v (q tt)
@@ -114,8 +114,8 @@ unit_case s done = go (well_formed s) (ltb s.clock last_clock) (eqb s.count 0) (
         cond a
         (cond b
         (cond c (empty_unit s done) (served_of s (place_of s) done))
-        (answered s (UnitRefused LastClock)))
-        (answered s (UnitRefused IllFormed))
+        (answered s (Err LastClock)))
+        (answered s (Err IllFormed))
         )
     go false b c f g h = stops IllFormed
     go true false c f g h = stops LastClock

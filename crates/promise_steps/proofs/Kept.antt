@@ -7,9 +7,10 @@ use mathlib.Core.Logic.{◌≢◌, ⊎_elim}
 use mathlib.Core.Path.{◌≡◌, refl, sym, ap, subst, ◌∙◌}
 use native.Mathlib.Numerals.{add-one}
 use native.Mathlib.Omega.{arith}
-use lib.ListN.{length, take, drop, set, length-set}
+use lib.ListN.{length, take, drop, length-set}
 use lib.Seq.{split_at, drop-set-lt}
-use Rattle.laws.specs.Lists.{below, all, remove}
+use Rattle.std.specs.List.{list_all}
+use Rattle.laws.specs.Lists.{below, remove}
 use Rattle.laws.proofs.Parts.{length_remove}
 use Rattle.laws.proofs.Gates.{eq_or_ne, Each, PlacedAt, mem_at, all_drop, all_last, drop_remove}
 use Rattle.rules.specs.declared.Message.{Message}
@@ -24,7 +25,6 @@ use Rattle.rules.proofs.Valid.{valid_set}
 use Rattle.rules.proofs.Waits.{later_length}
 use Rattle.rules.proofs.Parties.{same_is}
 use Rattle.laws.proofs.Sums.{by_test}
-use Rattle.rules.specs.declared.Owner.{Owner}
 use Rattle.rules.specs.declared.Party.{Party}
 use Rattle.rules.specs.declared.Party.TheVariants.{Ours, Theirs}
 use Rattle.rules.specs.Parties.{owns, places_of}
@@ -45,13 +45,13 @@ module _ (s : State) (f : Formed s) where
   w = well_formed_lem s f.formed
 
   housed_as : (n : State) → n.set ≡ s.set → n.owners ≡ s.owners → length n.messages ≡ 64 → length n.waits ≡ 16 → Housed n
-  housed_as n e o h g = record { set = subst Placed (sym e) f.housed.set; places = h; waits = g; owners = ap (λ (l : List Owner). length l) o ∙ f.housed.owners }
+  housed_as n e o h g = record { set = subst Placed (sym e) f.housed.set; places = h; waits = g; owners = ap (λ (l : List Party). length l) o ∙ f.housed.owners }
 
   -- a unit leaves as many waits, which keep their rules
   still_sixteen : length (waits_later s.set.streams s.waits) ≡ 16
   still_sixteen = later_length s.set.streams s.waits ∙ f.housed.waits
 
-  still_waits : all (wait_ok s.set (waits_later s.set.streams s.waits)) (below 16) ≡ true
+  still_waits : list_all (wait_ok s.set (waits_later s.set.streams s.waits)) (below 16) ≡ true
   still_waits = waits_ok s.set _ (waits_later_lem s.set s.waits (waits s.set s.waits w.waits))
 
   -- what each party may have pending
@@ -222,11 +222,11 @@ module _ (s : State) (f : Formed s) where
         })
         (once_unstarted s.set front x (passed_on x) rear refl once_now))
 
-    unused_left : all message_unused (drop (s.count - 1) (remove no_message (place_of s) s.messages)) ≡ true
+    unused_left : list_all message_unused (drop (s.count - 1) (remove no_message (place_of s) s.messages)) ≡ true
     unfolding message_unused
     unused_left =
-        ap (all message_unused) (drop_remove no_message (place_of s) (s.count - 1) s.messages (omega (arith, low)) (omega (arith, low, w.few, f.housed.places)))
-        ∙ ap (λ (n : ℕ). all message_unused (drop n s.messages ++ (no_message ∷ []))) (let e : suc (s.count - 1) ≡ s.count = omega (arith, low) in e)
+        ap (list_all message_unused) (drop_remove no_message (place_of s) (s.count - 1) s.messages (omega (arith, low)) (omega (arith, low, w.few, f.housed.places)))
+        ∙ ap (λ (n : ℕ). list_all message_unused (drop n s.messages ++ (no_message ∷ []))) (let e : suc (s.count - 1) ≡ s.count = omega (arith, low) in e)
         ∙ all_last message_unused (drop s.count s.messages) no_message w.unused refl
 
     leave_formed : Formed (departed s (place_of s))

@@ -10,7 +10,7 @@ use Rattle.laws.proofs.Sums.{by_test}
 use Rattle.rules.specs.declared.State.{State}
 use Rattle.rules.specs.declared.Call.{Call}
 use Rattle.rules.specs.declared.Call.TheVariants.{Posts, Units}
-use Rattle.rules.specs.declared.PostAnswer.TheVariants.{Posted}
+use Rattle.std.specs.Prelude.{Ok}
 use Rattle.rules.specs.States.{party_of, held_by, well_formed, stages_in, task_of, cost_of, last_clock}
 use Rattle.rules.specs.Parties.{places_of}
 use Rattle.rules.specs.Doors.{shut}
@@ -66,7 +66,7 @@ module _ (s : State) (k : ℕ) where
   post_full e h d g = rw (e, lt-ltb k s.set.count h, d, le-ltb _ _ g)
 
   -- any other is accepted, at the last clock too
-  pub post_accepted : well_formed s ≡ true → k < s.set.count → shut (door_at s k) (wait_at s k) ≡ false → held_by s (party_of s k) < places_of s.places (party_of s k) → post_of s k ≡ record { answer = Posted k (new_message s k).deadline; state = added s (new_message s k) }
+  pub post_accepted : well_formed s ≡ true → k < s.set.count → shut (door_at s k) (wait_at s k) ≡ false → held_by s (party_of s k) < places_of s.places (party_of s k) → post_of s k ≡ record { answer = Ok (record { stream = k; deadline = (new_message s k).deadline }); state = added s (new_message s k) }
   unfolding post_of
   post_accepted e h d g = rw (e, lt-ltb k s.set.count h, d, lt-ltb _ _ g)
 

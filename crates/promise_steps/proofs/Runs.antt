@@ -5,7 +5,8 @@ use mathlib.Core.List.{List, [], ◌∷◌}
 use mathlib.Core.Path.{◌≡◌, refl, sym, subst}
 use native.Mathlib.Omega.{arith}
 use lib.ListN.{drop, replicate}
-use Rattle.laws.specs.Lists.{All, all, sum, count, scan}
+use Rattle.std.specs.List.{list_all}
+use Rattle.laws.specs.Lists.{All, sum, count, scan}
 use Rattle.laws.proofs.Sums.{by_test}
 use Rattle.rules.specs.declared.Set.{Set}
 use Rattle.rules.specs.Streams.{Placed, FourPlaces, no_stream, empty_set, stage_unused, tuple_unused, stream_unused, version_ok, valid}
@@ -32,9 +33,9 @@ use Rattle.promise_steps.proofs.Kept.{post_keeps, unit_keeps}
 
 -- ---- the start
 
-fresh_formed : (z : Start) → Boxed z → valid z.set ≡ true → together z.places ≤ 64 → all owner_unused (drop z.set.count z.owners) ≡ true
+fresh_formed : (z : Start) → Boxed z → valid z.set ≡ true → together z.places ≤ 64 → list_all owner_unused (drop z.set.count z.owners) ≡ true
     → Formed (fresh_for z.set z.owners z.places)
-unfolding messages_ok scan started_once message_unused all count sum
+unfolding messages_ok scan started_once message_unused count sum
 fresh_formed z b ok few rest = record {
   formed = well_formed_back (fresh_for z.set z.owners z.places) (record {
     set = ok;
@@ -60,11 +61,11 @@ empty_placed : Placed empty_set
 empty_placed = record { sixteen = refl; four = all_same FourPlaces no_stream (record { stages = refl; tuples = refl }) 16 }
 
 empty_valid : valid empty_set ≡ true
-unfolding valid all stream_unused stage_unused tuple_unused version_ok
+unfolding valid stream_unused stage_unused tuple_unused version_ok
 empty_valid = refl
 
 pub empty_formed : Formed (fresh empty_set)
-unfolding all owner_unused same
+unfolding owner_unused same
 empty_formed = fresh_formed (alone empty_set) (record { set = empty_placed; owners = refl }) empty_valid (omega arith) refl
 
 -- with the owners that a start gives it

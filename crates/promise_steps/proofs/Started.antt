@@ -7,7 +7,8 @@ use mathlib.Core.Path.{◌≡◌, refl, sym, ◌∙◌}
 use native.Mathlib.Omega.{arith}
 use borrow.Author.Tests.{leb-true, le-leb, lt-ltb, le-ltb, eq-eqb, ne_eqb}
 use lib.Dec.{ltb, eqb}
-use Rattle.laws.specs.Lists.{below, all, sum, count}
+use Rattle.std.specs.List.{list_all}
+use Rattle.laws.specs.Lists.{below, sum, count}
 use Rattle.laws.proofs.Sums.{sum_append}
 use Rattle.laws.proofs.Parts.{below_all, below_at}
 use Rattle.laws.proofs.Gates.{eq_or_ne, sum_last, sum_at, sum_zero, Each}
@@ -24,11 +25,11 @@ module _ (x : Set) where
   abbrev pub Once : List Message → Type 0
   Once l = (t : ℕ) → t < 16 → count (started_of x t) l ≤ 1
 
-  pub once : (l : List Message) → all (started_once x l) (below 16) ≡ true → Once l
+  pub once : (l : List Message) → list_all (started_once x l) (below 16) ≡ true → Once l
   unfolding started_once
   once l e t h = leb-true (count (started_of x t) l) 1 (below_at (started_once x l) 16 t e h)
 
-  pub once_ok : (l : List Message) → Once l → all (started_once x l) (below 16) ≡ true
+  pub once_ok : (l : List Message) → Once l → list_all (started_once x l) (below 16) ≡ true
   unfolding started_once
   once_ok l o = below_all (started_once x l) 16 (λ t h. le-leb (count (started_of x t) l) 1 (o t h))
 

@@ -12,7 +12,7 @@ use Rattle.laws.specs.Lists.{count}
 use Rattle.laws.proofs.Sums.{by_test}
 use Rattle.laws.proofs.Parts.{count_two}
 use Rattle.rules.specs.declared.State.{State}
-use Rattle.rules.specs.declared.PostAnswer.TheVariants.{Posted}
+use Rattle.std.specs.Prelude.{Ok}
 use Rattle.rules.specs.States.{no_message, pending, party_of, held_by, task_of, started_of}
 use Rattle.rules.specs.Doors.{shut}
 use Rattle.rules.specs.Steps.{door_at, wait_at, new_message, added, post_of, message_at, place_of, departed, laxity_of, unit_of}
@@ -72,7 +72,7 @@ module _ (s : State) (h : Formed s) (some : s.count ≡ 0 → ⊥) (j : ℕ) (q 
 -- "A place freed by a leaving message takes the next post", one of the same party that does not come early
 pub freed_place : (s : State) (done : Bool) (i k : ℕ) → Formed s → (unit_of s done).state ≡ departed s i → i < s.count → party_of s (message_at s i).stream ≡ party_of s k
     → k < s.set.count → shut (door_at (departed s i) k) (wait_at (departed s i) k) ≡ false
-    → post_of (unit_of s done).state k ≡ record { answer = Posted k (new_message (departed s i) k).deadline; state = added (departed s i) (new_message (departed s i) k) }
+    → post_of (unit_of s done).state k ≡ record { answer = Ok (record { stream = k; deadline = (new_message (departed s i) k).deadline }); state = added (departed s i) (new_message (departed s i) k) }
 unfolding UnitKeeps
 freed_place s done i k h e c o q d =
     let p : Formed (unit_of s done).state = unit_keeps s done h in

@@ -8,7 +8,8 @@ use borrow.Author.Tests.{leb-true, le-leb, eqb-true, eqb-false}
 use lib.Dec.{eqb}
 use lib.ListN.{length, get_or, set, replicate, get_or-replicate}
 use lib.Seq.{get_or-set_same, get_or-set_other}
-use Rattle.laws.specs.Lists.{below, all}
+use Rattle.std.specs.List.{list_all}
+use Rattle.laws.specs.Lists.{below}
 use Rattle.laws.proofs.Sums.{by_test}
 use Rattle.laws.proofs.Parts.{below_all, below_at}
 use Rattle.rules.specs.declared.Set.{Set}
@@ -22,11 +23,11 @@ module _ (x : Set) where
   pub Waits : List ℕ → Type 0
   Waits ws = (j : ℕ) → j < 16 → get_or ws j 0 ≤ most_wait (door_of (stream_at x j))
 
-  pub waits : (ws : List ℕ) → all (wait_ok x ws) (below 16) ≡ true → Waits ws
+  pub waits : (ws : List ℕ) → list_all (wait_ok x ws) (below 16) ≡ true → Waits ws
   unfolding wait_ok Waits
   waits ws e j h = leb-true _ _ (below_at (wait_ok x ws) 16 j e h)
 
-  pub waits_ok : (ws : List ℕ) → Waits ws → all (wait_ok x ws) (below 16) ≡ true
+  pub waits_ok : (ws : List ℕ) → Waits ws → list_all (wait_ok x ws) (below 16) ≡ true
   unfolding wait_ok Waits
   waits_ok ws w = below_all (wait_ok x ws) 16 (λ j h. le-leb _ _ (w j h))
 

@@ -1,6 +1,6 @@
 -- A word and a number that stand in a line are read there.
 -- Assumes nothing.
-use Prim.Native.Nat.{ℕ, zero, suc, ◌+◌, ◌-◌, ◌/◌, ◌%◌, ◌^◌, ◌≤◌, ◌<◌}
+use Prim.Native.Nat.{ℕ, zero, suc, ◌+◌, ◌/◌, ◌%◌, ◌^◌, ◌≤◌, ◌<◌}
 use native.Mathlib.Omega.{arith}
 use mathlib.Core.Path.{◌≡◌, refl, sym, ap, ◌∙◌}
 use mathlib.Core.Bool.{Bool, true, false, ◌&&◌}
@@ -9,23 +9,24 @@ use lib.ListN.{length, take, drop, length-append}
 use lib.Seq.{take-append_seam, drop-append_seam}
 use lib.Dec.{leb, ltb}
 use borrow.Author.Tests.{le-leb, eq-eqb, ltb-true}
-use Rattle.laws.specs.Lists.{all}
+use Rattle.std.specs.List.{list_all}
 use Rattle.laws.proofs.Sums.{by_test, and_parts}
 use Rattle.laws.proofs.Gates.{all_last}
 use Rattle.ascii.specs.Decimal.{digits_of, decimal_of, is_digit}
 use Rattle.ascii.proofs.Digits.{digits_back}
 use Rattle.ascii.specs.Same.{same}
-use Rattle.text_line.specs.declared.NumberRead.TheVariants.{Is, Missing}
+use Rattle.std.specs.Prelude.{Ok, Err}
+use Rattle.text_line.specs.declared.NumberFault.TheVariants.{Missing}
 use Rattle.text_line.specs.Lines.{lead, digits, starts_at, number_at, field_at}
 use Rattle.text_line.proofs.Numbers.{fits}
 
 -- ---- the digits of a number
 
-lead_all : (p : ℕ → Bool) (v r : List ℕ) → all p v ≡ true → lead p (v ++ r) ≡ v ++ lead p r
-unfolding lead all
+lead_all : (p : ℕ → Bool) (v r : List ℕ) → list_all p v ≡ true → lead p (v ++ r) ≡ v ++ lead p r
+unfolding lead
 lead_all p [] r e = refl
 lead_all p (b ∷ v) r e =
-    let u : (p b ≡ true) × (all p v ≡ true) = and_parts (p b) (all p v) e in
+    let u : (p b ≡ true) × (list_all p v ≡ true) = and_parts (p b) (list_all p v) e in
     rw u.0 (ap (λ (w : List ℕ). b ∷ w) (lead_all p v r u.1))
 
 is_digit_lem : (n : ℕ) → n < 10 → is_digit (48 + n) ≡ true
@@ -34,8 +35,8 @@ is_digit_lem n h =
     let high : leb (48 + n) 57 ≡ true = le-leb (48 + n) 57 (omega arith) in
     rw (low, high)
 
-pub all_digits : (k n : ℕ) → all is_digit (digits_of k n) ≡ true
-unfolding digits_of all
+pub all_digits : (k n : ℕ) → list_all is_digit (digits_of k n) ≡ true
+unfolding digits_of
 all_digits zero n = refl
 all_digits (suc k) n =
     by_test (ltb n 10) (λ e. rw e (rw (is_digit_lem n (ltb-true n 10 e))))
@@ -53,7 +54,6 @@ only_digits n rest e = lead_all is_digit (decimal_of n) rest (all_digits 20 n) �
 -- ---- a number, and a word with a number, behind pre
 
 same_self : (v : List ℕ) → same v v ≡ true
-unfolding same
 same_self [] = refl
 same_self (b ∷ v) = rw (eq-eqb b b refl) (same_self v)
 
@@ -64,7 +64,7 @@ starts v p r m q =
     rw (le-leb (length p + length v) (length m) room, q, drop-append_seam p (v ++ r), take-append_seam v r) (same_self v)
 
 module _ (low high n : ℕ) (rest : List ℕ) (stop : digits rest ≡ []) (from : low ≤ n) (to : n ≤ high) (small : n < 10 ^ 20) where
-  number_here : (pre l : List ℕ) → l ≡ pre ++ (decimal_of n ++ rest) → number_at low high l (length pre) ≡ Is n (length pre + length (decimal_of n))
+  number_here : (pre l : List ℕ) → l ≡ pre ++ (decimal_of n ++ rest) → number_at low high l (length pre) ≡ Ok (n, length pre + length (decimal_of n))
   unfolding number_at
   number_here pre l e =
       let here : drop (length pre) l ≡ decimal_of n ++ rest = ap (drop (length pre)) e ∙ drop-append_seam pre (decimal_of n ++ rest) in
@@ -72,7 +72,7 @@ module _ (low high n : ℕ) (rest : List ℕ) (stop : digits rest ≡ []) (from 
       let some : length pre + length (decimal_of n) ≡ length pre → ⊥ = λ z. omega (arith, some_digits 19 n) in
       rw (mine, digits_back 20 n small) (sym (fits low high (length pre) (length pre + length (decimal_of n)) n some from to))
 
-  pub field_here : (w pre l : List ℕ) → l ≡ pre ++ (w ++ (decimal_of n ++ rest)) → field_at w low high l (length pre) ≡ Is n (length (pre ++ (w ++ decimal_of n)))
+  pub field_here : (w pre l : List ℕ) → l ≡ pre ++ (w ++ (decimal_of n ++ rest)) → field_at w low high l (length pre) ≡ Ok (n, length (pre ++ (w ++ decimal_of n)))
   unfolding field_at
   field_here w pre l e =
       let size : length (pre ++ w) ≡ length pre + length w = length-append pre w in
@@ -89,6 +89,6 @@ module _ (w pre r l : List ℕ) (e : l ≡ pre ++ r) (h : same (take (length w) 
       never true = refl
       never false = refl
 
-  pub field_not : (low high : ℕ) → field_at w low high l (length pre) ≡ Missing
+  pub field_not : (low high : ℕ) → field_at w low high l (length pre) ≡ Err Missing
   unfolding field_at
   field_not low high = rw starts_not

@@ -17,10 +17,11 @@ use Rattle.rules.specs.declared.Stream.{Stream}
 use Rattle.rules.specs.Streams.{jitter_ok, jitter_of}
 use Rattle.rules.specs.Sheet.{stream_of}
 use Rattle.ascii.specs.Decimal.{letters, decimal_of}
-use Rattle.text_line.specs.Lines.{lead, stage_text, by_field, by_jitter, added, is_stream, jitter_said, each_way_at, jitter_at, limit_at}
+use Rattle.std.specs.Prelude.{Ok}
+use Rattle.text_line.specs.Lines.{lead, stage_text, by_field, needed, leads, by_jitter, added, jitter_said, each_way_at, jitter_at, limit_at}
 use Rattle.promise_texts.specs.Returns.{jitter_text, jitter_tuples, JitterReturns}
 use Rattle.promise_texts.proofs.Fields.{starts, field_here}
-use Rattle.promise_texts.proofs.Lines.{added_more, front_here}
+use Rattle.promise_texts.proofs.Lines.{says, added_more, front_here}
 
 -- a jitter that is in rule is no longer than its cycle, which is short
 pub record Small (z j : ℕ) : Type 0 where
@@ -37,7 +38,7 @@ small z j e =
 
 -- the line's end behind it
 said_here : (gs : List Stage) (d z j : ℕ) (l : List ℕ) (at : ℕ) → jitter_ok z j ≡ true → length l ≤ at
-    → jitter_said (stream_of gs d []) z j l at ≡ is_stream (stream_of gs d (jitter_tuples z j))
+    → jitter_said (stream_of gs d []) z j l at ≡ Ok (stream_of gs d (jitter_tuples z j))
 unfolding jitter_said jitter_of by_jitter
 said_here gs d z j l at ok h =
     let o : TuplePlace = record { tuple = Once 0 } in
@@ -47,7 +48,7 @@ said_here gs d z j l at ok h =
     rw (ok, le-leb (length l) at h, two)
 
 pub jitter_returns : JitterReturns
-unfolding JitterReturns jitter_text limit_at jitter_at each_way_at by_field lead
+unfolding JitterReturns jitter_text limit_at jitter_at each_way_at by_field needed leads lead
 jitter_returns version gs d z j k g f ok =
     let v : Small z j = small z j ok in
     let A : List ℕ = flat stage_text gs in
@@ -69,4 +70,4 @@ jitter_returns version gs d z j k g f ok =
       field_here 0 4294967295 z E refl (omega arith) (omega (arith, v.cycle)) (omega (arith, v.cycle)) (letters " jitter ") before l here,
       field_here 0 4294967295 j [] refl (omega arith) (omega (arith, v.each)) (omega (arith, v.each)) (letters " ") from l last,
     )
-    (said_here gs d z j l (length (from ++ E)) ok end)
+    (ap says (said_here gs d z j l (length (from ++ E)) ok end))

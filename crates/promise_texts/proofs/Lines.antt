@@ -23,12 +23,18 @@ use Rattle.rules.proofs.Valid.{valid_place, valid_stream}
 use Rattle.sheet_carried.proofs.Whole.{stream_holds, whole_stream}
 use Rattle.ascii.specs.Decimal.{letters, decimal_of}
 use Rattle.ascii.specs.Same.{same}
-use Rattle.text_line.specs.declared.StageRead.TheVariants.{Is as IsStage}
-use Rattle.text_line.specs.declared.TupleRead.TheVariants.{Is as IsTuple}
-use Rattle.text_line.specs.Lines.{lead, digits, stage_text, tuple_text, place_text, stages_text, limit_text, version_text, by_field, by_stage, by_tuple, space_at, cost_at, pair_at, staged, most_stages, stages_at, every_at, tuple_at, tuples_at, added, limit_at, deadline_at, line_read, is_stream}
+use Rattle.std.specs.Prelude.{Result, Ok, Some}
+use Rattle.text_line.specs.declared.Fault.{Fault}
+use Rattle.text_line.specs.declared.Said.{Said}
+use Rattle.text_line.specs.declared.Said.TheVariants.{Stream as IsStream}
+use Rattle.text_line.specs.Lines.{lead, digits, stage_text, tuple_text, place_text, stages_text, limit_text, version_text, by_field, needed, leads, by_stage, space_at, cost_at, pair_at, staged, most_stages, stages_at, every_at, tuple_at, tuples_at, added, limit_at, deadline_at, line_read}
 use Rattle.text_line.specs.Lines as lines
 use Rattle.promise_texts.specs.Returns.{LineReturns}
 use Rattle.promise_texts.proofs.Fields.{starts, field_here, starts_not, field_not}
+
+-- what a line says whose stream is read so
+abbrev pub says : Result Stream Fault → Result Said Fault
+says r = leads r (λ s. Ok (IsStream s))
 
 -- ---- a tuple
 
@@ -38,8 +44,8 @@ at_sign a rest = refl
 
 module _ (low high : ℕ) (rest : List ℕ) (stop : digits rest ≡ []) (small : high ≤ 100000) where
   tuple_here : (t : Tuple) (pre l : List ℕ) → low ≤ offset t → offset t ≤ high → ValidCycle t → l ≡ pre ++ (tuple_text t ++ rest)
-      → tuple_at low high l (length pre) ≡ IsTuple t (length (pre ++ tuple_text t))
-  unfolding tuple_at by_field every_at lines.offset_at same
+      → tuple_at low high l (length pre) ≡ Ok (t, length (pre ++ tuple_text t))
+  unfolding tuple_at by_field needed leads every_at lines.offset_at
   tuple_here (Once a) pre l h g c e = rw (field_here low high a rest stop h g (omega arith) (letters " once@") pre l e)
   tuple_here (Every z a) pre l h g c e =
       let once : List ℕ = letters "@" ++ (decimal_of a ++ rest) in
@@ -68,7 +74,7 @@ no_digit (p ∷ ts) = first p.tuple
 
 -- nor does it begin with a jitter
 no_jitter : (ts : List TuplePlace) → same (take 7 (flat place_text ts)) (letters " jitter") ≡ false
-unfolding same flat
+unfolding flat
 no_jitter [] = refl
 no_jitter (p ∷ ts) = first p.tuple
   where
@@ -112,7 +118,7 @@ unfolding tuple_ok
 low_of before p e = leb-true before (offset_at p) (and_parts (leb before (offset_at p)) _ e).0
 
 line_ends : (gs : List Stage) (d : ℕ) (done : List TuplePlace) (low high : ℕ) (l : List ℕ) (at m : ℕ) → length l ≤ at → (length done ≡ 0 → ⊥)
-    → tuples_at m (stream_of gs d done) low high l at ≡ is_stream (stream_of gs d done)
+    → tuples_at m (stream_of gs d done) low high l at ≡ Ok (stream_of gs d done)
 unfolding tuples_at
 line_ends gs d done low high l at zero all some = rw (le-leb (length l) at all, ne_eqb (length done) 0 some)
 line_ends gs d done low high l at (suc m) all some = rw (le-leb (length l) at all, ne_eqb (length done) 0 some)
@@ -125,12 +131,12 @@ first_below before (q ∷ qs) y = (valid_place before q (and_parts (tuple_ok bef
 module _ (gs : List Stage) (d : ℕ) (l : List ℕ) where
   tuples_here : (ts done : List TuplePlace) (n low high : ℕ) (pre : List ℕ) → scan tuple_ok offset_at low ts ≡ true → FirstAtMost high ts → high ≤ 100000
       → length ts ≤ n → length done + length ts ≤ 4 → 1 ≤ length done + length ts → l ≡ pre ++ flat place_text ts
-      → tuples_at n (stream_of gs d done) low high l (length pre) ≡ is_stream (stream_of gs d (done ++ ts))
-  unfolding tuples_at by_tuple flat scan
+      → tuples_at n (stream_of gs d done) low high l (length pre) ≡ Ok (stream_of gs d (done ++ ts))
+  unfolding tuples_at leads flat scan
   tuples_here [] done n low high pre ok f k a b c e =
       let all : length l ≤ length pre = omega (arith, ap length e, length-append pre []) in
       let some : length done ≡ 0 → ⊥ = λ z. omega arith in
-      line_ends gs d done low high l (length pre) n all some ∙ ap (λ (ts : List TuplePlace). is_stream (stream_of gs d ts)) (sym (append-nil done))
+      line_ends gs d done low high l (length pre) n all some ∙ ap (λ (ts : List TuplePlace). Ok (stream_of gs d ts)) (sym (append-nil done))
   tuples_here (p ∷ ts) done zero low high pre ok f k a b c e = absurd (omega arith)
   tuples_here (p ∷ ts) done (suc n) low high pre ok f k a b c e =
       let u : (tuple_ok low p ≡ true) × (scan tuple_ok offset_at (offset_at p) ts ≡ true) = and_parts (tuple_ok low p) (scan tuple_ok offset_at (offset_at p) ts) ok in
@@ -144,12 +150,12 @@ module _ (gs : List Stage) (d : ℕ) (l : List ℕ) where
         added_more gs d done p (omega arith),
       )
       (tuples_here ts (done ++ (p ∷ [])) n (offset_at p) 100000 (pre ++ place_text p) u.1 (first_below (offset_at p) ts u.1) (omega arith) (omega arith) (omega arith) (omega arith) next
-      ∙ ap (λ (qs : List TuplePlace). is_stream (stream_of gs d qs)) (append_snoc done p ts))
+      ∙ ap (λ (qs : List TuplePlace). Ok (stream_of gs d qs)) (append_snoc done p ts))
 
 -- ---- a stage
 
-pair_here : (g : Stage) (pre l rest : List ℕ) → ValidStage g → l ≡ pre ++ (stage_text g ++ rest) → pair_at l (length pre) ≡ IsStage g (length (pre ++ stage_text g))
-unfolding pair_at cost_at space_at by_field lead
+pair_here : (g : Stage) (pre l rest : List ℕ) → ValidStage g → l ≡ pre ++ (stage_text g ++ rest) → pair_at l (length pre) ≡ Ok (Some (g, length (pre ++ stage_text g)))
+unfolding pair_at cost_at space_at by_field needed leads lead
 pair_here g pre l rest v e =
     let T : List ℕ = letters "task " ++ decimal_of g.task in
     let C : List ℕ = letters " cost " ++ decimal_of g.cost in
@@ -177,7 +183,7 @@ module _ (version : ℕ) (l rest : List ℕ) (other : same (take 5 rest) (letter
   stages_over done (suc n) pre some e = rw (field_not (letters "task ") pre rest l e other 0 15, ne_eqb (length done) 0 some)
 
   -- one stage more
-  one_more : (s : Stream) (n at : ℕ) (g : Stage) (end : ℕ) (more : Stream) → pair_at l at ≡ IsStage g end → staged s g ≡ more → stages_at version (suc n) s l at ≡ stages_at version n more l end
+  one_more : (s : Stream) (n at : ℕ) (g : Stage) (end : ℕ) (more : Stream) → pair_at l at ≡ Ok (Some (g, end)) → staged s g ≡ more → stages_at version (suc n) s l at ≡ stages_at version n more l end
   unfolding stages_at by_stage
   one_more s n at g end more p q = rw (p, q)
 
@@ -206,8 +212,8 @@ most_fits version n h = by_test (eqb version 1) (λ e. let z : n ≤ 1 = rw e at
 module _ (version : ℕ) (d : ℕ) (rest : List ℕ) (stop : digits rest ≡ []) (f : Between 1 d 200000) where
   pub front_here : (gs : List Stage) (l : List ℕ) → Between 1 (length gs) (most_stages version) → All ValidStage gs
       → l ≡ flat stage_text gs ++ (letters "deadline " ++ (decimal_of d ++ rest))
-      → line_read version l ≡ limit_at (stream_of gs d []) l (length (flat stage_text gs ++ (letters "deadline " ++ decimal_of d)))
-  unfolding line_read same flat deadline_at by_field
+      → line_read version l ≡ says (limit_at (stream_of gs d []) l (length (flat stage_text gs ++ (letters "deadline " ++ decimal_of d))))
+  unfolding line_read flat deadline_at by_field needed leads
   front_here [] l k v e = absurd (let z : 1 ≤ 0 = k.low in omega arith)
   front_here (g ∷ gs) l k v e =
       let few : length (g ∷ gs) ≤ 4 = most_fits version (length (g ∷ gs)) k.high in
@@ -215,8 +221,8 @@ module _ (version : ℕ) (d : ℕ) (rest : List ℕ) (stop : digits rest ≡ [])
       let some : length l ≡ 0 → ⊥ = λ z. omega (arith, ap length e, length-append (flat stage_text (g ∷ gs)) behind) in
       let task : same l version_text ≡ false = ap (λ (w : List ℕ). same w version_text) e in
       rw (ne_eqb (length l) 0 some, task)
-      (stages_here version l behind refl (g ∷ gs) [] (most_stages version) [] v k.high (omega arith) (omega arith) e
-      ∙ rw (field_here 1 200000 d rest stop f.low f.high (omega (arith, f.high)) (letters "deadline ") (flat stage_text (g ∷ gs)) l e))
+      (ap says (stages_here version l behind refl (g ∷ gs) [] (most_stages version) [] v k.high (omega arith) (omega arith) e
+      ∙ rw (field_here 1 200000 d rest stop f.low f.high (omega (arith, f.high)) (letters "deadline ") (flat stage_text (g ∷ gs)) l e)))
 
 -- ---- the whole line
 
@@ -225,7 +231,7 @@ first_zero [] f = tt
 first_zero (p ∷ ts) f = omega arith
 
 pub line_returns : LineReturns
-unfolding LineReturns stages_text limit_text limit_at tuples_ok
+unfolding LineReturns stages_text limit_text limit_at tuples_ok leads
 line_returns version s four ok deep =
     let v : ValidStream s = valid_stream s ok in
     let A : List ℕ = flat stage_text (stages_of s) in
@@ -241,5 +247,5 @@ line_returns version s four ok deep =
     let stages : Between 1 (length (stages_of s)) (most_stages version) = record { low = omega (arith, v.depth.low); high = omega arith } in
     front_here version s.deadline D (no_digit (tuples_of s)) v.deadline (stages_of s) l stages v.stages here
     ∙ rw (starts_not (letters " jitter") before D l back (no_jitter (tuples_of s)))
-    (tuples_here (stages_of s) s.deadline l (tuples_of s) [] 4 0 0 before v.order (first_zero (tuples_of s) v.first) (omega arith) size (omega arith) (omega arith) back
-    ∙ ap is_stream (whole_stream s (stream_holds s v four)))
+    (ap says (tuples_here (stages_of s) s.deadline l (tuples_of s) [] 4 0 0 before v.order (first_zero (tuples_of s) v.first) (omega arith) size (omega arith) (omega arith) back
+    ∙ ap Ok (whole_stream s (stream_holds s v four))))

@@ -1,6 +1,6 @@
 -- A stream's own line, and the line for the version, are tidy and hold no newline.
 -- Assumes nothing.
-use Prim.Native.Nat.{ℕ, ◌+◌, ◌≤◌}
+use Prim.Native.Nat.{ℕ, ◌≤◌}
 use native.Mathlib.Omega.{arith}
 use mathlib.Core.Path.{◌≡◌, refl, sym, ap, ◌∙◌}
 use mathlib.Core.Bool.{Bool, true, false, cond, ◌&&◌, not, false≢true}
@@ -8,7 +8,8 @@ use mathlib.Core.List.{List, [], ◌∷◌, ◌++◌, append_assoc}
 use lib.ListN.{length}
 use lib.Dec.{leb, eqb}
 use borrow.Author.Tests.{leb-true, le-leb, eqb-true, ne_eqb, not-true}
-use Rattle.laws.specs.Lists.{all, flat}
+use Rattle.std.specs.List.{list_all}
+use Rattle.laws.specs.Lists.{flat}
 use Rattle.laws.proofs.Sums.{by_test, and_parts}
 use Rattle.rules.specs.declared.Tuple.{Tuple}
 use Rattle.rules.specs.declared.Tuple.TheVariants.{Once, Every}
@@ -106,14 +107,14 @@ solid_digit b e =
     (ne_eqb b 32 (λ z. omega arith), rw (le-leb 33 b (omega arith), ne_eqb b 35 (λ z. omega arith)))
 
 -- digits, and what stands behind them
-run : (space : Bool) (v l : List ℕ) → 1 ≤ length v → all is_digit v ≡ true → neat space (v ++ l) ≡ neat false l
-unfolding neat all
+run : (space : Bool) (v l : List ℕ) → 1 ≤ length v → list_all is_digit v ≡ true → neat space (v ++ l) ≡ neat false l
+unfolding neat
 run space [] l h e = absurd (let z : 1 ≤ 0 = h in omega arith)
 run space (b ∷ []) l h e =
     let u : (eqb b 32 ≡ false) × (solid b ≡ true) = solid_digit b (and_parts (is_digit b) true e).0 in
     rw (u.0, u.1)
 run space (b ∷ (c ∷ v)) l h e =
-    let w : (is_digit b ≡ true) × (all is_digit (c ∷ v) ≡ true) = and_parts (is_digit b) (all is_digit (c ∷ v)) e in
+    let w : (is_digit b ≡ true) × (list_all is_digit (c ∷ v) ≡ true) = and_parts (is_digit b) (list_all is_digit (c ∷ v)) e in
     let u : (eqb b 32 ≡ false) × (solid b ≡ true) = solid_digit b w.0 in
     rw (u.0, u.1) (run false (c ∷ v) l (omega arith) w.1)
 

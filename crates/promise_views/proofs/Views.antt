@@ -19,11 +19,10 @@ use Rattle.rules.specs.declared.PostResult.{PostResult}
 use Rattle.rules.specs.declared.UnitResult.{UnitResult}
 use Rattle.rules.specs.Streams.{stream_at, limit}
 use Rattle.rules.specs.States.{pending, party_of, held_by}
-use Rattle.rules.specs.declared.Owner.{Owner}
 use Rattle.rules.specs.declared.Party.{Party}
 use Rattle.rules.specs.declared.Places.{Places}
 use Rattle.rules.specs.declared.StartResult.{StartResult}
-use Rattle.rules.specs.declared.StartAnswer.TheVariants.{Started}
+use Rattle.std.specs.Prelude.{Ok}
 use Rattle.rules.specs.Parties.{owns, belongs, places_of, owners_for}
 use Rattle.rules.proofs.Parties.{same_is}
 use borrow.Author.Tests.{le-leb}
@@ -105,7 +104,7 @@ module _ (z : Start) (starts : Starts z) (p : Party) where
       let b = step_stays r c in
       record { set = a.set ∙ b.set; owners = a.owners ∙ b.owners; places = a.places ∙ b.places }
 
-  start_is : start_for z.set z.owners z.places ≡ record { answer = Started; state = fresh_for z.set (owners_for z.set.count z.owners) z.places }
+  start_is : start_for z.set z.owners z.places ≡ record { answer = Ok tt; state = fresh_for z.set (owners_for z.set.count z.owners) z.places }
   unfolding start_for
   start_is = rw (starts.valid_set, le-leb _ _ starts.few)
 
@@ -138,14 +137,14 @@ module _ (z : Start) (starts : Starts z) (p : Party) where
 
     -- what the party has pending, and its places
     held_is : held mine r.state ≡ held_by r.state p
-    held_is = ap (λ (os : List Owner). count (belongs os p) (pending r.state)) (sym owners_are)
+    held_is = ap (λ (os : List Party). count (belongs os p) (pending r.state)) (sym owners_are)
 
     room_is : room ≡ places_of r.state.places p
     room_is = ap (λ (x : Places). places_of x p) (sym places_are)
 
     -- the owner of a stream of the party
     its : (k : ℕ) → mine k ≡ true → party_of r.state k ≡ p
-    its k g = same_is (party_of r.state k) p (ap (λ (os : List Owner). owns os p k) owners_are ∙ g)
+    its k g = same_is (party_of r.state k) p (ap (λ (os : List Party). owns os p k) owners_are ∙ g)
 
     few : r.state.count ≤ 64
     few = (well_formed_lem r.state formed.formed).few

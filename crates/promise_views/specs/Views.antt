@@ -7,8 +7,10 @@ use Rattle.rules.specs.declared.Message.{Message}
 use Rattle.rules.specs.declared.Party.{Party}
 use Rattle.rules.specs.declared.Call.{Call}
 use Rattle.rules.specs.declared.Call.TheVariants.{Posts, Units}
-use Rattle.rules.specs.declared.UnitAnswer.{UnitAnswer}
-use Rattle.rules.specs.declared.UnitAnswer.TheVariants.{Ran, Passed, Finished, Cut, Idle, Refused as UnitRefused}
+use Rattle.std.specs.Prelude.{Result, Ok, Err}
+use Rattle.rules.specs.declared.Outcome.{Outcome}
+use Rattle.rules.specs.declared.Refusal.{Refusal}
+use Rattle.rules.specs.declared.Outcome.TheVariants.{Ran, Passed, Finished, Cut, Idle}
 use Rattle.rules.specs.Parties.{owns, owners_for}
 use Rattle.rules.specs.States.{pending}
 use Rattle.rules.specs.Steps.{post_of, unit_of}
@@ -43,13 +45,13 @@ pub data Sight : Type 0 where
   asks : (stream at : ℕ) → Sight
   loses : Sight
 
-abbrev pub loss_of : Kind → UnitAnswer → List Sight
-loss_of mine (Ran t k) = []
-loss_of mine (Passed t k) = []
-loss_of mine (Finished t k l) = cond (mine k) (loses ∷ []) []
-loss_of mine (Cut t k l) = cond (mine k) (loses ∷ []) []
-loss_of mine Idle = []
-loss_of mine (UnitRefused why) = []
+abbrev pub loss_of : Kind → Result Outcome Refusal → List Sight
+loss_of mine (Ok (Ran t k)) = []
+loss_of mine (Ok (Passed t k)) = []
+loss_of mine (Ok (Finished t k l)) = cond (mine k) (loses ∷ []) []
+loss_of mine (Ok (Cut t k l)) = cond (mine k) (loses ∷ []) []
+loss_of mine (Ok Idle) = []
+loss_of mine (Err why) = []
 
 unfoldable pub sight_of : Kind → Run → Call → List Sight
 sight_of mine r (Posts k) = cond (mine k) (asks k r.time ∷ []) []

@@ -12,9 +12,10 @@ use Rattle.laws.specs.Bits.{bits, bytes_for, to_bits, zeros, pack}
 use Rattle.laws.proofs.Fields.{AreBits, AreBytes, IsBit, all_append, are_bits_zeros, to_bits_bits, to_bits_length}
 use Rattle.laws.proofs.Packing.{front, front_bytes, pack_length, pad_of, paste_front}
 use Rattle.rules.specs.declared.Call.{Call}
-use Rattle.rules.specs.declared.RecordAnswer.{RecordAnswer}
-use Rattle.rules.specs.declared.RecordAnswer.TheVariants.{Recorded}
-use Rattle.rules.specs.Recordings.{Place, call_bits, recording_of, bit_at, place_after, first_place, fits, written, end_bits, finish_of, finished_by, finished_to}
+use Rattle.std.specs.Prelude.{Result, Ok}
+use Rattle.rules.specs.declared.Refusal.{Refusal}
+use Rattle.rules.specs.declared.Place.{Place}
+use Rattle.rules.specs.Recordings.{call_bits, recording_of, bit_at, place_after, first_place, fits, written, end_bits, finish_of, finished_by, finished_to}
 use Rattle.record_call.proofs.Widths.{calls_bits}
 use Rattle.record_call.proofs.Written.{place_bit, place_there, written_bits, written_bytes, written_length, written_more}
 
@@ -50,9 +51,9 @@ module _ (calls : List Call) (old : List ℕ) (p : Place) (ho : AreBytes old) (a
     end_fits : fits buffer p (end_bits p) ≡ true
     end_fits = le-leb (bit_at p + length (end_bits p)) (8 * length buffer) (omega (arith, end_length, buffer_length, bytes_are))
 
-    pub finishes : finish_of buffer p ≡ Recorded (length (recording_of calls))
+    pub finishes : finish_of buffer p ≡ Ok (length (recording_of calls))
     unfolding finish_of
-    finishes = rw (place_there buffer p small (omega (arith, buffer_length, bytes_are)), end_fits) (ap Recorded (sym bytes_are))
+    finishes = rw (place_there buffer p small (omega (arith, buffer_length, bytes_are)), end_fits) (ap Ok (sym bytes_are))
 
     end_bits_lem : AreBits (end_bits p)
     end_bits_lem = all_append IsBit (to_bits 2 3) (zeros (8 * bytes_for (p.bit + 2) - (p.bit + 2))) (to_bits_bits 2 3) (are_bits_zeros (8 * bytes_for (p.bit + 2) - (p.bit + 2)))
@@ -72,7 +73,7 @@ module _ (calls : List Call) (old : List ℕ) (p : Place) (ho : AreBytes old) (a
     pub finished : finished_to buffer p ≡ recording_of calls ++ drop (length (recording_of calls)) old
     unfolding finished_to recording_of
     finished =
-        ap (λ (a : RecordAnswer). finished_by a buffer p) finishes
+        ap (λ (a : Result ℕ Refusal). finished_by a buffer p) finishes
         ∙ ap (λ (q : Place). written buffer q (end_bits p)) at-end
         ∙ written_more old first_place body (end_bits p) (calls_bits calls) end_bits_lem (omega (arith, all_room, length-append body (end_bits p)))
         ∙ front_bytes fields old (written old first_place (body ++ end_bits p)) (all_append IsBit body (to_bits 2 3) (calls_bits calls) (to_bits_bits 2 3)) ho

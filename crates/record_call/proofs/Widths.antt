@@ -15,7 +15,7 @@ use Rattle.laws.proofs.Fields.{AreBits, IsBit, all_append, to_bits_bits, to_bits
 use Rattle.rules.specs.declared.Call.{Call}
 use Rattle.rules.specs.declared.Call.TheVariants.{Posts, Units}
 use Rattle.rules.specs.Recordings.{call_bits, place_in}
-use Rattle.record_call.specs.Places.{place}
+use Rattle.rules.specs.declared.Place.{Place}
 
 pub width_post : (c : Call) (k : ℕ) → c ≡ Posts k → 6 ≡ length (call_bits c)
 unfolding call_bits
@@ -47,13 +47,13 @@ calls_bits (c ∷ cs) = all_append IsBit (call_bits c) (flat call_bits cs) (call
 
 -- ---- the place
 
-pub record Inside (s : List ℕ) (byte bit : ℕ) : Type 0 where
-  pub byte_in : byte ≤ length s
-  pub bit_in : bit < 8
+pub record Inside (s : List ℕ) (p : Place) : Type 0 where
+  pub byte_in : p.byte ≤ length s
+  pub bit_in : p.bit < 8
 
-pub inside : (s : List ℕ) (byte bit : ℕ) → place_in s (place byte bit) ≡ true → Inside s byte bit
+pub inside : (s : List ℕ) (p : Place) → place_in s p ≡ true → Inside s p
 unfolding place_in
-inside s byte bit e =
-    let a = and_parts (leb byte (length s)) (ltb bit 8 && (ltb byte (length s) || eqb bit 0)) e in
-    let b = and_parts (ltb bit 8) (ltb byte (length s) || eqb bit 0) a.1 in
-    record { byte_in = leb-true byte (length s) a.0; bit_in = ltb-true bit 8 b.0 }
+inside s p e =
+    let a = and_parts (leb p.byte (length s)) (ltb p.bit 8 && (ltb p.byte (length s) || eqb p.bit 0)) e in
+    let b = and_parts (ltb p.bit 8) (ltb p.byte (length s) || eqb p.bit 0) a.1 in
+    record { byte_in = leb-true p.byte (length s) a.0; bit_in = ltb-true p.bit 8 b.0 }

@@ -12,7 +12,8 @@ use Rattle.laws.specs.Bits.{bits, bytes}
 use Rattle.laws.proofs.Fields.{AreBits, AreBytes, IsBit, all_append, all_take, all_drop, bits_bits, bits_inj, bits_length}
 use Rattle.laws.proofs.Packing.{bytes_length, bytes_bits, bytes_bytes, paste_more}
 use Rattle.rules.specs.declared.Call.{Call}
-use Rattle.rules.specs.Recordings.{Place, call_bits, recordable, place_in, bit_at, place_after, written, append_of, appended_to}
+use Rattle.rules.specs.declared.Place.{Place}
+use Rattle.rules.specs.Recordings.{call_bits, recordable, place_in, bit_at, place_after, written, append_of, appended_to}
 use Rattle.record_call.proofs.Widths.{some_width}
 
 module _ (s : List ℕ) (p : Place) (bs : List ℕ) where

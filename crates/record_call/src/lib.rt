@@ -1,23 +1,24 @@
 // The cab's recorder: a call, or end, goes to a place of a lent buffer. Only the bits that are written change.
 #![tactic(auto)]
 
-ghost use Rattle.std.specs.Prelude.{◌≡◌, true, ◌+◌, ◌-◌, ◌*◌, ◌^◌, ◌≤◌, ◌<◌, length};
+ghost use Rattle.std.specs.Prelude.{◌≡◌, true, ◌≤◌, length};
 ghost use Rattle.laws.specs.Bits.{to_bits};
-ghost use Rattle.rules.specs.Recordings.{Place, call_bits, recordable, place_in, bit_at, append_of, appended_to, finish_of, finished_to};
-ghost use Rattle.record_call.specs.Places.{place, code_of, put_answer, put_buffer, ended_by};
+ghost use Rattle.rules.specs.Recordings.{call_bits, recordable, place_in, append_of, appended_to, finish_of, finished_to};
+ghost use Rattle.record_call.specs.Places.{code_of, put_answer, put_buffer};
 
-use bits::Placing;
-use rules::{AppendAnswer, Call, RecordAnswer, Refusal};
+use rules::{Call, Place, Refusal};
 
 // Is the place in a recording or a buffer? Behind the last byte only bit 0 is one.
-pub fn place_in(recording: &[u8], byte: usize, bit: u32) -> bool
-    ensures { result ≡ place_in recording.now (place byte bit) }
+#[tactic(auto, unfolding(rules::specs::Recordings::place_in))]
+pub fn place_in(recording: &[u8], at: Place) -> bool
+    ensures { result ≡ place_in recording.now at }
 {
     let n = recording.len();
-    (byte <= n) & ((bit < 8) & ((byte < n) | (bit == 0)))
+    (at.byte <= n) & ((at.bit < 8) & ((at.byte < n) | (at.bit == 0)))
 }
 
 // How many bits a call has in a recording.
+#[tactic(auto, using(crate::proofs::Widths::width_post, crate::proofs::Widths::width_unit))]
 pub fn width(c: Call) -> u32
     ensures { result ≡ length (call_bits c) }
 {
@@ -48,52 +49,37 @@ fn code(c: Call) -> u64
 }
 
 // A field at a place, and the place behind it.
-fn put(buf: &mut [u8], byte: usize, bit: u32, width: u32, v: u64) -> AppendAnswer
-    requires { (place_in buf.old (place byte bit) ≡ true) × (1 ≤ width) × (width ≤ 9) }
-    ensures { (result ≡ put_answer buf.old (place byte bit) (to_bits width v)) × (buf.new ≡ put_buffer buf.old (place byte bit) (to_bits width v)) }
+fn put(buf: &mut [u8], at: Place, width: u32, v: u64) -> Result<Place, Refusal>
+    requires { (place_in buf.old at ≡ true) × (1 ≤ width) × (width ≤ 9) }
+    ensures { (result ≡ put_answer buf.old at (to_bits width v)) × (buf.new ≡ put_buffer buf.old at (to_bits width v)) }
 {
-    match bits::put(buf, byte, bit, width, v) {
-        Placing::Done => {
-            let n = bit + width;
-            AppendAnswer::Appended(byte + (n / 8) as usize, n % 8)
-        }
-        Placing::NoRoom => AppendAnswer::Refused(Refusal::ShortBuffer),
-        Placing::TooWide => AppendAnswer::Refused(Refusal::ShortBuffer),
+    match bits::put(buf, at, width, v) {
+        Ok(()) => Ok(bits::after(at, width)),
+        Err(_) => Err(Refusal::ShortBuffer),
     }
 }
 
 // Appends a call at a place: 12 for a place that is not in the buffer, 1 for a call that cannot be recorded, 11 without room for it.
-pub fn append(buf: &mut [u8], byte: usize, bit: u32, c: Call) -> AppendAnswer
-    ensures { (result ≡ append_of buf.old (place byte bit) c) × (buf.new ≡ appended_to buf.old (place byte bit) c) }
+pub fn append(buf: &mut [u8], at: Place, c: Call) -> Result<Place, Refusal>
+    ensures { (result ≡ append_of buf.old at c) × (buf.new ≡ appended_to buf.old at c) }
 {
-    if !place_in(buf, byte, bit) {
-        return AppendAnswer::Refused(Refusal::IllFormed);
+    if !place_in(buf, at) {
+        return Err(Refusal::IllFormed);
     }
     if !can_record(c) {
-        return AppendAnswer::Refused(Refusal::NoStream);
+        return Err(Refusal::NoStream);
     }
-    put(buf, byte, bit, width(c), code(c))
-}
-
-// Behind end and its zero bits the recording's bytes are whole.
-fn ended(a: AppendAnswer) -> RecordAnswer
-    ensures { result ≡ ended_by a }
-{
-    match a {
-        AppendAnswer::Appended(n, _) => RecordAnswer::Recorded(n),
-        AppendAnswer::Refused(why) => RecordAnswer::Refused(why),
-    }
+    put(buf, at, width(c), code(c))
 }
 
 // Puts end at a place, and zero bits behind it to the byte's end: 12 for a place that is not in the buffer, 11 without room.
-pub fn finish(buf: &mut [u8], byte: usize, bit: u32) -> RecordAnswer
-    ensures { (result ≡ finish_of buf.old (place byte bit)) × (buf.new ≡ finished_to buf.old (place byte bit)) }
+pub fn finish(buf: &mut [u8], at: Place) -> Result<usize, Refusal>
+    ensures { (result ≡ finish_of buf.old at) × (buf.new ≡ finished_to buf.old at) }
 {
-    if !place_in(buf, byte, bit) {
-        return RecordAnswer::Refused(Refusal::IllFormed);
+    if !place_in(buf, at) {
+        return Err(Refusal::IllFormed);
     }
-    if bit == 7 {
-        return ended(put(buf, byte, bit, 9, 384));
-    }
-    ended(put(buf, byte, bit, 8 - bit, 192 >> bit))
+    let width = (at.bit + 2).div_ceil(8) * 8 - at.bit;
+    let end = put(buf, at, width, 3 << (width - 2))?;
+    Ok(end.byte)
 }

@@ -4,8 +4,7 @@
 
 ghost use Rattle.std.specs.Prelude.{◌≡◌, IfOk, vec_len};
 
-use file_io::Input;
-use rules::{RecordAnswer, Verdict};
+use rules::Verdict;
 use std::alloc::{AllocError, Global};
 use std::io;
 
@@ -19,28 +18,18 @@ fn recording_buffer(alloc: Global) -> Result<Vec<u8>, AllocError>
 // Writes the recording of a trace; a bad trace is told on standard error.
 fn write_recording(rt: &(impl Print + Eprint + AllocGlobal), trace: &[u8]) -> io::Result<()> {
     let mut out = recording_buffer(rt.alloc())?;
-    let answer = record_trace::record(trace, &mut out);
-    match answer {
-        RecordAnswer::Recorded(n) => {
-            let len = page::within(n, &out);
-            rt.write_all(&out[..len])
-        }
-        RecordAnswer::Refused(why) => {
-            file_io::warn(rt, answer_words::verdict_line(Verdict::Refused(why)))
-        }
+    match record_trace::record(trace, &mut out) {
+        Ok(n) => rt.write_all(&out[..page::within(n, &out)]),
+        Err(why) => file_io::warn(rt, answer_words::verdict_line(Verdict::Refused(why))),
     }
 }
 
 // Answers whether all of the input was read; where it was not, that is told on standard error.
 pub fn run(rt: &(impl io::Input + Print + Eprint + AllocGlobal)) -> io::Result<bool> {
     let mut bytes = file_io::input_buffer(rt.alloc())?;
-    let input = file_io::read_input(rt, &mut bytes)?;
-    match input {
-        Input::Whole(n) => {
-            let len = page::within(n, &bytes);
-            write_recording(rt, &bytes[..len])?;
-            Ok(true)
-        }
-        Input::Told => Ok(false),
-    }
+    let Some(n) = file_io::read_input(rt, &mut bytes)? else {
+        return Ok(false);
+    };
+    write_recording(rt, &bytes[..page::within(n, &bytes)])?;
+    Ok(true)
 }

@@ -15,8 +15,8 @@ use Rattle.laws.proofs.Fields.{AreBytes}
 use Rattle.ascii.specs.Hex.{is_hex, hex_of}
 use Rattle.rules.specs.declared.Call.{Call}
 use Rattle.rules.specs.declared.Call.TheVariants.{Posts, Units}
-use Rattle.rules.specs.Recordings.{Place, call_bits, recordable, bit_at, place_after, written, appended_to}
-use Rattle.record_call.specs.Places.{place}
+use Rattle.rules.specs.declared.Place.{Place}
+use Rattle.rules.specs.Recordings.{call_bits, recordable, bit_at, place_after, written, appended_to}
 use Rattle.record_call.proofs.Widths.{call_bits_lem, calls_bits}
 use Rattle.record_call.proofs.Written.{place_same, place_more, place_bit, written_none, written_more, written_bytes, written_length, appended_is}
 use Rattle.trace_bytes.specs.declared.Heard.{Heard}
@@ -62,27 +62,27 @@ bad_stays t e (b ∷ l) = ap (λ (bad : Bool). taking_on (cond bad t (taking_nex
 
 pub record Taken (p : Place) (s : Script) (t : Taking) : Type 0 where
   pub bad : (t.bad || t.waiting) ≡ s.bad
-  pub end : s.bad ≡ false → place t.byte t.bit ≡ place_after p (length (flat call_bits s.calls))
+  pub end : s.bad ≡ false → t.place ≡ place_after p (length (flat call_bits s.calls))
 
-pub taken : (byte bit : ℕ) (waiting : Bool) (l : List ℕ) → bit < 8 → Taken (place byte bit) (hearing waiting l) (taking_on (taking byte bit waiting false) l)
+pub taken : (p : Place) (waiting : Bool) (l : List ℕ) → p.bit < 8 → Taken p (hearing waiting l) (taking_on (taking p waiting false) l)
 unfolding taking_on taking_after hearing flat place_after
-taken byte bit true [] h = record { bad = refl; end = λ e. absurd (true≢false e) }
-taken byte bit false [] h = record { bad = refl; end = λ e. sym (place_same (place byte bit) h) }
-taken byte bit waiting (b ∷ l) h =
-    go (heard_of waiting b) (taken byte bit false l h) (taken byte bit true l h) (λ (c : Call). let q : Place = place_after (place byte bit) (length (call_bits c)) in taken q.byte q.bit false l (omega arith))
+taken p true [] h = record { bad = refl; end = λ e. absurd (true≢false e) }
+taken p false [] h = record { bad = refl; end = λ e. sym (place_same p h) }
+taken p waiting (b ∷ l) h =
+    go (heard_of waiting b) (taken p false l h) (taken p true l h) (λ (c : Call). let q : Place = place_after p (length (call_bits c)) in taken q false l (omega arith))
   where
-    go : (x : Heard) → Taken (place byte bit) (hearing false l) (taking_on (taking byte bit false false) l) → Taken (place byte bit) (hearing true l) (taking_on (taking byte bit true false) l)
-        → ((c : Call) → Taken (place_after (place byte bit) (length (call_bits c))) (hearing false l) (taking_on (taking_past (taking byte bit waiting false) c) l))
-        → Taken (place byte bit) (heard_then x (hearing false l) (hearing true l)) (taking_on (taking_next (taking byte bit waiting false) x) l)
+    go : (x : Heard) → Taken p (hearing false l) (taking_on (taking p false false) l) → Taken p (hearing true l) (taking_on (taking p true false) l)
+        → ((c : Call) → Taken (place_after p (length (call_bits c))) (hearing false l) (taking_on (taking_past (taking p waiting false) c) l))
+        → Taken p (heard_then x (hearing false l) (hearing true l)) (taking_on (taking_next (taking p waiting false) x) l)
     go Skip e f g = e
     go More e f g = f
     go (Makes c) e f g =
         record {
           bad = (g c).bad;
-          end = λ x. (g c).end x ∙ place_more (place byte bit) (length (call_bits c)) (length (flat call_bits (hearing false l).calls))
-              ∙ ap (place_after (place byte bit)) (sym (length-append (call_bits c) (flat call_bits (hearing false l).calls)));
+          end = λ x. (g c).end x ∙ place_more p (length (call_bits c)) (length (flat call_bits (hearing false l).calls))
+              ∙ ap (place_after p) (sym (length-append (call_bits c) (flat call_bits (hearing false l).calls)));
         }
-    go Bad e f g = rw (bad_stays (taking byte bit false true) refl l) (record { bad = refl; end = λ x. absurd (true≢false x) })
+    go Bad e f g = rw (bad_stays (taking p false true) refl l) (record { bad = refl; end = λ x. absurd (true≢false x) })
 
 -- ---- the buffer with the calls in it
 
@@ -103,19 +103,19 @@ put_step p buffer c s more h hb ok g e room =
     ∙ g (written buffer p w) (written_bytes buffer p w (call_bits_lem c) (omega arith)) e (omega (arith, place_bit p (length w), written_length buffer p w))
     ∙ written_more buffer p w rest (call_bits_lem c) (calls_bits s.calls) (omega arith)
 
-pub puts : (byte bit : ℕ) (waiting : Bool) (l buffer : List ℕ) → bit < 8 → AreBytes buffer → Puts (place byte bit) buffer (hearing waiting l) (put_on (taking byte bit waiting false) l buffer)
+pub puts : (p : Place) (waiting : Bool) (l buffer : List ℕ) → p.bit < 8 → AreBytes buffer → Puts p buffer (hearing waiting l) (put_on (taking p waiting false) l buffer)
 unfolding taking_after put_on put_after hearing flat place_after
-puts byte bit true [] buffer h hb = λ e r. absurd (true≢false e)
-puts byte bit false [] buffer h hb = λ e r. written_none buffer (place byte bit) hb (omega (arith, r))
-puts byte bit waiting (b ∷ l) buffer h hb =
-    go (heard_of waiting b) (heard_records waiting b) (puts byte bit false l buffer h hb) (puts byte bit true l buffer h hb)
-    (λ (c : Call) (old : List ℕ) ho. let q : Place = place_after (place byte bit) (length (call_bits c)) in puts q.byte q.bit false l old (omega arith) ho)
+puts p true [] buffer h hb = λ e r. absurd (true≢false e)
+puts p false [] buffer h hb = λ e r. written_none buffer p hb (omega (arith, r))
+puts p waiting (b ∷ l) buffer h hb =
+    go (heard_of waiting b) (heard_records waiting b) (puts p false l buffer h hb) (puts p true l buffer h hb)
+    (λ (c : Call) (old : List ℕ) ho. let q : Place = place_after p (length (call_bits c)) in puts q false l old (omega arith) ho)
   where
-    go : (x : Heard) → records x ≡ true → Puts (place byte bit) buffer (hearing false l) (put_on (taking byte bit false false) l buffer)
-        → Puts (place byte bit) buffer (hearing true l) (put_on (taking byte bit true false) l buffer)
-        → ((c : Call) (old : List ℕ) → AreBytes old → Puts (place_after (place byte bit) (length (call_bits c))) old (hearing false l) (put_on (taking_past (taking byte bit waiting false) c) l old))
-        → Puts (place byte bit) buffer (heard_then x (hearing false l) (hearing true l)) (put_on (taking_next (taking byte bit waiting false) x) l (put_next (taking byte bit waiting false) x buffer))
+    go : (x : Heard) → records x ≡ true → Puts p buffer (hearing false l) (put_on (taking p false false) l buffer)
+        → Puts p buffer (hearing true l) (put_on (taking p true false) l buffer)
+        → ((c : Call) (old : List ℕ) → AreBytes old → Puts (place_after p (length (call_bits c))) old (hearing false l) (put_on (taking_past (taking p waiting false) c) l old))
+        → Puts p buffer (heard_then x (hearing false l) (hearing true l)) (put_on (taking_next (taking p waiting false) x) l (put_next (taking p waiting false) x buffer))
     go Skip ok e f g = e
     go More ok e f g = f
-    go (Makes c) ok e f g = put_step (place byte bit) buffer c (hearing false l) (put_on (taking_past (taking byte bit waiting false) c) l) h hb ok (g c)
+    go (Makes c) ok e f g = put_step p buffer c (hearing false l) (put_on (taking_past (taking p waiting false) c) l) h hb ok (g c)
     go Bad ok e f g = λ x r. absurd (true≢false x)

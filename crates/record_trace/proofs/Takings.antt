@@ -1,14 +1,15 @@
 -- A trace taken byte by byte: the turns of the two loops.
 -- Assumes nothing.
-use Prim.Native.Nat.{ℕ, ◌+◌, ◌/◌, ◌%◌, ◌≤◌, ◌<◌}
+use Prim.Native.Nat.{ℕ, ◌+◌, ◌/◌, ◌%◌, ◌^◌, ◌≤◌, ◌<◌, min}
 use native.Mathlib.Omega.{arith}
 use native.Mathlib.Numerals.{add-one}
 use mathlib.Core.Bool.{Bool, true, false, cond}
 use mathlib.Core.List.{List, [], ◌∷◌}
-use mathlib.Core.Path.{◌≡◌, ap, sym, ◌∙◌}
+use mathlib.Core.Path.{◌≡◌, ap, ap₂, sym, ◌∙◌}
 use lib.ListN.{length, get_or, drop, drop_of_length-le}
 use lib.Seq.{drop-cons}
 use Rattle.rules.specs.declared.Call.{Call}
+use Rattle.rules.specs.declared.Place.{Place}
 use Rattle.rules.specs.Recordings.{call_bits, place_after}
 use Rattle.record_call.proofs.Widths.{call_width}
 use Rattle.trace_bytes.specs.declared.Heard.{Heard}
@@ -19,9 +20,12 @@ use Rattle.record_trace.specs.Taking.{taking, taking_first, taking_past, taking_
 
 -- ---- a byte
 
-pub past_is : (t : Taking) (c : Call) (n : ℕ) → n ≡ t.bit + length (call_bits c) → taking (t.byte + n / 8) (n % 8) false false ≡ taking_past t c
+-- the place behind a call is one that the machine has numbers for
+pub past_is : (t : Taking) (c : Call) (q : Place) (w : ℕ) → t.place.bit < 8 → t.place.byte + 1 < 2 ^ 64 → w ≡ length (call_bits c)
+    → q.byte ≡ min (t.place.byte + (t.place.bit + w) / 8) 18446744073709551615 → q.bit ≡ (t.place.bit + w) % 8 → taking q false false ≡ taking_past t c
 unfolding place_after
-past_is t c n e = rw e
+past_is t c q w h g e eb ei =
+    ap₂ (λ (a b : ℕ). taking (record { byte = a; bit = b }) false false) (omega (arith, call_width c)) (ei ∙ ap (λ (n : ℕ). (t.place.bit + n) % 8) e)
 
 module _ (t : Taking) (b : ℕ) where
   pub take_live : (h : Heard) (r : Taking) → t.bad ≡ false → h ≡ heard_of t.waiting b → r ≡ taking_next t h → r ≡ taking_after t b
@@ -43,8 +47,8 @@ module _ (t : Taking) (b : ℕ) where
 -- ---- the place stays one, and moves by a byte at most
 
 pub record Within (t : Taking) (i : ℕ) : Type 0 where
-  pub bit : t.bit < 8
-  pub byte : t.byte ≤ i
+  pub bit : t.place.bit < 8
+  pub byte : t.place.byte ≤ i
 
 next_within : (t : Taking) (i : ℕ) (h : Heard) → Within t i → Within (taking_next t h) (i + 1)
 unfolding place_after

@@ -1,6 +1,6 @@
 -- A trace's recording as a whole: the answer, and the buffer.
 -- Assumes nothing.
-use Prim.Native.Nat.{ℕ, ◌+◌, ◌-◌, ◌*◌, ◌/◌, ◌≤◌, ◌<◌}
+use Prim.Native.Nat.{ℕ, ◌+◌, ◌-◌, ◌*◌, ◌≤◌, ◌<◌}
 use native.Mathlib.Omega.{arith}
 use mathlib.Core.Bool.{Bool, true, false, ◌||◌}
 use mathlib.Core.List.{List}
@@ -12,11 +12,11 @@ use Rattle.laws.specs.Lists.{flat}
 use Rattle.laws.specs.Bits.{bytes_for}
 use Rattle.laws.proofs.Fields.{AreBytes}
 use Rattle.rules.specs.declared.Call.{Call}
+use Rattle.rules.specs.declared.Place.{Place}
 use Rattle.rules.specs.declared.Refusal.TheVariants.{BadByte, ShortBuffer}
-use Rattle.rules.specs.declared.RecordAnswer.{RecordAnswer}
-use Rattle.rules.specs.declared.RecordAnswer.TheVariants.{Recorded, Refused as NotRecorded}
+use Rattle.std.specs.Prelude.{Result, Ok, Err}
+use Rattle.rules.specs.declared.Refusal.{Refusal}
 use Rattle.rules.specs.Recordings.{call_bits, recording_of, bit_at, place_after, first_place, written, finish_of, finished_to, record_of, recorded_by}
-use Rattle.record_call.specs.Places.{place}
 use Rattle.record_call.proofs.Written.{place_bit}
 use Rattle.record_call.proofs.Finishing.{bytes_are, finishes, finished}
 use Rattle.trace_bytes.specs.Scripts.{Script, script_of}
@@ -29,15 +29,15 @@ use Rattle.record_trace.proofs.Scripts.{Taken, taken, puts}
 
 -- ---- whether there is room
 
-pub room_none : (len byte bit : ℕ) → len < byte → false ≡ leb (byte + bytes_for (bit + 2)) len
-room_none len byte bit h = sym (lt-leb (byte + bytes_for (bit + 2)) len (omega arith))
+pub room_none : (len : ℕ) (p : Place) → len < p.byte → false ≡ leb (p.byte + bytes_for (p.bit + 2)) len
+room_none len p h = sym (lt-leb (p.byte + bytes_for (p.bit + 2)) len (omega arith))
 
-pub room_rest : (len byte bit : ℕ) → byte ≤ len → leb ((bit + 9) / 8) (len - byte) ≡ leb (byte + bytes_for (bit + 2)) len
-room_rest len byte bit h = go (leb (byte + bytes_for (bit + 2)) len) refl
+pub room_rest : (len n : ℕ) (p : Place) → n ≡ bytes_for (p.bit + 2) → p.byte ≤ len → leb n (len - p.byte) ≡ leb (p.byte + bytes_for (p.bit + 2)) len
+room_rest len n p same h = go (leb (p.byte + bytes_for (p.bit + 2)) len) refl
   where
-    go : (t : Bool) → leb (byte + bytes_for (bit + 2)) len ≡ t → leb ((bit + 9) / 8) (len - byte) ≡ t
-    go true e = le-leb ((bit + 9) / 8) (len - byte) (omega (arith, leb-true (byte + bytes_for (bit + 2)) len e))
-    go false e = lt-leb ((bit + 9) / 8) (len - byte) (omega (arith, leb-false (byte + bytes_for (bit + 2)) len e))
+    go : (t : Bool) → leb (p.byte + bytes_for (p.bit + 2)) len ≡ t → leb n (len - p.byte) ≡ t
+    go true e = le-leb n (len - p.byte) (omega (arith, leb-true (p.byte + bytes_for (p.bit + 2)) len e))
+    go false e = lt-leb n (len - p.byte) (omega (arith, leb-false (p.byte + bytes_for (p.bit + 2)) len e))
 
 -- ---- the whole
 
@@ -45,52 +45,52 @@ module _ (trace old : List ℕ) (t : Taking) (et : t ≡ taking_on taking_first 
   abbrev script : Script
   script = script_of trace
 
-  abbrev pub Records : RecordAnswer → List ℕ → Type 0
+  abbrev pub Records : Result ℕ Refusal → List ℕ → Type 0
   Records a new = (a ≡ trace_record_of trace (length old)) × (new ≡ trace_recorded_to trace old)
 
-  by_answer : (a : RecordAnswer) (new : List ℕ) → a ≡ trace_record_of trace (length old) → new ≡ recorded_by a script.calls old → Records a new
+  by_answer : (a : Result ℕ Refusal) (new : List ℕ) → a ≡ trace_record_of trace (length old) → new ≡ recorded_by a script.calls old → Records a new
   unfolding trace_recorded_to
-  by_answer a new e f = (e, f ∙ ap (λ (x : RecordAnswer). recorded_by x script.calls old) e)
+  by_answer a new e f = (e, f ∙ ap (λ (x : Result ℕ Refusal). recorded_by x script.calls old) e)
 
-  as_script : Taken (place 0 0) script t
-  as_script = rw (et, script_heard trace) (taken 0 0 false trace (omega arith))
+  as_script : Taken first_place script t
+  as_script = rw (et, script_heard trace) (taken first_place false trace (omega arith))
 
-  pub small : t.bit < 8
+  pub small : t.place.bit < 8
   small = rw et (on_within trace taking_first 0 (record { bit = omega arith; byte = omega arith })).bit
 
-  pub bad_trace : (t.bad || t.waiting) ≡ true → Records (NotRecorded BadByte) old
+  pub bad_trace : (t.bad || t.waiting) ≡ true → Records (Err BadByte) old
   unfolding trace_record_of
-  bad_trace e = by_answer (NotRecorded BadByte) old (rw (sym as_script.bad ∙ e)) refl
+  bad_trace e = by_answer (Err BadByte) old (rw (sym as_script.bad ∙ e)) refl
 
   module _ (good : (t.bad || t.waiting) ≡ false) where
     is_good : script.bad ≡ false
     is_good = sym as_script.bad ∙ good
 
-    at_end : place t.byte t.bit ≡ place_after first_place (length (flat call_bits script.calls))
+    at_end : t.place ≡ place_after first_place (length (flat call_bits script.calls))
     at_end = as_script.end is_good
 
-    bytes : AreBytes old → length (recording_of script.calls) ≡ t.byte + bytes_for (t.bit + 2)
-    bytes ho = bytes_are script.calls old (place t.byte t.bit) ho at_end small
+    bytes : AreBytes old → length (recording_of script.calls) ≡ t.place.byte + bytes_for (t.place.bit + 2)
+    bytes ho = bytes_are script.calls old t.place ho at_end small
 
-    pub no_room : (r : Bool) → AreBytes old → r ≡ leb (t.byte + bytes_for (t.bit + 2)) (length old) → r ≡ false → Records (NotRecorded ShortBuffer) old
+    pub no_room : (r : Bool) → AreBytes old → r ≡ leb (t.place.byte + bytes_for (t.place.bit + 2)) (length old) → r ≡ false → Records (Err ShortBuffer) old
     unfolding trace_record_of record_of
     no_room r ho e f =
-        by_answer (NotRecorded ShortBuffer) old (rw (is_good, ap (λ (k : ℕ). leb k (length old)) (bytes ho) ∙ sym e ∙ f)) refl
+        by_answer (Err ShortBuffer) old (rw (is_good, ap (λ (k : ℕ). leb k (length old)) (bytes ho) ∙ sym e ∙ f)) refl
 
     calls_put : (new : List ℕ) → AreBytes old → bit_at first_place + length (flat call_bits script.calls) ≤ 8 * length old → new ≡ put_on taking_first trace old
         → new ≡ written old first_place (flat call_bits script.calls)
-    calls_put new ho h e = e ∙ (rw (script_heard trace) (puts 0 0 false trace old (omega arith) ho (sym (ap (λ (s : Script). s.bad) (script_heard trace)) ∙ is_good) (rw (script_heard trace) at h)))
+    calls_put new ho h e = e ∙ (rw (script_heard trace) (puts first_place false trace old (omega arith) ho (sym (ap (λ (s : Script). s.bad) (script_heard trace)) ∙ is_good) (rw (script_heard trace) at h)))
 
-    pub recorded : (r : Bool) (mid new : List ℕ) (a : RecordAnswer) → AreBytes old → r ≡ leb (t.byte + bytes_for (t.bit + 2)) (length old) → r ≡ true → mid ≡ put_on taking_first trace old
-        → a ≡ finish_of mid (place t.byte t.bit) → new ≡ finished_to mid (place t.byte t.bit) → Records a new
+    pub recorded : (r : Bool) (mid new : List ℕ) (a : Result ℕ Refusal) → AreBytes old → r ≡ leb (t.place.byte + bytes_for (t.place.bit + 2)) (length old) → r ≡ true → mid ≡ put_on taking_first trace old
+        → a ≡ finish_of mid t.place → new ≡ finished_to mid t.place → Records a new
     unfolding trace_record_of record_of
     recorded r mid new a ho e f em ea en =
         let calls : List Call = script.calls in
         let n : ℕ = length (recording_of calls) in
-        let room : n ≤ length old = omega (arith, bytes ho, leb-true (t.byte + bytes_for (t.bit + 2)) (length old) (sym e ∙ f)) in
+        let room : n ≤ length old = omega (arith, bytes ho, leb-true (t.place.byte + bytes_for (t.place.bit + 2)) (length old) (sym e ∙ f)) in
         let fit : bit_at first_place + length (flat call_bits calls) ≤ 8 * length old = omega (arith, bytes ho, ap bit_at at_end, place_bit first_place (length (flat call_bits calls))) in
         let put : mid ≡ written old first_place (flat call_bits calls) = calls_put mid ho fit em in
-        let done : a ≡ Recorded n = ea ∙ ap (λ (b : List ℕ). finish_of b (place t.byte t.bit)) put ∙ finishes calls old (place t.byte t.bit) ho at_end small room in
+        let done : a ≡ Ok n = ea ∙ ap (λ (b : List ℕ). finish_of b t.place) put ∙ finishes calls old t.place ho at_end small room in
         by_answer a new (done ∙ rw (is_good, le-leb n (length old) room))
-        (en ∙ ap (λ (b : List ℕ). finished_to b (place t.byte t.bit)) put ∙ finished calls old (place t.byte t.bit) ho at_end small room
-        ∙ ap (λ (x : RecordAnswer). recorded_by x calls old) (sym done))
+        (en ∙ ap (λ (b : List ℕ). finished_to b t.place) put ∙ finished calls old t.place ho at_end small room
+        ∙ ap (λ (x : Result ℕ Refusal). recorded_by x calls old) (sym done))

@@ -2,14 +2,14 @@
 -- Assumes nothing.
 use Rattle.std.specs.Prelude.{ℕ, cond, List, length}
 use Rattle.rules.specs.declared.Refusal.TheVariants.{BadByte}
-use Rattle.rules.specs.declared.RecordAnswer.{RecordAnswer}
-use Rattle.rules.specs.declared.RecordAnswer.TheVariants.{Refused as NotRecorded}
+use Rattle.std.specs.Prelude.{Result, Err}
+use Rattle.rules.specs.declared.Refusal.{Refusal}
 use Rattle.rules.specs.Recordings.{record_of, recorded_by}
 use Rattle.trace_bytes.specs.Scripts.{script_of}
 
 -- "a trace .., its recording": 9 for a trace with a byte that is no step, then 11 for a buffer of too few bytes
-unfoldable pub trace_record_of : List ℕ → ℕ → RecordAnswer
-trace_record_of trace room = cond (script_of trace).bad (NotRecorded BadByte) (record_of (script_of trace).calls room)
+unfoldable pub trace_record_of : List ℕ → ℕ → Result ℕ Refusal
+trace_record_of trace room = cond (script_of trace).bad (Err BadByte) (record_of (script_of trace).calls room)
 
 -- the buffer afterwards: the recording in front, and the rest as it was; unchanged where it was refused
 unfoldable pub trace_recorded_to : List ℕ → List ℕ → List ℕ

@@ -2,7 +2,6 @@
 // A read or a write that fails ends the replay, and is handed to the caller.
 #![tactic(auto)]
 
-use file_io::Input;
 use replay_lines::Replaying;
 use rules::ReadResult;
 use std::io;
@@ -19,8 +18,7 @@ pub fn begin(rt: &impl Print, r: ReadResult) -> io::Result<Replaying> {
 fn print_page(rt: &impl Print, recording: &[u8], r: Replaying) -> io::Result<Replaying> {
     let mut out = [0u8; file_io::LARGE_BUFFER];
     let filled = replay_lines::fill(recording, r, &mut out);
-    let len = page::within(filled.len, &out);
-    rt.write_all(&out[..len])?;
+    rt.write_all(&out[..page::within(filled.len, &out)])?;
     Ok(filled.replaying)
 }
 
@@ -42,13 +40,9 @@ fn print_steps(
     begun: Replaying,
 ) -> io::Result<()> {
     let mut bytes = file_io::input_buffer(rt.alloc())?;
-    let input = file_io::read_input(rt, &mut bytes)?;
-    match input {
-        Input::Whole(n) => {
-            let len = page::within(n, &bytes);
-            print_pages(rt, &bytes[..len], begun)
-        }
-        Input::Told => Ok(()),
+    match file_io::read_input(rt, &mut bytes)? {
+        Some(n) => print_pages(rt, &bytes[..page::within(n, &bytes)], begun),
+        None => Ok(()),
     }
 }
 

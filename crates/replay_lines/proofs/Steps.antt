@@ -7,8 +7,9 @@ use mathlib.Core.Bool.{Bool, true, false, cond}
 use mathlib.Core.List.{List, [], ◌++◌, append_assoc, append-nil}
 use lib.ListN.{length, take, drop, take-append-drop}
 use lib.Seq.{drop-drop, length-take-le}
-use Rattle.rules.specs.declared.ReplayAnswer.{ReplayAnswer}
-use Rattle.rules.specs.declared.ReplayAnswer.TheVariants.{Called, Ended, Refused}
+use Rattle.std.specs.Prelude.{Result, Ok, Err, Option, Some, None}
+use Rattle.rules.specs.declared.Refusal.{Refusal}
+use Rattle.rules.specs.declared.CallAnswer.{CallAnswer}
 use Rattle.rules.specs.declared.ReplayResult.{ReplayResult}
 use Rattle.rules.specs.Numbers.{call_says, number, ended, refused}
 use Rattle.line.specs.declared.Line.{Line}
@@ -25,7 +26,7 @@ use Rattle.replay_lines.specs.Replaying.{step_of_replay, goes_on, next_replaying
 pub step_turn : (recording : List ℕ) (r : Replaying) (q : ReplayResult) (l : Line) (live : Bool) → q ≡ step_of_replay recording r
     → l ≡ holding (replay_line r.state.clock q.answer) → live ≡ goes_on q.answer
     → ◌≡◌ {A = ReplayTurn}
-    (record { replaying = record { state = q.state; byte = q.byte; bit = q.bit; live = live }; line = l })
+    (record { replaying = record { state = q.state; place = q.place; live = live }; line = l })
     (record { replaying = next_replaying recording r; line = holding (next_line recording r) })
 step_turn recording r q l live e f g = rw (g, f, e)
 
@@ -42,10 +43,10 @@ unfolding replaying_after line_after
 stopped recording r l a e = rw (a, e)
 
 -- no step prints more than a line has room for
-answer_short : (clock : ℕ) (a : ReplayAnswer) → length (replay_line clock a) ≤ 128
-answer_short clock (Called a) = step_short clock (call_says a)
-answer_short clock Ended = line_short (says ended) (says_short ended)
-answer_short clock (Refused why) = line_short (says (refused (number why))) (says_short (refused (number why)))
+answer_short : (clock : ℕ) (a : Result (Option CallAnswer) Refusal) → length (replay_line clock a) ≤ 128
+answer_short clock (Ok (Some a)) = step_short clock (call_says a)
+answer_short clock (Ok None) = line_short (says ended) (says_short ended)
+answer_short clock (Err why) = line_short (says (refused (number why))) (says_short (refused (number why)))
 
 line_fits : (recording : List ℕ) (r : Replaying) → length (line_after recording r) ≤ 128
 unfolding line_after

@@ -2,19 +2,18 @@
 -- Assumes nothing.
 use Rattle.std.specs.Prelude.{ℕ, zero, suc, ◌/◌, ◌≡◌, Bool, true, false, cond, List, [], ◌++◌, length, drop}
 use Rattle.rules.specs.declared.Set.{Set}
-use Rattle.rules.specs.declared.State.{State}
 use Rattle.rules.specs.declared.ReadResult.{ReadResult}
 use Rattle.rules.specs.declared.Verdict.{Verdict}
-use Rattle.rules.specs.declared.ReplayAnswer.{ReplayAnswer}
-use Rattle.rules.specs.declared.ReplayAnswer.TheVariants.{Called, Ended, Refused}
+use Rattle.std.specs.Prelude.{Result, Ok, Err, Option, Some, None}
+use Rattle.rules.specs.declared.Refusal.{Refusal}
+use Rattle.rules.specs.declared.CallAnswer.{CallAnswer}
 use Rattle.rules.specs.declared.ReplayResult.{ReplayResult}
 use Rattle.rules.specs.Steps.{start_of}
-use Rattle.rules.specs.Recordings.{replay_step}
+use Rattle.rules.specs.Recordings.{first_place, replay_step}
 use Rattle.load_check.specs.Sheets.{SheetVerdict}
 use Rattle.line.specs.Line.{line_room, holding}
 use Rattle.answer_words.specs.Words.{replay_line}
 use Rattle.trace_steps.specs.Turns.{verdict_line, was_read}
-use Rattle.record_call.specs.Places.{place}
 use Rattle.replay_lines.specs.declared.Replaying.{Replaying}
 use Rattle.replay_lines.specs.declared.ReplayTurn.{ReplayTurn}
 
@@ -22,7 +21,7 @@ use Rattle.replay_lines.specs.declared.ReplayTurn.{ReplayTurn}
 
 -- from the start of the set, at the recording's first bit
 abbrev pub replaying_from : Set → Bool → Replaying
-replaying_from x live = record { state = (start_of x).state; byte = 0; bit = 0; live = live }
+replaying_from x live = record { state = (start_of x).state; place = first_place; live = live }
 
 -- "the verdict first": the line and the replay at the beginning; a refused sheet's has stopped
 pub record Begun (r : ReadResult) (t : ReplayTurn) : Type 0 where
@@ -34,16 +33,16 @@ pub record Begun (r : ReadResult) (t : ReplayTurn) : Type 0 where
 -- ---- a step
 
 abbrev pub step_of_replay : List ℕ → Replaying → ReplayResult
-step_of_replay recording r = replay_step r.state recording (place r.byte r.bit)
+step_of_replay recording r = replay_step r.state recording r.place
 
 -- "then `end` or `refused 13` or `refused 14`": a call goes on, whatever it answers
-abbrev pub goes_on : ReplayAnswer → Bool
-goes_on (Called a) = true
-goes_on Ended = false
-goes_on (Refused why) = false
+abbrev pub goes_on : Result (Option CallAnswer) Refusal → Bool
+goes_on (Ok (Some a)) = true
+goes_on (Ok None) = false
+goes_on (Err why) = false
 
 abbrev pub behind_step : ReplayResult → Replaying
-behind_step q = record { state = q.state; byte = q.byte; bit = q.bit; live = goes_on q.answer }
+behind_step q = record { state = q.state; place = q.place; live = goes_on q.answer }
 
 abbrev pub next_replaying : List ℕ → Replaying → Replaying
 next_replaying recording r = behind_step (step_of_replay recording r)

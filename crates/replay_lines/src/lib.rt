@@ -6,14 +6,13 @@ ghost use Rattle.line.specs.Line.{holding};
 ghost use Rattle.replay_lines.specs.Replaying.{Begun, goes_on, next_replaying, next_line, replaying_after, line_after, PageFilled};
 
 use line::Line;
-use rules::{ReadResult, ReplayAnswer, State};
+use rules::{CallAnswer, Place, ReadResult, Refusal, State};
 
 // A replay under way: the scheduler's state, the reader's place in the recording, and whether the replay goes on.
 #[derive(Clone, Copy)]
 pub struct Replaying {
     pub state: State,
-    pub byte: usize,
-    pub bit: u32,
+    pub place: Place,
     pub live: bool,
 }
 
@@ -31,45 +30,36 @@ pub fn begin_replay(r: ReadResult) -> ReplayTurn
     ensures { Begun r result }
 {
     let first = trace_steps::begin_trace(r);
-    let line = first.line;
-    let tracing = first.tracing;
-    let state = tracing.state;
     let replaying = Replaying {
-        state,
-        byte: 0,
-        bit: 0,
-        live: tracing.live,
+        state: first.tracing.state,
+        place: Place { byte: 0, bit: 0 },
+        live: first.tracing.live,
     };
-    ReplayTurn { replaying, line }
+    ReplayTurn {
+        replaying,
+        line: first.line,
+    }
 }
 
 // ---- a step
 
 // End and a refusal of the replay itself stop it; a call does not, whatever it answers.
-fn goes_on(a: ReplayAnswer) -> bool
+fn goes_on(a: Result<Option<CallAnswer>, Refusal>) -> bool
     ensures { result ≡ goes_on a }
 {
-    match a {
-        ReplayAnswer::Called(_) => true,
-        ReplayAnswer::Ended => false,
-        ReplayAnswer::Refused(_) => false,
-    }
+    matches!(a, Ok(Some(_)))
 }
 
 fn stepped(recording: &[u8], r: Replaying) -> ReplayTurn
     ensures { result ≡ record { replaying = next_replaying recording.now r; line = holding (next_line recording.now r) } }
 {
-    let s = r.state;
-    let clock = s.clock;
-    let q = replay_step::step(recording, r.byte, r.bit, s);
-    let answer = q.answer;
-    let state = q.state;
-    let line = answer_words::replay_line(clock, answer);
+    let clock = r.state.clock;
+    let q = replay_step::step(recording, r.place, r.state);
+    let line = answer_words::replay_line(clock, q.answer);
     let replaying = Replaying {
-        state,
-        byte: q.byte,
-        bit: q.bit,
-        live: goes_on(answer),
+        state: q.state,
+        place: q.place,
+        live: goes_on(q.answer),
     };
     ReplayTurn { replaying, line }
 }
@@ -78,12 +68,13 @@ fn stepped(recording: &[u8], r: Replaying) -> ReplayTurn
 pub fn take_step(recording: &[u8], r: Replaying) -> ReplayTurn
     ensures { result ≡ record { replaying = replaying_after recording.now r; line = holding (line_after recording.now r) } }
 {
-    let live = r.live;
-    if live {
+    if r.live {
         stepped(recording, r)
     } else {
-        let line = line::blank();
-        ReplayTurn { replaying: r, line }
+        ReplayTurn {
+            replaying: r,
+            line: line::blank(),
+        }
     }
 }
 
@@ -100,17 +91,13 @@ pub struct Filled {
 pub fn fill(recording: &[u8], replaying: Replaying, out: &mut [u8]) -> Filled
     ensures { PageFilled recording.now replaying out.old result.replaying result.len out.new }
 {
-    let steps = out.len() / line::ROOM;
     let mut r = replaying;
     let mut at = 0;
-    let mut i = 0;
-    while i < steps {
+    let steps = out.len() / line::ROOM;
+    for _ in 0..steps {
         let t = take_step(recording, r);
-        let line = t.line;
-        let next = t.replaying;
-        at = page::append(out, at, line);
-        r = next;
-        i += 1;
+        at = page::append(out, at, t.line);
+        r = t.replaying;
     }
     Filled {
         replaying: r,

@@ -4,20 +4,19 @@
 ghost use Rattle.std.specs.Prelude.{◌≡◌};
 ghost use Rattle.replay_reader.specs.Readers.{at_start, next_of};
 
-use rules::{ReplayAnswer, State};
+use rules::{CallAnswer, Place, Refusal, State};
 
-// A lent recording, and the place of the next step in it: a byte, and a bit behind its first.
+// A lent recording, and the place of the next step in it.
 #[derive(Clone, Copy)]
 pub struct Reader<'a> {
     pub recording: &'a [u8],
-    pub byte: usize,
-    pub bit: u32,
+    pub place: Place,
 }
 
 // What a step gives: the answer, the state, and the reader.
 #[derive(Clone, Copy)]
 pub struct Step<'a> {
-    pub answer: ReplayAnswer,
+    pub answer: Result<Option<CallAnswer>, Refusal>,
     pub state: State,
     pub reader: Reader<'a>,
 }
@@ -28,8 +27,7 @@ pub fn make<'a>(recording: &'a [u8]) -> Reader<'a>
 {
     Reader {
         recording,
-        byte: 0,
-        bit: 0,
+        place: Place { byte: 0, bit: 0 },
     }
 }
 
@@ -37,14 +35,13 @@ pub fn make<'a>(recording: &'a [u8]) -> Reader<'a>
 pub fn next<'a>(r: Reader<'a>, s: State) -> Step<'a>
     ensures { result ≡ next_of r.entry s }
 {
-    let step = replay_step::step(r.recording, r.byte, r.bit, s);
+    let step = replay_step::step(r.recording, r.place, s);
     Step {
         answer: step.answer,
         state: step.state,
         reader: Reader {
             recording: r.recording,
-            byte: step.byte,
-            bit: step.bit,
+            place: step.place,
         },
     }
 }

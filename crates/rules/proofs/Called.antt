@@ -5,12 +5,15 @@ use mathlib.Core.Path.{◌≡◌, refl}
 use mathlib.Core.List.{List, [], ◌∷◌}
 use Rattle.laws.specs.Lists.{All}
 use Rattle.rules.specs.declared.Set.{Set}
-use Rattle.rules.specs.declared.OpenResult.{OpenResult}
-use Rattle.rules.specs.declared.GoResult.{GoResult}
+use Rattle.std.specs.Prelude.{Result}
+use Rattle.rules.specs.declared.Position.{Position}
+use Rattle.rules.specs.declared.Progress.{Progress}
+use Rattle.rules.specs.declared.Refusal.{Refusal}
+use Rattle.rules.specs.declared.Verdict.{Verdict}
 use Rattle.rules.specs.Streams.{empty_set}
 use Rattle.rules.specs.Load.{greatest_deadline, stream_offset, greatest_offset, last_length}
 use Rattle.rules.specs.Numbers.{Says, open_says, go_says, overload, refused, opened, tested, tested_accept, tested_late}
-use Rattle.rules.specs.Resumed.{at, no_position, OpenOf, GoOf}
+use Rattle.rules.specs.Resumed.{at, OpenOf, GoOf}
 use Rattle.rules.proofs.Examples.{set_b, computed}
 use Rattle.rules.proofs.Cycles.{h_of}
 use Rattle.rules.proofs.Yard.{pair, unit_each, unit_twice, long_cycles, ◌and◌}
@@ -22,12 +25,12 @@ pub data Row : Type 0 where
   goes : Set → ℕ → ℕ → Says → Row
 
 pub record OpensSo (x : Set) (says : Says) : Type 0 where
-  pub given : OpenResult
+  pub given : Result Position Verdict
   pub is_opening : OpenOf x given
-  pub in_words : open_says given.answer ≡ says
+  pub in_words : open_says given ≡ says
 
 pub record GoesSo (x : Set) (i n : ℕ) (says : Says) : Type 0 where
-  pub given : GoResult
+  pub given : Result Progress Refusal
   pub is_call : GoOf (at x i) n given
   pub in_words : go_says given ≡ says
 
@@ -58,7 +61,7 @@ called =
 
 -- a row that antt computes
 abbrev Computes : Row → Type 0
-Computes (opens x says) = open_says (open_of x).answer ≡ says
+Computes (opens x says) = open_says (open_of x) ≡ says
 Computes (goes x i n says) = go_says (go_of (at x i) n) ≡ says
 
 worked : (rows : List Row) → All Computes rows → All True rows
@@ -67,7 +70,7 @@ worked (opens x says ∷ rows) c = (record { given = open_of x; is_opening = ope
 worked (goes x i n says ∷ rows) c = (record { given = go_of (at x i) n; is_call = go_right (at x i) n; in_words = c.0 }, worked rows c.1)
 
 pub called_true : All True called
-unfolding computed open_of go_of go_from no_position h_of last_length greatest_deadline greatest_offset stream_offset
+unfolding computed open_of go_of go_from h_of last_length greatest_deadline greatest_offset stream_offset
 called_true =
     worked called
     (refl and refl and refl and refl and refl and refl and refl and refl and refl and refl

@@ -6,10 +6,11 @@ use mathlib.Core.Path.{◌≡◌, refl, ap}
 use Rattle.rules.specs.declared.State.{State}
 use Rattle.rules.specs.declared.Call.{Call}
 use Rattle.rules.specs.declared.Call.TheVariants.{Posts, Units}
-use Rattle.rules.specs.declared.PostAnswer.{PostAnswer}
-use Rattle.rules.specs.declared.PostAnswer.TheVariants.{Posted, Refused as PostRefused}
-use Rattle.rules.specs.declared.UnitAnswer.{UnitAnswer}
-use Rattle.rules.specs.declared.UnitAnswer.TheVariants.{Ran, Passed, Finished, Cut, Idle, Refused as UnitRefused}
+use Rattle.std.specs.Prelude.{Result, Ok, Err}
+use Rattle.rules.specs.declared.Posted.{Posted}
+use Rattle.rules.specs.declared.Outcome.{Outcome}
+use Rattle.rules.specs.declared.Refusal.{Refusal}
+use Rattle.rules.specs.declared.Outcome.TheVariants.{Ran, Passed, Finished, Cut, Idle}
 use Rattle.rules.specs.Steps.{post_of, unit_of, call_of}
 use Rattle.rules.specs.Runs.{Accepted, Departure, Event, accepts, leaves, accepted_of, departures_of, Run, after_post, after_unit, step_of}
 
@@ -39,17 +40,17 @@ departures_same (leaves e ∷ es) p = ap (λ (l : List Departure). e ∷ l) (dep
 
 -- ---- the state after a step
 
-post_state : (r : Run) (k : ℕ) (s : State) (a : PostAnswer) → (after_post r k s a).state ≡ s
-post_state r k s (Posted j d) = refl
-post_state r k s (PostRefused why) = refl
+post_state : (r : Run) (k : ℕ) (s : State) (a : Result Posted Refusal) → (after_post r k s a).state ≡ s
+post_state r k s (Ok p) = refl
+post_state r k s (Err why) = refl
 
-unit_state : (r : Run) (s : State) (a : UnitAnswer) → (after_unit r s a).state ≡ s
-unit_state r s (Ran t k) = refl
-unit_state r s (Passed t k) = refl
-unit_state r s (Finished t k l) = refl
-unit_state r s (Cut t k l) = refl
-unit_state r s Idle = refl
-unit_state r s (UnitRefused why) = refl
+unit_state : (r : Run) (s : State) (a : Result Outcome Refusal) → (after_unit r s a).state ≡ s
+unit_state r s (Ok (Ran t k)) = refl
+unit_state r s (Ok (Passed t k)) = refl
+unit_state r s (Ok (Finished t k l)) = refl
+unit_state r s (Ok (Cut t k l)) = refl
+unit_state r s (Ok Idle) = refl
+unit_state r s (Err why) = refl
 
 pub step_state : (r : Run) (c : Call) → (step_of r c).state ≡ (call_of r.state c).state
 unfolding step_of call_of

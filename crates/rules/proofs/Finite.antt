@@ -9,7 +9,8 @@ use mathlib.Core.List.{List}
 use mathlib.Core.Bool.{false}
 use lib.Dec.{leb}
 use borrow.Author.Tests.{le-leb, lt-leb}
-use Rattle.laws.specs.Lists.{below, any, sum, top, All}
+use Rattle.std.specs.List.{list_any}
+use Rattle.laws.specs.Lists.{below, sum, top, All}
 use Rattle.laws.proofs.Sums.{all_map, all_zip, all_each, sum_split, sum_zero, sum_mul, top_each, top_zero, cond_zero, any_none, and_no}
 use Rattle.rules.specs.declared.Tuple.{Tuple}
 use Rattle.rules.specs.declared.Tuple.TheVariants.{Once, Every}
@@ -103,7 +104,7 @@ blocks_none t i s le = simp (le-leb s.deadline i le)
 pub blocking_none : (ss : List Stream) (i t : ℕ) → greatest_deadline ss ≤ i → blocking ss i t ≡ 0
 unfolding blocking greatest_deadline
 blocking_none ss i t le =
-    cond_zero (any (urgent t i) ss) (top (blocks t i) ss)
+    cond_zero (list_any (urgent t i) ss) (top (blocks t i) ss)
     (top_zero (blocks t i) ss (all_map (λ s. s.deadline ≤ i) (λ s. blocks t i s ≡ 0) ss (blocks_none t i) (top_each deadline_of i ss le)))
 
 pub blockings_none : (ss : List Stream) (i : ℕ) (ts : List ℕ) → greatest_deadline ss ≤ i → sum (blocking ss i) ts ≡ 0

@@ -8,7 +8,7 @@ use lib.IntN.{pos}
 use lib.ListN.{replicate}
 use Rattle.rules.specs.declared.Call.{Call}
 use Rattle.rules.specs.declared.Call.TheVariants.{Posts, Units}
-use Rattle.rules.specs.declared.Owner.{Owner}
+use Rattle.rules.specs.declared.Party.{Party}
 use Rattle.rules.specs.declared.Party.TheVariants.{Theirs}
 use Rattle.rules.specs.declared.Places.{Places}
 use Rattle.rules.specs.declared.Set.{Set}
@@ -23,18 +23,18 @@ use Rattle.rules.specs.Sheet.{set_of}
 use Rattle.rules.proofs.Examples.{set_b, stream, computed}
 use Rattle.rules.specs.declared.Tuple.TheVariants.{Once}
 
-abbrev theirs : Owner
-theirs = record { party = Theirs }
+abbrev theirs : Party
+theirs = Theirs
 
 abbrev places : ℕ → ℕ → Places
 places a b = record { ours = a; theirs = b }
 
 -- the middle stream is theirs, and a place that set B does not use
-abbrev given : List Owner
+abbrev given : List Party
 given = ours ∷ theirs ∷ ours ∷ theirs ∷ replicate 12 ours
 
 -- what the set does not have is taken as ours
-abbrev pub owners_b : List Owner
+abbrev pub owners_b : List Party
 owners_b = ours ∷ theirs ∷ ours ∷ replicate 13 ours
 
 abbrev start_b : Start

@@ -7,11 +7,11 @@ use mathlib.Core.Path.{◌≡◌, refl}
 use Rattle.rules.specs.declared.Call.{Call}
 use Rattle.rules.specs.declared.Call.TheVariants.{Posts, Units}
 use Rattle.rules.specs.declared.Refusal.TheVariants.{NoStream, ShortBuffer, IllFormed, StopsEarly, Trailing}
-use Rattle.rules.specs.declared.AppendAnswer.TheVariants.{Appended, Refused as NotAppended}
-use Rattle.rules.specs.declared.RecordAnswer.TheVariants.{Recorded, Refused as NotRecorded}
+use Rattle.std.specs.Prelude.{Ok, Err}
 use Rattle.rules.specs.Steps.{fresh}
 use Rattle.rules.specs.Numbers.{Says, refused, posted, ended, replay_says}
-use Rattle.rules.specs.Recordings.{Place, recording_of, replay_step, Tape, Stop, ends, refused as refuses, tape_of, append_of, appended_to, finish_of, finished_to, record_of, recorded_to}
+use Rattle.rules.specs.declared.Place.{Place}
+use Rattle.rules.specs.Recordings.{recording_of, replay_step, Tape, Stop, ends, refused as refuses, tape_of, append_of, appended_to, finish_of, finished_to, record_of, recorded_to}
 use Rattle.rules.proofs.Examples.{set_b, computed}
 use Rattle.rules.proofs.Runs.{trace_b}
 
@@ -55,7 +55,7 @@ place byte bit = record { byte = byte; bit = bit }
 pub appends :
     (append_of (0xaa ∷ 0xaa ∷ []) (place 0 6) (Units false) ∷ append_of (0xaa ∷ 0xaa ∷ []) (place 0 6) (Posts 15) ∷ append_of (0xaa ∷ 0xaa ∷ []) (place 1 3) (Posts 15)
     ∷ append_of (0xaa ∷ 0xaa ∷ []) (place 1 3) (Posts 16) ∷ append_of (0xaa ∷ 0xaa ∷ []) (place 2 1) (Posts 16) ∷ [])
-    ≡ (Appended 1 0 ∷ Appended 1 4 ∷ NotAppended ShortBuffer ∷ NotAppended NoStream ∷ NotAppended IllFormed ∷ [])
+    ≡ (Ok (record { byte = 1; bit = 0 }) ∷ Ok (record { byte = 1; bit = 4 }) ∷ Err ShortBuffer ∷ Err NoStream ∷ Err IllFormed ∷ [])
 unfolding computed
 appends = refl
 
@@ -70,7 +70,7 @@ appended = refl
 pub finishes :
     (finish_of (0xff ∷ 0xff ∷ []) (place 0 4) ∷ finish_of (0xff ∷ 0xff ∷ []) (place 0 6) ∷ finish_of (0xff ∷ 0xff ∷ []) (place 0 7) ∷ finish_of (0xff ∷ 0xff ∷ []) (place 1 7)
     ∷ finish_of (0xff ∷ []) (place 0 8) ∷ [])
-    ≡ (Recorded 1 ∷ Recorded 1 ∷ Recorded 2 ∷ NotRecorded ShortBuffer ∷ NotRecorded IllFormed ∷ [])
+    ≡ (Ok 1 ∷ Ok 1 ∷ Ok 2 ∷ Err ShortBuffer ∷ Err IllFormed ∷ [])
 unfolding computed
 finishes = refl
 
@@ -82,7 +82,7 @@ finished = refl
 
 -- a whole recording: in a buffer that is longer, that it fills, that is too short
 pub whole :
-    (record_of short 3 ∷ record_of short 2 ∷ record_of short 1 ∷ []) ≡ (Recorded 2 ∷ Recorded 2 ∷ NotRecorded ShortBuffer ∷ [])
+    (record_of short 3 ∷ record_of short 2 ∷ record_of short 1 ∷ []) ≡ (Ok 2 ∷ Ok 2 ∷ Err ShortBuffer ∷ [])
 unfolding computed
 whole = refl
 

@@ -17,15 +17,12 @@ use Rattle.rules.specs.declared.Refusal.TheVariants.{OutOfRule, LongCycles, IllF
 use Rattle.rules.specs.declared.Verdict.{Verdict}
 use Rattle.rules.specs.declared.Verdict.TheVariants.{Accept, Late, Overload, Refused}
 use Rattle.rules.specs.declared.Position.{Position}
-use Rattle.rules.specs.declared.OpenAnswer.{OpenAnswer}
-use Rattle.rules.specs.declared.OpenAnswer.TheVariants.{Opened, Stops}
-use Rattle.rules.specs.declared.OpenResult.{OpenResult}
-use Rattle.rules.specs.declared.GoAnswer.{GoAnswer}
-use Rattle.rules.specs.declared.GoAnswer.TheVariants.{Next, Falls, Refused as GoRefused}
-use Rattle.rules.specs.declared.GoResult.{GoResult}
+use Rattle.std.specs.Prelude.{Result, Ok, Err}
+use Rattle.rules.specs.declared.Progress.{Progress}
+use Rattle.rules.specs.declared.Progress.TheVariants.{Next, Falls}
 use Rattle.rules.specs.Streams.{streams_of, valid}
 use Rattle.rules.specs.Load.{demand, load, last_length, longest_h, Opens, JudgedByH, VerdictOf, NoneLate, FirstLate}
-use Rattle.rules.specs.Resumed.{Lengths, at, no_position, Resumes, AtOpening, StopsWith, OpenBy, OpenOf, Barred, stopped, before, behind, GoesOn, past, FallsFrom, Ends, GoBy, GoOf, PositionsKept, TwelveExactly, Underway, next, fallen, Calls, none, goes, falls, together, AnyDivision, NoVerdictYet, LongEnough, OneCall}
+use Rattle.rules.specs.Resumed.{Lengths, at, Resumes, AtOpening, StopsWith, OpenOf, Barred, stopped, before, behind, GoesOn, past, FallsFrom, Ends, GoOf, PositionsKept, TwelveExactly, Underway, next, fallen, Calls, none, goes, falls, together, AnyDivision, NoVerdictYet, LongEnough, OneCall}
 use Rattle.rules.proofs.Valid.{valid_set}
 use Rattle.rules.proofs.Cycles.{h_of, h_of_lem}
 use Rattle.rules.proofs.Judge.{Fits, fits_one, accepts, is_late, overloads}
@@ -87,27 +84,18 @@ not_barred p e (before l z) r = omega (arith, r.named.low)
 not_barred p e (behind {e = d} l z) r = omega (arith, r.named.high, lengths_unique p.set d e l r.lengths)
 
 -- two results of an opening, or of a call, allowed for one input are the same
-open_by_unique : (x : Set) (a b : OpenAnswer) (p q : Position) → OpenBy x a p → OpenBy x b q → (a ≡ b) × (p ≡ q)
-open_by_unique x Opened Opened p q y z = (refl, y.1 ∙ sym z.1)
-open_by_unique x Opened (Stops w) p q y z = absurd (not_stopped x w y.0.0 z.0 y.0.1)
-open_by_unique x (Stops v) Opened p q y z = absurd (not_stopped x v z.0.0 y.0 z.0.1)
-open_by_unique x (Stops v) (Stops w) p q y z = (ap Stops (verdict_unique x v w y.0.verdict z.0.verdict), y.1 ∙ sym z.1)
-
-opening : OpenAnswer → Position → OpenResult
-opening a p = record { answer = a; position = p }
-
-pub open_unique : (x : Set) (r s : OpenResult) → OpenOf x r → OpenOf x s → r ≡ s
-unfolding opening
-open_unique x r s y z =
-    let both : (r.answer ≡ s.answer) × (r.position ≡ s.position) = open_by_unique x r.answer s.answer r.position s.position y z in
-    ap₂ opening both.0 both.1
+pub open_unique : (x : Set) (r s : Result Position Verdict) → OpenOf x r → OpenOf x s → r ≡ s
+open_unique x (Ok p) (Ok q) y z = ap Ok (y.1 ∙ sym z.1)
+open_unique x (Ok p) (Err w) y z = absurd (not_stopped x w y.0.0 z y.0.1)
+open_unique x (Err v) (Ok q) y z = absurd (not_stopped x v z.0.0 y z.0.1)
+open_unique x (Err v) (Err w) y z = ap Err (verdict_unique x v w y.verdict z.verdict)
 
 -- a call that goes on has not come to the verdict
-goes_or_falls : (x : Set) (a n e k j : ℕ) (v : Verdict) (p q : Position) → GoesOn x a n e k p → Ends x a n e j v q → ⊥
-goes_or_falls x a n e k j Accept p q y z = omega (arith, y.number, y.left, z.number, z.count)
-goes_or_falls x a n e k j (Late i w) p q y z = omega (arith, y.number, z.number, z.count, z.falls.above, y.clear i z.falls.from (omega (arith, y.number, z.number, z.count)))
-goes_or_falls x a n e k j Overload p q y z = z.falls
-goes_or_falls x a n e k j (Refused why) p q y z = z.falls
+goes_or_falls : (x : Set) (a n e k j : ℕ) (v : Verdict) (p : Position) → GoesOn x a n e k p → Ends x a n e j v → ⊥
+goes_or_falls x a n e k j Accept p y z = omega (arith, y.number, y.left, z.number, z.count)
+goes_or_falls x a n e k j (Late i w) p y z = omega (arith, y.number, z.number, z.count, z.falls.above, y.clear i z.falls.from (omega (arith, y.number, z.number, z.count)))
+goes_or_falls x a n e k j Overload p y z = z.falls
+goes_or_falls x a n e k j (Refused why) p y z = z.falls
 
 same_fall : (ss : List Stream) (a e : ℕ) (v u : Verdict) → FallsFrom ss a e v → FallsFrom ss a e u → v ≡ u
 same_fall ss a e Accept Accept y z = refl
@@ -123,43 +111,34 @@ same_fall ss a e (Late i w) (Refused why) y z = absurd z
 same_fall ss a e Overload u y z = absurd y
 same_fall ss a e (Refused why) u y z = absurd y
 
-go_by_unique : (p : Position) (n : ℕ) (a b : GoAnswer) (q s : Position) → GoBy p n a q → GoBy p n b s → (a ≡ b) × (q ≡ s)
-go_by_unique p n (Next k) (Next j) q s y z =
+pub go_unique : (p : Position) (n : ℕ) (r s : Result Progress Refusal) → GoOf p n r → GoOf p n s → r ≡ s
+go_unique p n (Ok (Next k q)) (Ok (Next j s)) y z =
     let same : k ≡ j = omega (arith, y.2.number, z.2.number) in
-    (ap Next same, y.2.next ∙ ap (λ (i : ℕ). at p.set (p.next + i)) same ∙ sym z.2.next)
-go_by_unique p n (Next k) (Falls j v) q s y z = absurd (goes_or_falls p.set p.next n z.0 k j v q s (subst (λ (e : ℕ). GoesOn p.set p.next n e k q) (lengths_unique p.set y.0 z.0 y.1.lengths z.1.lengths) y.2) z.2)
-go_by_unique p n (Next k) (GoRefused why) q s y z = absurd (not_barred p y.0 z.2 y.1)
-go_by_unique p n (Falls k v) (Next j) q s y z = absurd (goes_or_falls p.set p.next n y.0 j k v s q (subst (λ (e : ℕ). GoesOn p.set p.next n e j s) (lengths_unique p.set z.0 y.0 z.1.lengths y.1.lengths) z.2) y.2)
-go_by_unique p n (Falls k v) (Falls j u) q s y z =
+    ap₂ (λ (i : ℕ) (m : Position). Ok (Next i m)) same (y.2.next ∙ ap (λ (i : ℕ). at p.set (p.next + i)) same ∙ sym z.2.next)
+go_unique p n (Ok (Next k q)) (Ok (Falls j v)) y z = absurd (goes_or_falls p.set p.next n z.0 k j v q (subst (λ (e : ℕ). GoesOn p.set p.next n e k q) (lengths_unique p.set y.0 z.0 y.1.lengths z.1.lengths) y.2) z.2)
+go_unique p n (Ok (Next k q)) (Err why) y z = absurd (not_barred p y.0 z.1 y.1)
+go_unique p n (Ok (Falls k v)) (Ok (Next j s)) y z = absurd (goes_or_falls p.set p.next n y.0 j k v s (subst (λ (e : ℕ). GoesOn p.set p.next n e j s) (lengths_unique p.set z.0 y.0 z.1.lengths y.1.lengths) z.2) y.2)
+go_unique p n (Ok (Falls k v)) (Ok (Falls j u)) y z =
     let e : y.0 ≡ z.0 = lengths_unique p.set y.0 z.0 y.1.lengths z.1.lengths in
     let same : v ≡ u = same_fall (streams_of p.set) p.next z.0 v u (subst (λ (e : ℕ). FallsFrom (streams_of p.set) p.next e v) e y.2.falls) z.2.falls in
-    (ap₂ Falls (omega (arith, y.2.count, z.2.count, ap₂ past e same)) same, y.2.none ∙ sym z.2.none)
-go_by_unique p n (Falls k v) (GoRefused why) q s y z = absurd (not_barred p y.0 z.2 y.1)
-go_by_unique p n (GoRefused why) (Next j) q s y z = absurd (not_barred p z.0 y.2 z.1)
-go_by_unique p n (GoRefused why) (Falls j u) q s y z = absurd (not_barred p z.0 y.2 z.1)
-go_by_unique p n (GoRefused why) (GoRefused who) q s y z = (ap GoRefused (y.0 ∙ sym z.0), y.1 ∙ sym z.1)
-
-going : GoAnswer → Position → GoResult
-going a p = record { answer = a; position = p }
-
-pub go_unique : (p : Position) (n : ℕ) (r s : GoResult) → GoOf p n r → GoOf p n s → r ≡ s
-unfolding going
-go_unique p n r s y z =
-    let both : (r.answer ≡ s.answer) × (r.position ≡ s.position) = go_by_unique p n r.answer s.answer r.position s.position y z in
-    ap₂ going both.0 both.1
+    ap₂ (λ (i : ℕ) (w : Verdict). Ok (Falls i w)) (omega (arith, y.2.count, z.2.count, ap₂ past e same)) same
+go_unique p n (Ok (Falls k v)) (Err why) y z = absurd (not_barred p y.0 z.1 y.1)
+go_unique p n (Err why) (Ok (Next j s)) y z = absurd (not_barred p z.0 y.1 z.1)
+go_unique p n (Err why) (Ok (Falls j u)) y z = absurd (not_barred p z.0 y.1 z.1)
+go_unique p n (Err why) (Err who) y z = ap Err (y.0 ∙ sym z.0)
 
 -- ---- calls that antt computes
 
-abbrev stops : Verdict → OpenResult
-stops v = record { answer = Stops v; position = no_position }
+abbrev stops : Verdict → Result Position Verdict
+stops v = Err v
 
-abbrev begins : Set → OpenResult
-begins x = record { answer = Opened; position = at x 1 }
+abbrev begins : Set → Result Position Verdict
+begins x = Ok (at x 1)
 
-abbrev open_by_h : Set → ℕ → OpenResult
+abbrev open_by_h : Set → ℕ → Result Position Verdict
 open_by_h x h = cond (leb h longest_h) (cond (leb (load (streams_of x) h) h) (begins x) (stops Overload)) (stops (Refused LongCycles))
 
-unfoldable pub open_of : Set → OpenResult
+unfoldable pub open_of : Set → Result Position Verdict
 open_of x = cond (valid x) (open_by_h x (h_of (streams_of x))) (stops (Refused OutOfRule))
 
 -- nothing stops a valid set whose H is not long and whose load is not above it
@@ -175,14 +154,14 @@ lengths_of x ok s l =
 
 stops_as : (x : Set) (v : Verdict) → valid x ≡ true → AtOpening v → JudgedByH (streams_of x) v → OpenOf x (stops v)
 unfolding VerdictOf
-stops_as x v ok early j = (record { verdict = rw ok j; opening = early }, refl)
+stops_as x v ok early j = record { verdict = rw ok j; opening = early }
 
 pub open_right : (x : Set) → OpenOf x (open_of x)
 unfolding open_of VerdictOf
 open_right x = by_test (valid x) good bad
   where
     bad : valid x ≡ false → OpenOf x (open_of x)
-    bad b = rw b (record { verdict = rw b refl; opening = tt }, refl)
+    bad b = rw b (record { verdict = rw b refl; opening = tt })
 
     light : valid x ≡ true → h_of (streams_of x) ≤ longest_h → (b : Bool) → leb (load (streams_of x) (h_of (streams_of x))) (h_of (streams_of x)) ≡ b
         → OpenOf x (cond b (begins x) (stops Overload))
@@ -200,24 +179,24 @@ open_right x = by_test (valid x) good bad
     good ok = rw ok (short ok _ refl)
 
 -- a call at the length a, k lengths behind the one that it began with, with n to go
-abbrev fell : ℕ → Verdict → GoResult
-fell k v = record { answer = Falls k v; position = no_position }
+abbrev fell : ℕ → Verdict → Result Progress Refusal
+fell k v = Ok (Falls k v)
 
-unfoldable pub go_from : Set → ℕ → ℕ → ℕ → ℕ → GoResult
-go_from x e zero a k = record { answer = Next k; position = at x a }
+unfoldable pub go_from : Set → ℕ → ℕ → ℕ → ℕ → Result Progress Refusal
+go_from x e zero a k = Ok (Next k (at x a))
 go_from x e (suc n) a k =
     cond (leb (demand (streams_of x) a) a) (cond (ltb a e) (go_from x e n (a + 1) (k + 1)) (fell (k + 1) Accept))
     (fell (k + 1) (Late a (demand (streams_of x) a)))
 
-abbrev refuses : Position → GoResult
-refuses p = record { answer = GoRefused IllFormed; position = p }
+abbrev refuses : Result Progress Refusal
+refuses = Err IllFormed
 
-abbrev go_if : OpenAnswer → Position → ℕ → ℕ → GoResult
-go_if Opened p e n = cond (leb 1 p.next) (cond (leb p.next e) (go_from p.set e n p.next 0) (refuses p)) (refuses p)
-go_if (Stops v) p e n = refuses p
+abbrev go_if : Result Position Verdict → Position → ℕ → ℕ → Result Progress Refusal
+go_if (Ok q) p e n = cond (leb 1 p.next) (cond (leb p.next e) (go_from p.set e n p.next 0) refuses) refuses
+go_if (Err v) p e n = refuses
 
-unfoldable pub go_of : Position → ℕ → GoResult
-go_of p n = go_if (open_of p.set).answer p (last_length (streams_of p.set) (h_of (streams_of p.set))) n
+unfoldable pub go_of : Position → ℕ → Result Progress Refusal
+go_of p n = go_if (open_of p.set) p (last_length (streams_of p.set) (h_of (streams_of p.set))) n
 
 go_from_lem : (p : Position) (e : ℕ) → Resumes p e → (n a k m : ℕ) → a ≡ p.next + k → m ≡ k + n → a ≤ e
     → NoneLate (demand (streams_of p.set)) p.next a → GoOf p m (go_from p.set e n a k)
@@ -247,7 +226,6 @@ go_from_lem p e r (suc n) a k m q s le f =
             number = omega arith;
             count = omega arith;
             falls = subst (NoneLate (demand (streams_of p.set)) p.next) end (none_more (demand (streams_of p.set)) p.next a f fits);
-            none = refl;
           },
         )
 
@@ -261,7 +239,6 @@ go_from_lem p e r (suc n) a k m q s le f =
         number = omega arith;
         count = omega arith;
         falls = record { from = omega arith; before = omega arith; that = refl; above = leb-false _ _ t; first = f };
-        none = refl;
       },
     )
 
@@ -270,24 +247,24 @@ last_is : (x : Set) (e : ℕ) → Lengths x e → e ≡ last_length (streams_of 
 last_is x e l = l.last ∙ ap (last_length (streams_of x)) (h_unique (streams_of x) l.h (h_of (streams_of x)) l.opens.is_h (h_of_lem (streams_of x) l.opens.streams))
 
 -- a position that can be resumed, or not
-go_if_lem : (p : Position) (n : ℕ) (a : OpenAnswer) (q : Position) → OpenBy p.set a q → (e : ℕ) → e ≡ last_length (streams_of p.set) (h_of (streams_of p.set)) → GoOf p n (go_if a p e n)
-go_if_lem p n (Stops v) q o e end = (refl, refl, stopped o.0)
-go_if_lem p n Opened q o e end = first (leb 1 p.next) refl
+go_if_lem : (p : Position) (n : ℕ) (a : Result Position Verdict) → OpenOf p.set a → (e : ℕ) → e ≡ last_length (streams_of p.set) (h_of (streams_of p.set)) → GoOf p n (go_if a p e n)
+go_if_lem p n (Err v) o e end = (refl, stopped o)
+go_if_lem p n (Ok q) o e end = first (leb 1 p.next) refl
   where
     l : Lengths p.set e
     l = subst (Lengths p.set) (last_is p.set o.0.0 o.0.1 ∙ sym end) o.0.1
 
-    second : 1 ≤ p.next → (b : Bool) → leb p.next e ≡ b → GoOf p n (cond b (go_from p.set e n p.next 0) (refuses p))
+    second : 1 ≤ p.next → (b : Bool) → leb p.next e ≡ b → GoOf p n (cond b (go_from p.set e n p.next 0) refuses)
     second low true t = go_from_lem p e (record { lengths = l; named = record { low = low; high = leb-true _ _ t } }) n p.next 0 n (omega arith) (omega arith) (leb-true _ _ t) (none_yet _ _)
-    second low false t = (refl, refl, behind l (leb-false _ _ t))
+    second low false t = (refl, behind l (leb-false _ _ t))
 
-    first : (b : Bool) → leb 1 p.next ≡ b → GoOf p n (cond b (cond (leb p.next e) (go_from p.set e n p.next 0) (refuses p)) (refuses p))
+    first : (b : Bool) → leb 1 p.next ≡ b → GoOf p n (cond b (cond (leb p.next e) (go_from p.set e n p.next 0) refuses) refuses)
     first true t = second (leb-true _ _ t) (leb p.next e) refl
-    first false t = (refl, refl, before l (leb-false _ _ t))
+    first false t = (refl, before l (leb-false _ _ t))
 
 pub go_right : (p : Position) (n : ℕ) → GoOf p n (go_of p n)
 unfolding go_of
-go_right p n = go_if_lem p n (open_of p.set).answer (open_of p.set).position (open_right p.set) _ refl
+go_right p n = go_if_lem p n (open_of p.set) (open_right p.set) _ refl
 
 -- ---- the work divided among calls
 
@@ -384,13 +361,13 @@ no_verdict_yet x e l ns t p c =
 finds : (p : Position) (e : ℕ) → Resumes p e → (ns : List ℕ) → e < p.next + together ns → (t : ℕ) × (v : Verdict) × Calls p ns t (fallen v)
 unfolding sum
 finds p e r [] far = absurd (omega (arith, r.named.high))
-finds p e r (n ∷ ns) far = go (go_of p n).answer (go_of p n).position (go_right p n) (λ q s h. finds q e s ns h)
+finds p e r (n ∷ ns) far = go (go_of p n) (go_right p n) (λ q s h. finds q e s ns h)
   where
-    go : (a : GoAnswer) (q : Position) → GoBy p n a q → ((q : Position) → Resumes q e → e < q.next + together ns → (t : ℕ) × (v : Verdict) × Calls q ns t (fallen v))
+    go : (a : Result Progress Refusal) → GoOf p n a → ((q : Position) → Resumes q e → e < q.next + together ns → (t : ℕ) × (v : Verdict) × Calls q ns t (fallen v))
         → (t : ℕ) × (v : Verdict) × Calls p (n ∷ ns) t (fallen v)
-    go (Falls k v) q g more = (k, v, falls g)
-    go (GoRefused why) q g more = absurd (not_barred p e g.2 r)
-    go (Next k) q g more =
+    go (Ok (Falls k v)) g more = (k, v, falls g)
+    go (Err why) g more = absurd (not_barred p e g.1 r)
+    go (Ok (Next k q)) g more =
         let same : g.0 ≡ e = lengths_unique p.set g.0 e g.1.lengths r.lengths in
         let on : Resumes (at p.set (p.next + k)) e = record { lengths = r.lengths; named = record { low = omega (arith, r.named.low); high = omega (arith, g.2.left) } } in
         let rest : (t : ℕ) × (v : Verdict) × Calls q ns t (fallen v) = more q (subst (λ (m : Position). Resumes m e) (sym g.2.next) on) (omega (arith, g.2.number, ap (λ (m : Position). m.next) g.2.next)) in
@@ -427,7 +404,7 @@ past_le ss e (Refused why) f = omega arith
 pub one_call : OneCall
 one_call x e n k v l y h c =
     let f : FallsFrom (streams_of x) 1 e v = verdict_falls x e v l y in
-    (e, begun x e l, record { number = omega (arith, past_le (streams_of x) e v f); count = c; falls = f; none = refl })
+    (e, begun x e l, record { number = omega (arith, past_le (streams_of x) e v f); count = c; falls = f })
 
 -- ---- the rules of a position
 
@@ -442,18 +419,14 @@ positions_kept =
       );
     }
 
-pub twelve_exactly : (p : Position) (n : ℕ) (r : GoResult) → GoOf p n r → TwelveExactly p n r
-unfolding going
-twelve_exactly p n r g = go r.answer r.position g
-  where
-    go : (a : GoAnswer) (q : Position) → GoBy p n a q → TwelveExactly p n (going a q)
-    go (Next k) q y = record { given = λ s. absurd (let z : ◌≡◌ {A = ℕ} 0 1 = cc in omega arith); broken = λ f. absurd (f y.0 y.1); alone = tt }
-    go (Falls k v) q y = record { given = λ s. absurd (let z : ◌≡◌ {A = ℕ} 0 1 = cc in omega arith); broken = λ f. absurd (f y.0 y.1); alone = tt }
-    go (GoRefused why) q y = record { given = λ s e z. not_barred p e y.2 z; broken = λ f. ap GoRefused y.0; alone = y.0 }
+pub twelve_exactly : (p : Position) (n : ℕ) (r : Result Progress Refusal) → GoOf p n r → TwelveExactly p n r
+twelve_exactly p n (Ok (Next k q)) y = record { given = λ s. absurd (let z : ◌≡◌ {A = ℕ} 0 1 = cc in omega arith); broken = λ f. absurd (f y.0 y.1); alone = tt }
+twelve_exactly p n (Ok (Falls k v)) y = record { given = λ s. absurd (let z : ◌≡◌ {A = ℕ} 0 1 = cc in omega arith); broken = λ f. absurd (f y.0 y.1); alone = tt }
+twelve_exactly p n (Err why) y = record { given = λ s e z. not_barred p e y.1 z; broken = λ f. ap Err y.0; alone = y.0 }
 
 -- ---- a check under way
 
-pub underway_opened : (x : Set) (p : Position) → OpenBy x Opened p → Underway x p
+pub underway_opened : (x : Set) (p : Position) → OpenOf x (Ok p) → Underway x p
 underway_opened x p o =
     subst (Underway x) (sym o.1)
     (record { same = refl; last = o.0.0; resumes = begun x o.0.0 o.0.1; clear = none_yet (demand (streams_of x)) 1 })
@@ -462,7 +435,7 @@ underway_opened x p o =
 clear_own : (x : Set) (p : Position) → Underway x p → Clear p
 clear_own x p u = subst (λ (y : Set). NoneLate (demand (streams_of y)) 1 p.next) (sym u.same) u.clear
 
-pub underway_next : (x : Set) (p q : Position) (n k : ℕ) → Underway x p → GoBy p n (Next k) q → Underway x q
+pub underway_next : (x : Set) (p q : Position) (n k : ℕ) → Underway x p → GoOf p n (Ok (Next k q)) → Underway x q
 underway_next x p q n k u g =
     subst (Underway x) (sym g.2.next)
     (record {
@@ -472,10 +445,10 @@ underway_next x p q n k u g =
       clear = subst (λ (y : Set). NoneLate (demand (streams_of y)) 1 (p.next + k)) u.same (none_join (demand (streams_of p.set)) 1 p.next (p.next + k) (clear_own x p u) g.2.clear);
     })
 
-pub underway_falls : (x : Set) (p q : Position) (n k : ℕ) (v : Verdict) → Underway x p → GoBy p n (Falls k v) q → VerdictOf x v
-underway_falls x p q n k v u g =
+pub underway_falls : (x : Set) (p : Position) (n k : ℕ) (v : Verdict) → Underway x p → GoOf p n (Ok (Falls k v)) → VerdictOf x v
+underway_falls x p n k v u g =
     let d : Fallen p k v = calls_fall p (n ∷ []) k v (clear_own x p u) (falls g) in
     subst (λ (y : Set). VerdictOf y v) u.same (fall_verdict p.set d.e v d.lengths d.falls)
 
-pub underway_goes : (x : Set) (p q : Position) (n : ℕ) {why : Refusal} → Underway x p → GoBy p n (GoRefused why) q → ⊥
-underway_goes x p q n u g = not_barred p u.last g.2 u.resumes
+pub underway_goes : (x : Set) (p : Position) (n : ℕ) {why : Refusal} → Underway x p → GoOf p n (Err why) → ⊥
+underway_goes x p n u g = not_barred p u.last g.1 u.resumes

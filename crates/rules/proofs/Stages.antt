@@ -9,7 +9,8 @@ use mathlib.Core.Path.{◌≡◌, refl, ap}
 use borrow.Author.Tests.{eq-eqb}
 use lib.ListN.{length, get_or, length-take}
 use lib.Seq.{get_or-take}
-use Rattle.laws.specs.Lists.{any, sum, top}
+use Rattle.std.specs.List.{list_any}
+use Rattle.laws.specs.Lists.{sum, top}
 use Rattle.laws.proofs.Sums.{all_map, all_at, sum_le, top_le, top_each, cond_le}
 use Rattle.rules.specs.declared.Stage.{Stage}
 use Rattle.rules.specs.declared.Stream.{Stream}
@@ -43,11 +44,10 @@ any_first : (b c : Bool) → c ≡ true → (b || c) ≡ true
 any_first true c e = refl
 any_first false c e = e
 
-any_at : (p : Stage → Bool) (gs : List Stage) (k : ℕ) → k < length gs → p (get_or gs k no_stage) ≡ true → any p gs ≡ true
-unfolding any
+any_at : (p : Stage → Bool) (gs : List Stage) (k : ℕ) → k < length gs → p (get_or gs k no_stage) ≡ true → list_any p gs ≡ true
 any_at p [] k h e = absurd (let z : k < 0 = h in omega arith)
 any_at p (g ∷ gs) zero h e = rw e
-any_at p (g ∷ gs) (suc k) h e = any_first (p g) (any p gs) (any_at p gs k (omega arith) e)
+any_at p (g ∷ gs) (suc k) h e = any_first (p g) (list_any p gs) (any_at p gs k (omega arith) e)
 
 module _ (s : Stream) (four : length s.stages ≡ 4) (v : ValidStream s) (j : ℕ) (here : j < s.depth) where
   stage_near : j < length (stages_of s)

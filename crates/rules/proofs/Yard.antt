@@ -10,7 +10,7 @@ use Rattle.laws.specs.Lists.{All}
 use Rattle.rules.specs.declared.Tuple.TheVariants.{Once, Every}
 use Rattle.rules.specs.declared.Stream.{Stream}
 use Rattle.rules.specs.declared.Set.{Set}
-use Rattle.rules.specs.declared.ReadAnswer.TheVariants.{Read}
+use Rattle.std.specs.Prelude.{Ok}
 use Rattle.rules.specs.declared.ReadResult.{ReadResult}
 use Rattle.rules.specs.declared.Verdict.{Verdict}
 use Rattle.rules.specs.Streams.{no_tuple, no_stage, empty_set, streams_of, jitter_of}
@@ -67,7 +67,7 @@ pub record Judges (x : Set) (says : Says) : Type 0 where
 
 -- what was read, and the answer
 abbrev reads : Set → ReadResult
-reads x = record { answer = Read; set = x }
+reads x = record { answer = Ok tt; set = x }
 
 -- the set is written as the bytes, and the bytes are read as the set
 pub record Sheets (x : Set) (found : List ℕ) : Type 0 where

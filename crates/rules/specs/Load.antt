@@ -1,8 +1,9 @@
 -- Document 01, "The load check", over the stages of document 02's request 4.
 -- Assumes nothing.
-use Rattle.std.specs.Prelude.{ℕ, ◌+◌, ◌-◌, ◌*◌, ◌/◌, ◌≤◌, ◌<◌, Bool, true, false, cond, ◌&&◌, List, [], ◌∷◌, ◌≡◌, leb, eqb}
+use Rattle.std.specs.Prelude.{ℕ, ◌+◌, ◌-◌, ◌*◌, ◌/◌, ◌≤◌, ◌<◌, Bool, true, false, cond, ◌&&◌, List, ◌≡◌, leb, eqb}
 use Rattle.std.specs.Int.{◌∣◌}
-use Rattle.laws.specs.Lists.{below, any, sum, top, All}
+use Rattle.std.specs.List.{list_any}
+use Rattle.laws.specs.Lists.{below, sum, top, All}
 use Rattle.rules.specs.declared.Tuple.{Tuple}
 use Rattle.rules.specs.declared.Tuple.TheVariants.{Once, Every}
 use Rattle.rules.specs.declared.TuplePlace.{TuplePlace}
@@ -11,8 +12,7 @@ use Rattle.rules.specs.declared.Stream.{Stream}
 use Rattle.rules.specs.declared.Set.{Set}
 use Rattle.rules.specs.declared.Refusal.{Refusal}
 use Rattle.rules.specs.declared.Refusal.TheVariants.{OutOfRule, LongCycles}
-use Rattle.rules.specs.declared.CountAnswer.{CountAnswer}
-use Rattle.rules.specs.declared.CountAnswer.TheVariants.{Number, Refused as CountRefused}
+use Rattle.std.specs.Prelude.{Result, Ok, Err}
 use Rattle.rules.specs.declared.Verdict.{Verdict}
 use Rattle.rules.specs.declared.Verdict.TheVariants.{Accept, Late, Overload, Refused}
 use Rattle.rules.specs.Streams.{stages_of, tuples_of, streams_of, offset_at, limit, valid}
@@ -36,7 +36,7 @@ abbrev pub on_task : ℕ → Stage → Bool
 on_task t g = eqb g.task t
 
 unfoldable pub has : ℕ → Stream → Bool
-has t s = any (on_task t) (stages_of s)
+has t s = list_any (on_task t) (stages_of s)
 
 -- "a stream with d not above I" of the task t
 abbrev pub urgent : ℕ → ℕ → Stream → Bool
@@ -55,15 +55,15 @@ blocks t i s = cond (leb s.deadline i) 0 (blocks_for t s)
 
 -- "The blocking of a task is 0 unless it has a stream with d not above I; then it is the largest c - 1 among its streams with d above I, or 0 if there are none."
 unfoldable pub blocking : List Stream → ℕ → ℕ → ℕ
-blocking ss i t = cond (any (urgent t i) ss) (top (blocks t i) ss) 0
+blocking ss i t = cond (list_any (urgent t i) ss) (top (blocks t i) ss) 0
 
 -- "Demand(I), for I of 0 or more, is the sum over streams .., plus the blocking of each task."
 unfoldable pub demand : List Stream → ℕ → ℕ
 demand ss i = sum (due i) ss + sum (blocking ss i) (below 16)
 
 -- "Asked for an invalid set, demand .. [is] refused with 7 and give[s] 0"
-unfoldable pub demand_of : Set → ℕ → CountAnswer
-demand_of x i = cond (valid x) (Number (demand (streams_of x) i)) (CountRefused OutOfRule)
+unfoldable pub demand_of : Set → ℕ → Result ℕ Refusal
+demand_of x i = cond (valid x) (Ok (demand (streams_of x) i)) (Err OutOfRule)
 
 -- ---- H and long-run load
 

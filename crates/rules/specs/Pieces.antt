@@ -3,8 +3,8 @@
 use Rattle.std.specs.Prelude.{ℕ, ◌<◌, List, [], ◌∷◌, ◌≡◌}
 use Rattle.laws.specs.Lists.{All, flat}
 use Rattle.rules.specs.declared.Refusal.TheVariants.{IllFormed}
-use Rattle.rules.specs.declared.FeedAnswer.{FeedAnswer}
-use Rattle.rules.specs.declared.FeedAnswer.TheVariants.{Fed, Refused}
+use Rattle.std.specs.Prelude.{Result, Ok, Err}
+use Rattle.rules.specs.declared.Refusal.{Refusal}
 use Rattle.rules.specs.declared.ReadResult.{ReadResult}
 use Rattle.rules.specs.Sheet.{no_set, read_of}
 
@@ -25,7 +25,7 @@ joined ps = flat whole ps
 -- What takes a sheet from the cable, with any kind of carried state: the state at first; what feeding a piece answers, and the state that it leaves; what closing gives.
 pub record Cable (C : Type 0) : Type 0 where
   pub first : C
-  pub feeds : C → List ℕ → FeedAnswer
+  pub feeds : C → List ℕ → Result (Unit {0}) Refusal
   pub leaves : C → List ℕ → C
   pub closes : C → ReadResult
 
@@ -48,7 +48,7 @@ pub record TakesPieces {C : Type 0} (k : Cable C) (Housed : C → Type 0) : Type
   -- "Feeding the pieces and then closing gives the set, or the refusal, that the joined bytes give"
   pub closing : (ps : List (List ℕ)) → All Piece ps → k.closes (left_by k ps) ≡ read_of (joined ps)
   -- "nothing is handed out before closing": whatever has come, a piece is fed
-  pub feeding : (c : C) (p : List ℕ) → Housed c → Piece p → CouldLeave k c → k.feeds c p ≡ Fed
+  pub feeding : (c : C) (p : List ℕ) → Housed c → Piece p → CouldLeave k c → k.feeds c p ≡ (Ok tt)
   -- "12 for a carried state that no pieces could have left, which stays unchanged": feeding leaves it as it is, and closing gives the empty set
-  pub twelve : (c : C) (p : List ℕ) → Housed c → Piece p → (CouldLeave k c → ⊥) → (k.feeds c p ≡ Refused IllFormed) × (k.leaves c p ≡ c)
+  pub twelve : (c : C) (p : List ℕ) → Housed c → Piece p → (CouldLeave k c → ⊥) → (k.feeds c p ≡ Err IllFormed) × (k.leaves c p ≡ c)
   pub shut : (c : C) → Housed c → (CouldLeave k c → ⊥) → k.closes c ≡ no_set IllFormed

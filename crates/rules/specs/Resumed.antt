@@ -8,13 +8,11 @@ use Rattle.rules.specs.declared.Refusal.TheVariants.{IllFormed}
 use Rattle.rules.specs.declared.Verdict.{Verdict}
 use Rattle.rules.specs.declared.Verdict.TheVariants.{Accept, Late, Overload, Refused}
 use Rattle.rules.specs.declared.Position.{Position}
-use Rattle.rules.specs.declared.OpenAnswer.{OpenAnswer}
-use Rattle.rules.specs.declared.OpenAnswer.TheVariants.{Opened, Stops}
-use Rattle.rules.specs.declared.OpenResult.{OpenResult}
-use Rattle.rules.specs.declared.GoAnswer.{GoAnswer}
-use Rattle.rules.specs.declared.GoAnswer.TheVariants.{Next, Falls, Refused as GoRefused}
-use Rattle.rules.specs.declared.GoResult.{GoResult}
-use Rattle.rules.specs.Streams.{empty_set, streams_of, valid}
+use Rattle.std.specs.Prelude.{Result, Ok, Err}
+use Rattle.rules.specs.declared.Progress.{Progress}
+use Rattle.rules.specs.declared.Refusal.{Refusal}
+use Rattle.rules.specs.declared.Progress.TheVariants.{Next, Falls}
+use Rattle.rules.specs.Streams.{streams_of, valid}
 use Rattle.rules.specs.Load.{demand, last_length, Opens, VerdictOf, NoneLate, FirstLate}
 use Rattle.rules.specs.Valid.{Between}
 
@@ -33,10 +31,6 @@ pub record Lengths (x : Set) (e : ℕ) : Type 0 where
 -- "The resume position holds its set and the next length"
 abbrev pub at : Set → ℕ → Position
 at x i = record { set = x; next = i }
-
--- "with the verdict none is given": what stands in the place of a position, and is none
-unfoldable pub no_position : Position
-no_position = at empty_set 0
 
 -- its set has lengths, the last of them e, and its next length is one of them
 pub record Resumes (p : Position) (e : ℕ) : Type 0 where
@@ -57,12 +51,10 @@ pub record StopsWith (x : Set) (v : Verdict) : Type 0 where
   pub verdict : VerdictOf x v
   pub opening : AtOpening v
 
-abbrev pub OpenBy : Set → OpenAnswer → Position → Type 0
-OpenBy x Opened p = ((e : ℕ) × Lengths x e) × (p ≡ at x 1)
-OpenBy x (Stops v) p = StopsWith x v × (p ≡ no_position)
-
-abbrev pub OpenOf : Set → OpenResult → Type 0
-OpenOf x r = OpenBy x r.answer r.position
+-- the position at length 1, or the verdict, "with the verdict none is given"
+abbrev pub OpenOf : Set → Result Position Verdict → Type 0
+OpenOf x (Ok p) = ((e : ℕ) × Lengths x e) × (p ≡ at x 1)
+OpenOf x (Err v) = StopsWith x v
 
 -- ---- a call
 
@@ -94,39 +86,36 @@ FallsFrom ss a e (Late i w) = FirstLate (demand ss) a (e + 1) i w
 FallsFrom ss a e Overload = ⊥
 FallsFrom ss a e (Refused why) = ⊥
 
--- "or fewer only where the verdict falls first"; "with the verdict none is given"
-pub record Ends (x : Set) (a n e k : ℕ) (v : Verdict) (p : Position) : Type 0 where
+-- "or fewer only where the verdict falls first"
+pub record Ends (x : Set) (a n e k : ℕ) (v : Verdict) : Type 0 where
   pub number : k ≤ n
   pub count : a + k ≡ past e v
   pub falls : FallsFrom (streams_of x) a e v
-  pub none : p ≡ no_position
 
-abbrev pub GoBy : Position → ℕ → GoAnswer → Position → Type 0
-GoBy p n (Next k) q = (e : ℕ) × Resumes p e × GoesOn p.set p.next n e k q
-GoBy p n (Falls k v) q = (e : ℕ) × Resumes p e × Ends p.set p.next n e k v q
-GoBy p n (GoRefused why) q = (why ≡ IllFormed) × (q ≡ p) × Barred p
-
-abbrev pub GoOf : Position → ℕ → GoResult → Type 0
-GoOf p n r = GoBy p n r.answer r.position
+-- the next position, or the verdict, with which "none is given"; 12 takes and leaves nothing
+abbrev pub GoOf : Position → ℕ → Result Progress Refusal → Type 0
+GoOf p n (Ok (Next k q)) = (e : ℕ) × Resumes p e × GoesOn p.set p.next n e k q
+GoOf p n (Ok (Falls k v)) = (e : ℕ) × Resumes p e × Ends p.set p.next n e k v
+GoOf p n (Err why) = (why ≡ IllFormed) × Barred p
 
 -- ---- the rules of a position
 
 -- no other number is given
-abbrev pub Only12 : GoAnswer → Type 0
-Only12 (Next k) = Unit {0}
-Only12 (Falls k v) = Unit {0}
-Only12 (GoRefused why) = why ≡ IllFormed
+abbrev pub Only12 : Result Progress Refusal → Type 0
+Only12 (Ok (Next k q)) = Unit {0}
+Only12 (Ok (Falls k v)) = Unit {0}
+Only12 (Err why) = why ≡ IllFormed
 
 -- every position that an opening or a call gives can be resumed
 pub record PositionsKept : Type 0 where
-  pub opened : (x : Set) (p : Position) → OpenBy x Opened p → (e : ℕ) × Resumes p e
-  pub gone : (p q : Position) (n k : ℕ) → GoBy p n (Next k) q → (e : ℕ) × Resumes q e
+  pub opened : (x : Set) (p : Position) → OpenOf x (Ok p) → (e : ℕ) × Resumes p e
+  pub gone : (p q : Position) (n k : ℕ) → GoOf p n (Ok (Next k q)) → (e : ℕ) × Resumes q e
 
 -- 12 is given exactly when a position cannot be resumed
-pub record TwelveExactly (p : Position) (n : ℕ) (r : GoResult) : Type 0 where
-  pub given : r.answer ≡ GoRefused IllFormed → (e : ℕ) → Resumes p e → ⊥
-  pub broken : ((e : ℕ) → Resumes p e → ⊥) → r.answer ≡ GoRefused IllFormed
-  pub alone : Only12 r.answer
+pub record TwelveExactly (p : Position) (n : ℕ) (r : Result Progress Refusal) : Type 0 where
+  pub given : r ≡ Err IllFormed → (e : ℕ) → Resumes p e → ⊥
+  pub broken : ((e : ℕ) → Resumes p e → ⊥) → r ≡ Err IllFormed
+  pub alone : Only12 r
 
 -- ---- the work divided among calls
 
@@ -146,8 +135,8 @@ pub data Stand : Type 0 where
 -- the lengths that they tested together, and where they have come to
 pub data Calls : Position → List ℕ → ℕ → Stand → Type 0 where
   none : {p : Position} → Calls p [] 0 (next p)
-  goes : {p q : Position} {n k t : ℕ} {ns : List ℕ} {s : Stand} → GoBy p n (Next k) q → Calls q ns t s → Calls p (n ∷ ns) (k + t) s
-  falls : {p q : Position} {n k : ℕ} {ns : List ℕ} {v : Verdict} → GoBy p n (Falls k v) q → Calls p (n ∷ ns) k (fallen v)
+  goes : {p q : Position} {n k t : ℕ} {ns : List ℕ} {s : Stand} → GoOf p n (Ok (Next k q)) → Calls q ns t s → Calls p (n ∷ ns) (k + t) s
+  falls : {p : Position} {n k : ℕ} {ns : List ℕ} {v : Verdict} → GoOf p n (Ok (Falls k v)) → Calls p (n ∷ ns) k (fallen v)
 
 -- the numbers of the calls together
 abbrev pub itself : ℕ → ℕ
@@ -176,4 +165,4 @@ LongEnough =
 -- document 01's verdict is one such way: one call with a number for each length
 abbrev pub OneCall : Type 0
 OneCall =
-    (x : Set) (e n k : ℕ) (v : Verdict) → Lengths x e → VerdictOf x v → e ≤ n → 1 + k ≡ past e v → GoBy (at x 1) n (Falls k v) no_position
+    (x : Set) (e n k : ℕ) (v : Verdict) → Lengths x e → VerdictOf x v → e ≤ n → 1 + k ≡ past e v → GoOf (at x 1) n (Ok (Falls k v))

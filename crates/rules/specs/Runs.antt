@@ -1,21 +1,23 @@
 -- Runs of calls from a fresh start: what is answered, what happened, who was accepted and who left; and demand 3 stated of them.
 -- Assumes nothing.
-use Rattle.std.specs.Prelude.{ℕ, suc, ◌+◌, ◌≤◌, ◌<◌, Bool, true, false, cond, not, ◌&&◌, ◌||◌, ◌↔◌, ◌≡◌, length, get_or, take, drop, eqb, ℤ}
+use Rattle.std.specs.Prelude.{ℕ, suc, ◌+◌, ◌≤◌, ◌<◌, Bool, true, false, not, ◌&&◌, ◌||◌, ◌↔◌, ◌≡◌, length, get_or, take, drop, eqb, ℤ}
 use mathlib.Core.List.{List, [], ◌∷◌, ◌++◌, map, Memᴰ}
-use Rattle.laws.specs.Lists.{within, any, count}
+use Rattle.std.specs.List.{list_any}
+use Rattle.laws.specs.Lists.{within, count}
 use Rattle.rules.specs.declared.Message.{Message}
 use Rattle.rules.specs.declared.Set.{Set}
 use Rattle.rules.specs.declared.State.{State}
 use Rattle.rules.specs.declared.Call.{Call}
 use Rattle.rules.specs.declared.Call.TheVariants.{Posts, Units}
-use Rattle.rules.specs.declared.PostAnswer.{PostAnswer}
-use Rattle.rules.specs.declared.PostAnswer.TheVariants.{Posted, Refused as PostRefused}
-use Rattle.rules.specs.declared.UnitAnswer.{UnitAnswer}
-use Rattle.rules.specs.declared.UnitAnswer.TheVariants.{Ran, Passed, Finished, Cut, Idle, Refused as UnitRefused}
+use Rattle.std.specs.Prelude.{Result, Ok, Err}
+use Rattle.rules.specs.declared.Posted.{Posted}
+use Rattle.rules.specs.declared.Outcome.{Outcome}
+use Rattle.rules.specs.declared.Refusal.{Refusal}
+use Rattle.rules.specs.declared.Outcome.TheVariants.{Ran, Passed, Finished, Cut, Idle}
 use Rattle.rules.specs.declared.Verdict.TheVariants.{Accept}
 use Rattle.rules.specs.Streams.{Placed, stream_at, stage_at, limit, valid}
 use Rattle.rules.specs.Doors.{has_door}
-use Rattle.rules.specs.declared.Owner.{Owner}
+use Rattle.rules.specs.declared.Party.{Party}
 use Rattle.rules.specs.declared.Places.{Places}
 use Rattle.rules.specs.Parties.{together, all_ours, all_places}
 use Rattle.rules.specs.States.{pending, most_pending}
@@ -117,17 +119,17 @@ after_leaving r s how laxity =
     }
 
 -- a post, and a unit; a message that passes on is pending as before
-abbrev pub after_post : Run → ℕ → State → PostAnswer → Run
-after_post r k s (Posted stream deadline) = after_accepting r k s
-after_post r k s (PostRefused why) = after_refusal r s
+abbrev pub after_post : Run → ℕ → State → Result Posted Refusal → Run
+after_post r k s (Ok p) = after_accepting r k s
+after_post r k s (Err why) = after_refusal r s
 
-abbrev pub after_unit : Run → State → UnitAnswer → Run
-after_unit r s (Ran t k) = after_moving r s
-after_unit r s (Passed t k) = after_moving r s
-after_unit r s (Finished t k l) = after_leaving r s finished l
-after_unit r s (Cut t k l) = after_leaving r s cut l
-after_unit r s Idle = after_moving r s
-after_unit r s (UnitRefused why) = after_refusal r s
+abbrev pub after_unit : Run → State → Result Outcome Refusal → Run
+after_unit r s (Ok (Ran t k)) = after_moving r s
+after_unit r s (Ok (Passed t k)) = after_moving r s
+after_unit r s (Ok (Finished t k l)) = after_leaving r s finished l
+after_unit r s (Ok (Cut t k l)) = after_leaving r s cut l
+after_unit r s (Ok Idle) = after_moving r s
+after_unit r s (Err why) = after_refusal r s
 
 unfoldable pub step_of : Run → Call → Run
 step_of r (Posts k) = after_post r k (post_of r.state k).state (post_of r.state k).answer
@@ -140,7 +142,7 @@ start_at s = record { state = s; time = 0; names = []; events = [] }
 -- what a run starts from: a set, whose its streams are, and the parties' places
 pub record Start : Type 0 where
   pub set : Set
-  pub owners : List Owner
+  pub owners : List Party
   pub places : Places
 
 -- all streams ours, with all places
@@ -294,7 +296,7 @@ abbrev pub overdue : ℕ → Message → Bool
 overdue clock m = not (sooner clock m.deadline)
 
 unfoldable pub missed_now : State → Bool
-missed_now s = any (overdue s.clock) (pending s)
+missed_now s = list_any (overdue s.clock) (pending s)
 
 -- at the moments of a run: where the calls begin, and after each
 unfoldable pub missed_from : Run → List Call → Bool

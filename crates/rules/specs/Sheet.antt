@@ -1,7 +1,8 @@
 -- Document 01, "The sheet": version 1; document 02, request 4: version 2.
 -- Assumes nothing.
-use Rattle.std.specs.Prelude.{ℕ, zero, suc, ◌+◌, ◌-◌, Bool, true, false, cond, ◌&&◌, List, [], ◌∷◌, ◌++◌, length, take, drop, replicate, ltb, leb, eqb}
-use Rattle.laws.specs.Lists.{within, all, flat}
+use Rattle.std.specs.Prelude.{ℕ, zero, suc, ◌-◌, Bool, cond, ◌&&◌, List, [], ◌∷◌, ◌++◌, length, take, drop, replicate, ltb, leb, eqb}
+use Rattle.std.specs.List.{list_all}
+use Rattle.laws.specs.Lists.{within, flat}
 use Rattle.laws.specs.Bits.{to_bits, value, bits, pack}
 use Rattle.rules.specs.declared.Tuple.{Tuple}
 use Rattle.rules.specs.declared.Tuple.TheVariants.{Once, Every}
@@ -12,9 +13,7 @@ use Rattle.rules.specs.declared.Set.{Set}
 use Rattle.rules.specs.declared.Refusal.{Refusal}
 use Rattle.rules.specs.declared.Refusal.TheVariants.{BitsMissing, BadVersion, OutOfRule, Leftover, ShortBuffer}
 use Rattle.rules.specs.declared.ReadResult.{ReadResult}
-use Rattle.rules.specs.declared.ReadAnswer.TheVariants.{Read, Refused}
-use Rattle.rules.specs.declared.WriteAnswer.{WriteAnswer}
-use Rattle.rules.specs.declared.WriteAnswer.TheVariants.{Wrote, Refused as NotWritten}
+use Rattle.std.specs.Prelude.{Result, Ok, Err}
 use Rattle.rules.specs.Streams.{no_tuple, no_stage, no_stream, empty_set, stages_of, tuples_of, streams_of, valid}
 
 -- ---- what a set's sheet is
@@ -55,7 +54,7 @@ sheet_of x = pack (sheet_bits x)
 
 -- "5, 6, 10: empty set"; 7 likewise
 abbrev pub no_set : Refusal → ReadResult
-no_set why = record { answer = Refused why; set = empty_set }
+no_set why = record { answer = Err why; set = empty_set }
 
 -- "Reading goes field by field: bits missing gives 5": the field's value and the bits behind it go to what comes next
 abbrev pub field : ℕ → List ℕ → (ℕ → List ℕ → ReadResult) → ReadResult
@@ -88,7 +87,7 @@ abbrev pub is_zero : ℕ → Bool
 is_zero b = eqb b 0
 
 unfoldable pub read_end : ℕ → List Stream → List ℕ → ReadResult
-read_end version ss bs = cond (ltb (length bs) 8 && all is_zero bs) (record { answer = Read; set = set_of version ss }) (no_set Leftover)
+read_end version ss bs = cond (ltb (length bs) 8 && list_all is_zero bs) (record { answer = Ok tt; set = set_of version ss }) (no_set Leftover)
 
 -- n more stages behind those in gs
 unfoldable pub read_stages : ℕ → List Stage → List ℕ → (List Stage → List ℕ → ReadResult) → ReadResult
@@ -140,16 +139,16 @@ read_of sheet = read_bits (bits sheet)
 -- ---- writing
 
 -- "Writing 7, 11."
-unfoldable pub write_of : Set → ℕ → WriteAnswer
+unfoldable pub write_of : Set → ℕ → Result ℕ Refusal
 write_of x room =
     cond (valid x)
-    (cond (leb (length (sheet_of x)) room) (Wrote (length (sheet_of x))) (NotWritten ShortBuffer))
-    (NotWritten OutOfRule)
+    (cond (leb (length (sheet_of x)) room) (Ok (length (sheet_of x))) (Err ShortBuffer))
+    (Err OutOfRule)
 
 -- "A sheet that is written changes only its own bytes in the buffer."
-abbrev pub buffer_by : WriteAnswer → Set → List ℕ → List ℕ
-buffer_by (Wrote n) x buffer = sheet_of x ++ drop n buffer
-buffer_by (NotWritten why) x buffer = buffer
+abbrev pub buffer_by : Result ℕ Refusal → Set → List ℕ → List ℕ
+buffer_by (Ok n) x buffer = sheet_of x ++ drop n buffer
+buffer_by (Err why) x buffer = buffer
 
 unfoldable pub buffer_of : Set → List ℕ → List ℕ
 buffer_of x buffer = buffer_by (write_of x (length buffer)) x buffer

@@ -1,8 +1,9 @@
 -- Document 01, "State and steps": the state, and when it is well formed; document 02, request 4: the stage of a message; request 6: the waits at the doors;
 -- request 8: the owners and the places.
 -- Assumes nothing.
-use Rattle.std.specs.Prelude.{ℕ, ◌+◌, ◌-◌, ◌≤◌, Bool, true, false, cond, ◌&&◌, List, [], ◌∷◌, ◌≡◌, length, get_or, take, drop, ltb, leb, eqb}
-use Rattle.laws.specs.Lists.{every, within, below, all, count, scan}
+use Rattle.std.specs.Prelude.{ℕ, ◌+◌, ◌-◌, Bool, ◌&&◌, List, [], ◌∷◌, ◌≡◌, length, get_or, take, drop, ltb, leb, eqb}
+use Rattle.std.specs.List.{list_all}
+use Rattle.laws.specs.Lists.{every, within, below, count, scan}
 use Rattle.rules.specs.declared.Stage.{Stage}
 use Rattle.rules.specs.declared.Set.{Set}
 use Rattle.rules.specs.declared.Message.{Message}
@@ -111,11 +112,11 @@ state_tests s =
     ∷ leb s.count most_pending
     ∷ leb s.clock last_clock
     ∷ messages_ok s.set s.clock (pending s)
-    ∷ all (started_once s.set (pending s)) (below 16)
-    ∷ all message_unused (drop s.count s.messages)
-    ∷ all (wait_ok s.set s.waits) (below 16)
+    ∷ list_all (started_once s.set (pending s)) (below 16)
+    ∷ list_all message_unused (drop s.count s.messages)
+    ∷ list_all (wait_ok s.set s.waits) (below 16)
     ∷ leb (together s.places) most_pending
-    ∷ all owner_unused (drop s.set.count s.owners)
+    ∷ list_all owner_unused (drop s.set.count s.owners)
     ∷ leb (held_by s Ours) (places_of s.places Ours)
     ∷ leb (held_by s Theirs) (places_of s.places Theirs)
     ∷ []

@@ -1,24 +1,22 @@
 -- Document 01, "State and steps": start, post, choose and unit; document 02, request 4: passing on; request 6: the door; request 8: the parties.
 -- Assumes nothing.
-use Rattle.std.specs.Prelude.{ℕ, zero, suc, ◌+◌, ◌-◌, Bool, true, false, cond, not, ◌&&◌, ◌||◌, List, [], ◌∷◌, length, get_or, set, replicate, ltb, leb, eqb, ℤ, pos, ◌-ℤ◌}
+use Rattle.std.specs.Prelude.{ℕ, ◌+◌, ◌-◌, Bool, cond, not, ◌&&◌, ◌||◌, List, [], ◌∷◌, length, get_or, set, replicate, ltb, leb, eqb, ℤ, pos, ◌-ℤ◌}
 use Rattle.laws.specs.Lists.{find, remove, first_by}
 use Rattle.rules.specs.declared.Set.{Set}
 use Rattle.rules.specs.declared.Message.{Message}
 use Rattle.rules.specs.declared.State.{State}
 use Rattle.rules.specs.declared.Door.{Door}
-use Rattle.rules.specs.declared.Owner.{Owner}
+use Rattle.rules.specs.declared.Party.{Party}
 use Rattle.rules.specs.declared.Places.{Places}
 use Rattle.rules.specs.declared.Refusal.{Refusal}
 use Rattle.rules.specs.declared.Refusal.TheVariants.{NoStream, Full, LastClock, NothingPending, OutOfRule, IllFormed, Early, Crowded}
 use Rattle.rules.specs.declared.StartResult.{StartResult}
-use Rattle.rules.specs.declared.StartAnswer.TheVariants.{Started, Refused as StartRefused}
+use Rattle.std.specs.Prelude.{Result, Ok, Err, Option, Some, None}
+use Rattle.rules.specs.declared.Running.{Running}
+use Rattle.rules.specs.declared.Outcome.{Outcome}
 use Rattle.rules.specs.declared.PostResult.{PostResult}
-use Rattle.rules.specs.declared.PostAnswer.TheVariants.{Posted, Refused as PostRefused}
-use Rattle.rules.specs.declared.ChooseAnswer.{ChooseAnswer}
-use Rattle.rules.specs.declared.ChooseAnswer.TheVariants.{Nothing, Runs, Refused as ChooseRefused}
 use Rattle.rules.specs.declared.UnitResult.{UnitResult}
-use Rattle.rules.specs.declared.UnitAnswer.{UnitAnswer}
-use Rattle.rules.specs.declared.UnitAnswer.TheVariants.{Ran, Passed, Finished, Cut, Idle, Refused as UnitRefused}
+use Rattle.rules.specs.declared.Outcome.TheVariants.{Ran, Passed, Finished, Cut, Idle}
 use Rattle.rules.specs.declared.Call.{Call}
 use Rattle.rules.specs.declared.Call.TheVariants.{Posts, Units}
 use Rattle.rules.specs.declared.CallAnswer.TheVariants.{ToPost, ToUnit}
@@ -31,7 +29,7 @@ use Rattle.rules.specs.States.{no_message, pending, with_clock, with_messages, w
 -- ---- Start
 
 -- "the clock at 0 and no message"; nobody has to wait; request 8: whose the streams are, and the parties' places
-abbrev pub fresh_for : Set → List Owner → Places → State
+abbrev pub fresh_for : Set → List Party → Places → State
 fresh_for x owners places =
     record { set = x; clock = 0; count = 0; messages = replicate most_pending no_message; waits = replicate 16 0; owners = owners; places = places }
 
@@ -41,21 +39,21 @@ fresh x = fresh_for x all_ours all_places
 
 -- "with the start of the empty set"
 abbrev pub start_refused : Refusal → StartResult
-start_refused why = record { answer = StartRefused why; state = fresh empty_set }
+start_refused why = record { answer = Err why; state = fresh empty_set }
 
 -- "A valid set gives the clock at 0 and no message. An invalid one gives 7 and the start of the empty set."; request 8: "16 at start, after 7, when the
 -- places exceed 64, with the start of the empty set"; the owners of streams that the set does not have are taken as ours
-unfoldable pub start_for : Set → List Owner → Places → StartResult
+unfoldable pub start_for : Set → List Party → Places → StartResult
 start_for x owners places =
     cond (valid x)
     (cond (leb (together places) most_pending)
-    (record { answer = Started; state = fresh_for x (owners_for x.count owners) places })
+    (record { answer = Ok tt; state = fresh_for x (owners_for x.count owners) places })
     (start_refused Crowded))
     (start_refused OutOfRule)
 
 -- the start with all streams ours and 64 places
 unfoldable pub start_of : Set → StartResult
-start_of x = cond (valid x) (record { answer = Started; state = fresh x }) (start_refused OutOfRule)
+start_of x = cond (valid x) (record { answer = Ok tt; state = fresh x }) (start_refused OutOfRule)
 
 -- ---- Post
 
@@ -80,7 +78,7 @@ added s m = with_waits (with_messages s (s.count + 1) (set s.messages s.count m)
 
 -- "state unchanged"
 abbrev pub post_refused : State → Refusal → PostResult
-post_refused s why = record { answer = PostRefused why; state = s }
+post_refused s why = record { answer = Err why; state = s }
 
 -- request 8: "A post is refused as full exactly when its own party has its number pending."
 abbrev pub has_place : State → ℕ → Bool
@@ -94,7 +92,7 @@ post_of s k =
     (cond (shut (door_at s k) (wait_at s k))
     (post_refused s Early)
     (cond (has_place s k)
-    (record { answer = Posted k (new_message s k).deadline; state = added s (new_message s k) })
+    (record { answer = Ok (record { stream = k; deadline = (new_message s k).deadline }); state = added s (new_message s k) })
     (post_refused s Full)))
     (post_refused s NoStream))
     (post_refused s IllFormed)
@@ -153,11 +151,11 @@ abbrev pub message_at : State → ℕ → Message
 message_at s i = get_or s.messages i no_message
 
 -- "With nothing pending the answer is none." "12: state not well formed: .. no task named"
-unfoldable pub choose_of : State → ChooseAnswer
+unfoldable pub choose_of : State → Result (Option Running) Refusal
 choose_of s =
     cond (well_formed s)
-    (cond (eqb s.count 0) Nothing (Runs (task_of s.set (message_at s (place_of s))) (message_at s (place_of s)).stream))
-    (ChooseRefused IllFormed)
+    (cond (eqb s.count 0) (Ok None) (Ok (Some (record { task = task_of s.set (message_at s (place_of s)); stream = (message_at s (place_of s)).stream }))))
+    (Err IllFormed)
 
 -- ---- Unit(done)
 
@@ -185,7 +183,7 @@ departed s i = with_messages (ticked s) (s.count - 1) (remove no_message i s.mes
 unfoldable pub laxity_of : ℕ → ℕ → ℤ
 laxity_of deadline clock = pos deadline -ℤ pos clock
 
-abbrev pub answered : State → UnitAnswer → UnitResult
+abbrev pub answered : State → Result Outcome Refusal → UnitResult
 answered s a = record { answer = a; state = s }
 
 -- is a message in its last stage?
@@ -202,15 +200,15 @@ served_of s i done =
     let laxity = laxity_of m.deadline (s.clock + 1) in
     cond done
     (cond (at_last s.set m)
-    (answered (departed s i) (Finished task m.stream laxity))
-    (answered (stayed s i (passed_on m)) (Passed task m.stream)))
+    (answered (departed s i) (Ok (Finished task m.stream laxity)))
+    (answered (stayed s i (passed_on m)) (Ok (Passed task m.stream))))
     (cond (eqb (m.used + 1) (cost_of s.set m))
-    (answered (departed s i) (Cut task m.stream laxity))
-    (answered (stayed s i (gained m)) (Ran task m.stream)))
+    (answered (departed s i) (Ok (Cut task m.stream laxity)))
+    (answered (stayed s i (gained m)) (Ok (Ran task m.stream))))
 
 -- "With nothing pending and not done, the answer is idle and only the clock moves."
 unfoldable pub empty_unit : State → Bool → UnitResult
-empty_unit s done = cond done (answered s (UnitRefused NothingPending)) (answered (ticked s) Idle)
+empty_unit s done = cond done (answered s (Err NothingPending)) (answered (ticked s) (Ok Idle))
 
 -- "Unit 12, 3, 4."
 unfoldable pub unit_of : State → Bool → UnitResult
@@ -218,8 +216,8 @@ unit_of s done =
     cond (well_formed s)
     (cond (ltb s.clock last_clock)
     (cond (eqb s.count 0) (empty_unit s done) (served_of s (place_of s) done))
-    (answered s (UnitRefused LastClock)))
-    (answered s (UnitRefused IllFormed))
+    (answered s (Err LastClock)))
+    (answered s (Err IllFormed))
 
 -- ---- a call
 

@@ -1,7 +1,8 @@
 -- Document 01, "Streams and sets"; document 02, request 4: stages and versions.
 -- Assumes nothing.
-use Rattle.std.specs.Prelude.{ℕ, ◌+◌, ◌-◌, ◌*◌, ◌/◌, Bool, true, false, cond, ◌&&◌, ◌||◌, List, [], ◌∷◌, ◌≡◌, length, get_or, take, drop, replicate, ltb, leb, eqb}
-use Rattle.laws.specs.Lists.{every, within, all, sum, All, scan}
+use Rattle.std.specs.Prelude.{ℕ, ◌+◌, ◌-◌, ◌*◌, ◌/◌, Bool, true, false, cond, ◌&&◌, List, [], ◌∷◌, ◌≡◌, length, get_or, take, drop, replicate, ltb, leb, eqb}
+use Rattle.std.specs.List.{list_all}
+use Rattle.laws.specs.Lists.{every, within, sum, All, scan}
 use Rattle.rules.specs.declared.Tuple.{Tuple}
 use Rattle.rules.specs.declared.Tuple.TheVariants.{Once, Every}
 use Rattle.rules.specs.declared.TuplePlace.{TuplePlace}
@@ -9,10 +10,8 @@ use Rattle.rules.specs.declared.Stage.{Stage}
 use Rattle.rules.specs.declared.Stream.{Stream}
 use Rattle.rules.specs.declared.Set.{Set}
 use Rattle.rules.specs.declared.Refusal.TheVariants.{OutOfRule}
-use Rattle.rules.specs.declared.CountAnswer.{CountAnswer}
-use Rattle.rules.specs.declared.CountAnswer.TheVariants.{Number, Refused}
-use Rattle.rules.specs.declared.JitterAnswer.{JitterAnswer}
-use Rattle.rules.specs.declared.JitterAnswer.TheVariants.{Tuples, Refused as NoTuples}
+use Rattle.std.specs.Prelude.{Result, Ok, Err}
+use Rattle.rules.specs.declared.Refusal.{Refusal}
 
 -- "Unused places are zero, an unused tuple once at 0."
 abbrev pub no_tuple : TuplePlace
@@ -87,13 +86,13 @@ stage_unused g = every (eqb g.task 0 ∷ eqb g.cost 0 ∷ [])
 abbrev pub stream_tests : Stream → List Bool
 stream_tests s =
     within 1 s.depth 4
-    ∷ all stage_ok (stages_of s)
-    ∷ all stage_unused (drop s.depth s.stages)
+    ∷ list_all stage_ok (stages_of s)
+    ∷ list_all stage_unused (drop s.depth s.stages)
     ∷ within 1 s.deadline 200000
     ∷ within 1 s.count 4
     ∷ eqb (offset_at (get_or s.tuples 0 no_tuple)) 0
     ∷ tuples_ok (tuples_of s)
-    ∷ all tuple_unused (drop s.count s.tuples)
+    ∷ list_all tuple_unused (drop s.count s.tuples)
     ∷ []
 
 unfoldable pub stream_ok : Stream → Bool
@@ -102,19 +101,19 @@ stream_ok s = every (stream_tests s)
 unfoldable pub stream_unused : Stream → Bool
 stream_unused s =
     every
-    (eqb s.depth 0 ∷ all stage_unused s.stages ∷ eqb s.deadline 0 ∷ eqb s.count 0 ∷ all tuple_unused s.tuples ∷ [])
+    (eqb s.depth 0 ∷ list_all stage_unused s.stages ∷ eqb s.deadline 0 ∷ eqb s.count 0 ∷ list_all tuple_unused s.tuples ∷ [])
 
 abbrev pub one_stage : Stream → Bool
 one_stage s = eqb s.depth 1
 
 -- "A set records its version; a version 1 set has one stage everywhere"; there are sheets of version 1 and of version 2
 unfoldable pub version_ok : Set → Bool
-version_ok x = cond (eqb x.version 1) (all one_stage (streams_of x)) (eqb x.version 2)
+version_ok x = cond (eqb x.version 1) (list_all one_stage (streams_of x)) (eqb x.version 2)
 
 -- "A set has 0 to 16 streams. .. Unused places are zero. .. Any other set is invalid."
 abbrev pub set_tests : Set → List Bool
 set_tests x =
-    leb x.count 16 ∷ all stream_ok (streams_of x) ∷ all stream_unused (drop x.count x.streams) ∷ version_ok x ∷ []
+    leb x.count 16 ∷ list_all stream_ok (streams_of x) ∷ list_all stream_unused (drop x.count x.streams) ∷ version_ok x ∷ []
 
 unfoldable pub valid : Set → Bool
 valid x = every (set_tests x)
@@ -141,8 +140,8 @@ unfoldable pub limit : Stream → ℕ → ℕ
 limit s i = sum (events i) (tuples_of s)
 
 -- "Asked for an invalid set, .. event limit [is] refused with 7 and give[s] 0; the event limit of a stream not in the set likewise."
-unfoldable pub limit_of : Set → ℕ → ℕ → CountAnswer
-limit_of x k i = cond (valid x && ltb k x.count) (Number (limit (stream_at x k) i)) (Refused OutOfRule)
+unfoldable pub limit_of : Set → ℕ → ℕ → Result ℕ Refusal
+limit_of x k i = cond (valid x && ltb k x.count) (Ok (limit (stream_at x k) i)) (Err OutOfRule)
 
 -- "It is refused with 7 exactly if z is 0 or above 1,000,000 ..; no tuples are then returned."; document 02, request 2: "7 now when 2j is above z or
 -- z - 2j is above 100,000, and for z as before"
@@ -151,5 +150,5 @@ jitter_ok z j = every (within 1 z 1000000 ∷ leb (2 * j) z ∷ leb (z - 2 * j) 
 
 -- "A jittered cycle (z, j) is written as once at 0, and every z from ..": request 2: "comes early as well as late, by up to j each way ..
 -- has the second tuple start at z - 2j"
-unfoldable pub jitter_of : ℕ → ℕ → JitterAnswer
-jitter_of z j = cond (jitter_ok z j) (Tuples (Once 0) (Every z (z - 2 * j))) (NoTuples OutOfRule)
+unfoldable pub jitter_of : ℕ → ℕ → Result (Tuple × Tuple) Refusal
+jitter_of z j = cond (jitter_ok z j) (Ok (Once 0, Every z (z - 2 * j))) (Err OutOfRule)

@@ -1,7 +1,8 @@
 -- Document 01, "Streams and sets": what the test of a valid set says of its streams and their tuples, as propositions.
 -- Assumes nothing.
 use Rattle.std.specs.Prelude.{ℕ, ◌≤◌, true, List, [], ◌∷◌, ◌≡◌, drop}
-use Rattle.laws.specs.Lists.{all, All}
+use Rattle.std.specs.List.{list_all}
+use Rattle.laws.specs.Lists.{All}
 use Rattle.rules.specs.declared.Tuple.{Tuple}
 use Rattle.rules.specs.declared.Tuple.TheVariants.{Once, Every}
 use Rattle.rules.specs.declared.TuplePlace.{TuplePlace}
@@ -36,16 +37,16 @@ pub record ValidStage (g : Stage) : Type 0 where
 pub record ValidStream (s : Stream) : Type 0 where
   pub depth : Between 1 s.depth 4
   pub stages : All ValidStage (stages_of s)
-  pub unstaged : all stage_unused (drop s.depth s.stages) ≡ true
+  pub unstaged : list_all stage_unused (drop s.depth s.stages) ≡ true
   pub deadline : Between 1 s.deadline 200000
   pub count : Between 1 s.count 4
   pub tuples : All ValidPlace (tuples_of s)
   pub first : FirstZero (tuples_of s)
   pub order : tuples_ok (tuples_of s) ≡ true
-  pub unused : all tuple_unused (drop s.count s.tuples) ≡ true
+  pub unused : list_all tuple_unused (drop s.count s.tuples) ≡ true
 
 pub record ValidSet (x : Set) : Type 0 where
   pub count : x.count ≤ 16
   pub streams : All ValidStream (streams_of x)
-  pub unused : all stream_unused (drop x.count x.streams) ≡ true
+  pub unused : list_all stream_unused (drop x.count x.streams) ≡ true
   pub version : version_ok x ≡ true

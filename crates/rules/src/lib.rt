@@ -58,12 +58,6 @@ pub enum Party {
     Theirs,
 }
 
-// The owner of a stream.
-#[derive(Clone, Copy)]
-pub struct Owner {
-    pub party: Party,
-}
-
 // How many places each party has.
 #[derive(Clone, Copy)]
 pub struct Places {
@@ -80,7 +74,7 @@ pub struct State {
     pub count: usize,
     pub messages: [Message; 64],
     pub waits: [u32; 16],
-    pub owners: [Owner; 16],
+    pub owners: [Party; 16],
     pub places: Places,
 }
 
@@ -99,62 +93,57 @@ pub const LAST_CLOCK: u32 = 4000000000;
 // "A full sheet is 378 bytes" in version 1; in version 2 it has 502.
 pub const LONGEST_SHEET: usize = 502;
 
-// Why a call is refused. specs/Numbers.antt gives the number that the cab prints for each.
+// Why a call is refused, and the number that the cab prints for it; specs/Numbers.antt says the same.
 #[derive(Clone, Copy)]
 pub enum Refusal {
-    NoStream,
-    Full,
-    LastClock,
-    NothingPending,
-    BitsMissing,
-    BadVersion,
-    OutOfRule,
-    LongCycles,
-    BadByte,
-    Leftover,
-    ShortBuffer,
-    IllFormed,
-    StopsEarly,
-    Trailing,
-    Early,
-    Crowded,
+    NoStream = 1,
+    Full = 2,
+    LastClock = 3,
+    NothingPending = 4,
+    BitsMissing = 5,
+    BadVersion = 6,
+    OutOfRule = 7,
+    LongCycles = 8,
+    BadByte = 9,
+    Leftover = 10,
+    ShortBuffer = 11,
+    IllFormed = 12,
+    StopsEarly = 13,
+    Trailing = 14,
+    Early = 15,
+    Crowded = 16,
 }
 
-#[derive(Clone, Copy)]
-pub enum StartAnswer {
-    Started,
-    Refused(Refusal),
-}
-
+// A call that can be refused answers a `Result`: what it gives, or why it is refused.
 #[derive(Clone, Copy)]
 pub struct StartResult {
-    pub answer: StartAnswer,
+    pub answer: Result<(), Refusal>,
     pub state: State,
 }
 
+// An accepted post.
 #[derive(Clone, Copy)]
-pub enum PostAnswer {
-    // stream, deadline
-    Posted(usize, u32),
-    Refused(Refusal),
+pub struct Posted {
+    pub stream: usize,
+    pub deadline: u32,
 }
 
 #[derive(Clone, Copy)]
 pub struct PostResult {
-    pub answer: PostAnswer,
+    pub answer: Result<Posted, Refusal>,
     pub state: State,
 }
 
+// The task that is chosen, and the stream of the message that it serves.
 #[derive(Clone, Copy)]
-pub enum ChooseAnswer {
-    Nothing,
-    // task, stream
-    Runs(usize, usize),
-    Refused(Refusal),
+pub struct Running {
+    pub task: usize,
+    pub stream: usize,
 }
 
+// What a unit did.
 #[derive(Clone, Copy)]
-pub enum UnitAnswer {
+pub enum Outcome {
     // task, stream
     Ran(usize, usize),
     // task, stream
@@ -164,12 +153,11 @@ pub enum UnitAnswer {
     // task, stream, laxity
     Cut(usize, usize, i64),
     Idle,
-    Refused(Refusal),
 }
 
 #[derive(Clone, Copy)]
 pub struct UnitResult {
-    pub answer: UnitAnswer,
+    pub answer: Result<Outcome, Refusal>,
     pub state: State,
 }
 
@@ -184,27 +172,14 @@ pub enum Call {
 
 #[derive(Clone, Copy)]
 pub enum CallAnswer {
-    ToPost(PostAnswer),
-    ToUnit(UnitAnswer),
+    ToPost(Result<Posted, Refusal>),
+    ToUnit(Result<Outcome, Refusal>),
 }
 
 #[derive(Clone, Copy)]
 pub struct CallResult {
     pub answer: CallAnswer,
     pub state: State,
-}
-
-// What an event limit or a demand that is asked for answers.
-#[derive(Clone, Copy)]
-pub enum CountAnswer {
-    Number(u64),
-    Refused(Refusal),
-}
-
-#[derive(Clone, Copy)]
-pub enum JitterAnswer {
-    Tuples(Tuple, Tuple),
-    Refused(Refusal),
 }
 
 #[derive(Clone, Copy)]
@@ -217,75 +192,31 @@ pub enum Verdict {
 }
 
 #[derive(Clone, Copy)]
-pub enum ReadAnswer {
-    Read,
-    Refused(Refusal),
-}
-
-#[derive(Clone, Copy)]
 pub struct ReadResult {
-    pub answer: ReadAnswer,
+    pub answer: Result<(), Refusal>,
     pub set: Set,
 }
 
-// What feeding a piece of a sheet answers: nothing is told of the sheet before closing.
+// A place in a string of bytes: a byte, and a bit behind its first.
 #[derive(Clone, Copy)]
-pub enum FeedAnswer {
-    Fed,
-    Refused(Refusal),
-}
-
-#[derive(Clone, Copy)]
-pub enum WriteAnswer {
-    // bytes written
-    Wrote(usize),
-    Refused(Refusal),
-}
-
-// What the bits at a place of a recording say: a call, the end, or why neither.
-#[derive(Clone, Copy)]
-pub enum Mark {
-    Makes(Call),
-    Ends,
-    Refused(Refusal),
-}
-
-// What a step of a replay answers: what the call answers, that the recording ends, or why there is no step.
-#[derive(Clone, Copy)]
-pub enum ReplayAnswer {
-    Called(CallAnswer),
-    Ended,
-    Refused(Refusal),
-}
-
-// The answer, the state, and the reader's place: a byte, and a bit behind its first.
-#[derive(Clone, Copy)]
-pub struct ReplayResult {
-    pub answer: ReplayAnswer,
-    pub state: State,
+pub struct Place {
     pub byte: usize,
     pub bit: u32,
+}
+
+// A step of a replay: what the call answers, nothing where the recording ends, or why there is no step; the state, and the reader's place.
+#[derive(Clone, Copy)]
+pub struct ReplayResult {
+    pub answer: Result<Option<CallAnswer>, Refusal>,
+    pub state: State,
+    pub place: Place,
 }
 
 // How a replay begins: what the sheet reads as, and the start of its set.
 #[derive(Clone, Copy)]
 pub struct ReplayStart {
-    pub answer: ReadAnswer,
+    pub answer: Result<(), Refusal>,
     pub state: State,
-}
-
-// What appending a call to a recording answers: the place behind it, or why it was not appended.
-#[derive(Clone, Copy)]
-pub enum AppendAnswer {
-    Appended(usize, u32),
-    Refused(Refusal),
-}
-
-#[derive(Clone, Copy)]
-pub enum RecordAnswer {
-    // bytes of the recording
-    Recorded(usize),
-    Refused(Refusal),
 }
 
 // Where a check in calls stands: its set, and the next length to test.
@@ -295,32 +226,11 @@ pub struct Position {
     pub next: u32,
 }
 
-// How a check in calls begins: with a position, or it stops with a verdict before any length.
+// What a call of a check comes to.
 #[derive(Clone, Copy)]
-pub enum OpenAnswer {
-    Opened,
-    Stops(Verdict),
-}
-
-// With a verdict there is no position; the empty set at length 0 stands in its place.
-#[derive(Clone, Copy)]
-pub struct OpenResult {
-    pub answer: OpenAnswer,
-    pub position: Position,
-}
-
-// What a call of a check answers: how many lengths it tested, with a next position or with the verdict; or why it tested none.
-#[derive(Clone, Copy)]
-pub enum GoAnswer {
-    // lengths tested
-    Next(u32),
+pub enum Progress {
+    // lengths tested, the next position
+    Next(u32, Position),
     // lengths tested, the verdict
     Falls(u32, Verdict),
-    Refused(Refusal),
-}
-
-#[derive(Clone, Copy)]
-pub struct GoResult {
-    pub answer: GoAnswer,
-    pub position: Position,
 }

@@ -1,14 +1,12 @@
 // A state for each way of not being well formed: 12 from post, choose and unit.
-use crate::yard;
-use rules::State;
+use crate::yard::{self, UNIT};
+use rules::{Call, State};
 use std::io;
 
 fn twelve(rt: &impl Print, s: State) -> io::Result<()> {
-    let r = scheduler::post(s, 0);
-    let a = r.answer;
-    crate::say::post(rt, a)?;
+    yard::play(rt, s, &[Call::Posts(0)])?;
     crate::say::choose(rt, scheduler::choose(s))?;
-    yard::unit(rt, s, false)?;
+    yard::play(rt, s, &[UNIT])?;
     Ok(())
 }
 
@@ -24,11 +22,9 @@ fn sound() -> State {
 
 // The set, the count and the clock.
 fn counts(rt: &impl Print) -> io::Result<()> {
-    crate::say::words(rt, b"set invalid, 65 messages, clock past the last\n")?;
+    println!(rt; "set invalid, 65 messages, clock past the last")?;
     let mut s = sound();
-    let mut x = s.set;
-    x.count = 17;
-    s.set = x;
+    s.set.count = 17;
     twelve(rt, s)?;
     let mut s = sound();
     s.count = 65;
@@ -40,10 +36,7 @@ fn counts(rt: &impl Print) -> io::Result<()> {
 
 // A message's own rules.
 fn messages(rt: &impl Print) -> io::Result<()> {
-    crate::say::words(
-        rt,
-        b"no such stream, used up, deadline below d, deadline past clock + d\n",
-    )?;
+    println!(rt; "no such stream, used up, deadline below d, deadline past clock + d")?;
     twelve(rt, yard::with_message(sound(), 1, 3, 9, 0))?;
     twelve(rt, yard::with_message(sound(), 1, 2, 9, 2))?;
     twelve(rt, yard::with_message(sound(), 1, 2, 7, 0))?;
@@ -52,7 +45,7 @@ fn messages(rt: &impl Print) -> io::Result<()> {
 
 // The order, the started messages and the unused places.
 fn together(rt: &impl Print) -> io::Result<()> {
-    crate::say::words(rt, b"posting order, two started, unused place\n")?;
+    println!(rt; "posting order, two started, unused place")?;
     twelve(
         rt,
         yard::with_message(yard::with_message(sound(), 0, 1, 21, 1), 1, 2, 8, 0),
@@ -73,20 +66,15 @@ fn passed() -> State {
 
 // The set's version and the stages of the messages.
 fn stages(rt: &impl Print) -> io::Result<()> {
-    crate::say::words(rt, b"version 3, two stages in version 1\n")?;
+    println!(rt; "version 3, two stages in version 1")?;
     let mut s = passed();
-    let mut x = s.set;
-    x.version = 3;
-    s.set = x;
+    s.set.version = 3;
     twelve(rt, s)?;
     let mut s = passed();
-    let mut x = s.set;
-    x.version = 1;
-    s.set = x;
+    s.set.version = 1;
     twelve(rt, s)?;
-    crate::say::words(
-        rt,
-        b"no such stage, used up in its stage, two started on one task, a stage in an unused place\n",
+    println!(rt;
+        "no such stage, used up in its stage, two started on one task, a stage in an unused place"
     )?;
     twelve(rt, yard::in_stage(passed(), 0, 2))?;
     twelve(rt, yard::in_stage(passed(), 0, 0))?;
@@ -96,14 +84,14 @@ fn stages(rt: &impl Print) -> io::Result<()> {
 
 // The waits at the doors: set B's are at most 20.
 fn waits(rt: &impl Print) -> io::Result<()> {
-    crate::say::words(rt, b"a wait too long, without a door, in an unused place\n")?;
+    println!(rt; "a wait too long, without a door, in an unused place")?;
     twelve(rt, yard::with_wait(sound(), 0, 21))?;
     twelve(rt, yard::with_wait(passed(), 0, 1))?;
     twelve(rt, yard::with_wait(sound(), 3, 1))
 }
 
 pub fn each(rt: &impl Print) -> io::Result<()> {
-    crate::say::words(rt, b"well formed\n")?;
+    println!(rt; "well formed")?;
     crate::say::choose(rt, scheduler::choose(sound()))?;
     crate::say::choose(rt, scheduler::choose(passed()))?;
     counts(rt)?;

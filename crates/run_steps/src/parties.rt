@@ -1,91 +1,75 @@
 // Two parties share the message table: the second stream is theirs, and neither stream has a door.
-use crate::yard;
-use rules::{Owner, Party, Places, Set, StartResult, State};
+use crate::yard::{self, DONE};
+use rules::Call::Posts;
+use rules::{Party, Places, StartResult, State};
 use std::io;
 
-fn both() -> Set {
-    let mut x = yard::one(yard::open(yard::stream(0, 2, 5)));
-    x.streams[1] = yard::open(yard::stream(1, 2, 8));
-    x.count = 2;
-    x
-}
-
-fn owners() -> [Owner; 16] {
-    let mut all = state_parties::all_ours();
-    all[1] = Owner {
-        party: Party::Theirs,
-    };
-    all
-}
-
 fn begin(rt: &impl Print, ours: u32, theirs: u32) -> io::Result<State> {
-    let places = Places { ours, theirs };
-    let r: StartResult = scheduler::start_for(both(), owners(), places);
-    let a = r.answer;
-    crate::say::start(rt, a)?;
-    Ok(r.state)
+    let both = yard::set(&[
+        yard::open(yard::stream(0, 2, 5)),
+        yard::open(yard::stream(1, 2, 8)),
+    ]);
+    let mut owners = state_parties::all_ours();
+    owners[1] = Party::Theirs;
+    let StartResult { answer, state } = scheduler::start_for(both, owners, Places { ours, theirs });
+    crate::say::start(rt, answer)?;
+    Ok(state)
 }
 
 // Two places for us and one for them.
 fn numbers(rt: &impl Print) -> io::Result<()> {
-    crate::say::words(rt, b"each party to its number, whatever the other has\n")?;
+    println!(rt; "each party to its number, whatever the other has")?;
     let s = begin(rt, 2, 1)?;
-    let s = yard::post(rt, s, 0)?;
-    let s = yard::post(rt, s, 0)?;
-    let s = yard::post(rt, s, 0)?;
-    let s = yard::post(rt, s, 1)?;
-    let s = yard::post(rt, s, 1)?;
-    let s = yard::unit(rt, s, true)?;
-    let s = yard::post(rt, s, 1)?;
-    yard::post(rt, s, 0)?;
+    yard::play(
+        rt,
+        s,
+        &[
+            Posts(0),
+            Posts(0),
+            Posts(0),
+            Posts(1),
+            Posts(1),
+            DONE,
+            Posts(1),
+            Posts(0),
+        ],
+    )?;
     Ok(())
 }
 
 // 64 places together, one more, and none.
 fn starts(rt: &impl Print) -> io::Result<()> {
-    crate::say::words(rt, b"64 places, 65, none\n")?;
-    let s = begin(rt, 40, 24)?;
-    yard::post(rt, s, 1)?;
-    let s = begin(rt, 40, 25)?;
-    yard::post(rt, s, 1)?;
-    let s = begin(rt, 0, 0)?;
-    yard::post(rt, s, 1)?;
+    println!(rt; "64 places, 65, none")?;
+    yard::play(rt, begin(rt, 40, 24)?, &[Posts(1)])?;
+    yard::play(rt, begin(rt, 40, 25)?, &[Posts(1)])?;
+    yard::play(rt, begin(rt, 0, 0)?, &[Posts(1)])?;
     Ok(())
 }
 
 // A state for each way to break a party's rule.
 fn broken(rt: &impl Print) -> io::Result<()> {
-    crate::say::words(
-        rt,
-        b"65 places, an unused stream theirs, more than a party's number\n",
-    )?;
+    println!(rt; "65 places, an unused stream theirs, more than a party's number")?;
     let mut s = begin(rt, 40, 24)?;
-    let places = Places {
+    s.places = Places {
         ours: 40,
         theirs: 25,
     };
-    s.places = places;
-    yard::post(rt, s, 0)?;
+    yard::play(rt, s, &[Posts(0)])?;
     let mut s = begin(rt, 40, 24)?;
-    let them = Owner {
-        party: Party::Theirs,
-    };
-    s.owners[2] = them;
-    yard::post(rt, s, 0)?;
-    let mut s = yard::post(rt, begin(rt, 40, 24)?, 1)?;
-    let places = Places {
+    s.owners[2] = Party::Theirs;
+    yard::play(rt, s, &[Posts(0)])?;
+    let mut s = yard::play(rt, begin(rt, 40, 24)?, &[Posts(1)])?;
+    s.places = Places {
         ours: 64,
         theirs: 0,
     };
-    s.places = places;
-    yard::post(rt, s, 0)?;
-    let mut s = yard::post(rt, begin(rt, 40, 24)?, 0)?;
-    let places = Places {
+    yard::play(rt, s, &[Posts(0)])?;
+    let mut s = yard::play(rt, begin(rt, 40, 24)?, &[Posts(0)])?;
+    s.places = Places {
         ours: 0,
         theirs: 64,
     };
-    s.places = places;
-    yard::post(rt, s, 1)?;
+    yard::play(rt, s, &[Posts(1)])?;
     Ok(())
 }
 

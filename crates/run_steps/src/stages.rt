@@ -1,35 +1,29 @@
 // A message goes through its stages.
-use crate::yard;
+use crate::yard::{self, DONE, UNIT};
+use rules::Call::Posts;
 use std::io;
 
 // Done at the first stage passes on, at the last it leaves; its deadline stays, and the next stage has its whole cost.
 fn through(rt: &impl Print) -> io::Result<()> {
-    crate::say::words(rt, b"passes on, waits for a started message, leaves\n")?;
+    println!(rt; "passes on, waits for a started message, leaves")?;
     let s = yard::begin(yard::set_of_stages());
-    let s = yard::post(rt, s, 1)?;
-    let s = yard::unit(rt, s, false)?;
-    let s = yard::post(rt, s, 0)?;
-    let s = yard::unit(rt, s, true)?;
-    let s = yard::unit(rt, s, true)?;
-    let s = yard::unit(rt, s, false)?;
-    let s = yard::unit(rt, s, false)?;
-    yard::unit(rt, s, true)?;
+    yard::play(
+        rt,
+        s,
+        &[Posts(1), UNIT, Posts(0), DONE, DONE, UNIT, UNIT, DONE],
+    )?;
     Ok(())
 }
 
 // Not done on the unit that reaches a stage's cost: cut, and it leaves at once.
 fn cut(rt: &impl Print) -> io::Result<()> {
-    crate::say::words(rt, b"cut in the first stage, cut in the second\n")?;
+    println!(rt; "cut in the first stage, cut in the second")?;
     let s = yard::begin(yard::set_of_stages());
-    let s = yard::post(rt, s, 0)?;
-    let s = yard::unit(rt, s, false)?;
-    let s = yard::unit(rt, s, false)?;
-    let s = yard::post(rt, s, 0)?;
-    let s = yard::unit(rt, s, true)?;
-    let s = yard::unit(rt, s, false)?;
-    let s = yard::unit(rt, s, false)?;
-    let s = yard::unit(rt, s, false)?;
-    yard::unit(rt, s, true)?;
+    yard::play(
+        rt,
+        s,
+        &[Posts(0), UNIT, UNIT, Posts(0), DONE, UNIT, UNIT, UNIT, DONE],
+    )?;
     Ok(())
 }
 

@@ -1,60 +1,26 @@
 // Ways a cab has gone wrong, as the steps go today.
-use crate::yard;
+use crate::yard::{self, DONE, UNIT};
+use rules::Call;
+use rules::Call::Posts;
 use std::io;
 
-// Messages of a task served in order of arrival.
-fn arrival(rt: &impl Print) -> io::Result<()> {
-    crate::say::words(rt, b"not in order of arrival\n")?;
-    let s = yard::begin(yard::set_b());
-    let s = yard::post(rt, s, 1)?;
-    let s = yard::post(rt, s, 0)?;
-    let s = yard::unit(rt, s, true)?;
-    yard::unit(rt, s, true)?;
-    Ok(())
-}
-
-// A started message put back when a more urgent one comes.
-fn put_back(rt: &impl Print) -> io::Result<()> {
-    crate::say::words(rt, b"a started message runs on\n")?;
-    let s = yard::begin(yard::set_b());
-    let s = yard::post(rt, s, 1)?;
-    let s = yard::unit(rt, s, false)?;
-    let s = yard::post(rt, s, 0)?;
-    let s = yard::post(rt, s, 2)?;
-    let s = yard::unit(rt, s, true)?;
-    yard::unit(rt, s, true)?;
-    Ok(())
-}
-
-// Taking a message before its first unit.
-fn taken_early(rt: &impl Print) -> io::Result<()> {
-    crate::say::words(rt, b"taken at its first unit\n")?;
-    let s = yard::begin(yard::set_b());
-    let s = yard::post(rt, s, 2)?;
-    let s = yard::unit(rt, s, true)?;
-    let s = yard::post(rt, s, 1)?;
-    let s = yard::post(rt, s, 0)?;
-    yard::unit(rt, s, false)?;
-    Ok(())
-}
-
-// Every task can hold one started message.
-fn each_holds_one(rt: &impl Print) -> io::Result<()> {
-    crate::say::words(rt, b"two tasks hold a started message\n")?;
-    let s = yard::begin(yard::set_b());
-    let s = yard::post(rt, s, 1)?;
-    let s = yard::unit(rt, s, false)?;
-    let s = yard::post(rt, s, 2)?;
-    let s = yard::unit(rt, s, false)?;
-    let s = yard::post(rt, s, 0)?;
-    let s = yard::unit(rt, s, false)?;
-    yard::unit(rt, s, false)?;
+// The calls from a start of set B.
+fn of_b(rt: &impl Print, calls: &[Call]) -> io::Result<()> {
+    yard::play(rt, yard::begin(yard::set_b()), calls)?;
     Ok(())
 }
 
 pub fn each(rt: &impl Print) -> io::Result<()> {
-    arrival(rt)?;
-    put_back(rt)?;
-    taken_early(rt)?;
-    each_holds_one(rt)
+    // messages of a task served in order of arrival
+    println!(rt; "not in order of arrival")?;
+    of_b(rt, &[Posts(1), Posts(0), DONE, DONE])?;
+    // a started message put back when a more urgent one comes
+    println!(rt; "a started message runs on")?;
+    of_b(rt, &[Posts(1), UNIT, Posts(0), Posts(2), DONE, DONE])?;
+    // taking a message before its first unit
+    println!(rt; "taken at its first unit")?;
+    of_b(rt, &[Posts(2), DONE, Posts(1), Posts(0), UNIT])?;
+    // every task can hold one started message
+    println!(rt; "two tasks hold a started message")?;
+    of_b(rt, &[Posts(1), UNIT, Posts(2), UNIT, Posts(0), UNIT, UNIT])
 }

@@ -1,4 +1,3 @@
 pub mod Signed
 pub mod Ways
 pub mod Serving
-pub mod Calls

@@ -2,37 +2,42 @@
 -- Assumes nothing.
 use Prim.Native.Nat.{ℕ, ◌+◌, ◌≤◌, ◌<◌}
 use mathlib.Core.Bool.{Bool, true, false}
-use mathlib.Core.Path.{◌≡◌, refl, ap, ap₂, sym, ◌∙◌}
+use mathlib.Core.Path.{◌≡◌, refl, ap, sym, ◌∙◌}
 use native.Mathlib.Omega.{arith}
 use borrow.Author.Tests.{lt-ltb, le-ltb, leb-true, ltb-true}
 use lib.Dec.{ltb}
 use lib.ListN.{length, get_or, set}
+use Rattle.std.specs.Prelude.{Ok, Some, None}
 use Rattle.laws.proofs.Parts.{get_d_any, below_at}
 use Rattle.rules.specs.declared.State.{State}
+use Rattle.rules.specs.declared.Stream.{Stream}
 use Rattle.rules.specs.declared.Door.{Door}
-use Rattle.rules.specs.declared.Owner.{Owner}
 use Rattle.rules.specs.declared.Party.{Party}
 use Rattle.rules.specs.declared.Party.TheVariants.{Ours, Theirs}
 use Rattle.rules.specs.Parties.{ours, places_of}
 use Rattle.rules.specs.declared.Refusal.TheVariants.{NoStream, Full, IllFormed, Early}
 use Rattle.rules.specs.declared.PostResult.{PostResult}
-use Rattle.rules.specs.declared.PostAnswer.TheVariants.{Posted}
 use Rattle.rules.specs.Streams.{stream_at, no_stream}
 use Rattle.rules.specs.Doors.{door_of, shut, wait_after, most_wait}
 use Rattle.rules.specs.States.{pending, party_of, held_by, wait_ok, well_formed}
 use Rattle.rules.specs.Steps.{door_at, wait_at, has_place, post_refused, post_of}
 use Rattle.rules.proofs.Valid.{valid_set}
 use Rattle.rules.proofs.Waits.{after_keeps, most_fits, door_valid}
-use Rattle.state_formed.proofs.WellFormed.{blank, well_formed_lem, place_room, stream_valid}
-use Rattle.state_parties.specs.declared.Held.{Held}
+use Rattle.state_formed.specs.declared.Tested.{Tested}
+use Rattle.state_formed.specs.InRange.{whole_of}
+use Rattle.state_formed.proofs.WellFormed.{well_formed_lem, place_room, stream_valid}
+use Rattle.state_formed.proofs.Whole.{whole_none, whole_some}
 use Rattle.state_parties.specs.Shares.{held_in, held_for, place_left}
 
 module _ (s : State) (k : ℕ) where
-  pub post_12 : well_formed s ≡ false → post_refused s IllFormed ≡ post_of s k
+  pub post_12 : None ≡ whole_of s → post_refused s IllFormed ≡ post_of s k
   unfolding post_of
-  post_12 e = rw e
+  post_12 e = rw (whole_none s e)
 
-  module _ (w : well_formed s ≡ true) where
+  module _ (tested : Tested) (told : Some tested ≡ whole_of s) where
+    w : well_formed s ≡ true
+    w = (whole_some s tested told).0
+
     pub post_1 : s.set.count ≤ k → post_refused s NoStream ≡ post_of s k
     unfolding post_of
     post_1 h = rw (w, le-ltb _ _ h)
@@ -41,15 +46,19 @@ module _ (s : State) (k : ℕ) where
       pub post_place : k < 16
       post_place = omega (arith, (valid_set s.set (well_formed_lem s w).set).count)
 
-      module _ (ss : length s.set.streams ≡ 16) where
-        read : get_or s.set.streams k blank ≡ stream_at s.set k
-        read = get_d_any s.set.streams k blank no_stream (omega (arith, post_place))
+      -- the stream as the code reads it
+      module _ (ss : length s.set.streams ≡ 16) (ms : length s.messages ≡ 64) (y : Stream) where
+        abbrev x : Stream
+        x = get_or s.set.streams k y
 
-        pub post_fits : s.clock + (get_or s.set.streams k blank).deadline < 4000200001
+        read : x ≡ stream_at s.set k
+        read = get_d_any s.set.streams k y no_stream (omega (arith, post_place))
+
+        pub post_fits : s.clock + x.deadline < 4000200001
         post_fits = rw read (omega (arith, (well_formed_lem s w).clock, (stream_valid s.set k (well_formed_lem s w).set ss h).deadline.high))
 
-        -- the door as the code reads it, and whether it is shut
-        module _ (d : Door) (e : d ≡ door_of (get_or s.set.streams k blank)) (c : Bool) (f : c ≡ shut d (wait_at s k)) where
+        -- the door, and whether it is shut
+        module _ (d : Door) (e : d ≡ door_of x) (c : Bool) (f : c ≡ shut d (wait_at s k)) where
           door : d ≡ door_at s k
           door = e ∙ ap door_of read
 
@@ -57,11 +66,14 @@ module _ (s : State) (k : ℕ) where
           unfolding post_of
           post_15 g = rw (w, lt-ltb _ _ h, ← door, ← f, g)
 
-          -- the owner as the code reads it, and whether it has a place
-          module _ (o : Owner) (own : o ≡ get_or s.owners k ours) (held : Held) (has : held ≡ held_in s.owners (pending s)) (r : Bool) (t : r ≡ place_left o.party held s.places) where
+          -- the owner, and whether it has a place
+          module _ (r : Bool) (t : r ≡ place_left (get_or s.owners k ours) tested.held s.places) where
             free : r ≡ has_place s k
             unfolding place_left
-            free = t ∙ ap₂ (λ (y : Owner) (n : Held). ltb (held_for n y.party) (places_of s.places y.party)) own has ∙ by_side (party_of s k)
+            free =
+                t
+                ∙ ap (λ (n : Tested). ltb (held_for n.held (party_of s k)) (places_of s.places (party_of s k))) (whole_some s tested told).1
+                ∙ by_side (party_of s k)
               where
                 by_side : (p : Party) → ltb (held_for (held_in s.owners (pending s)) p) (places_of s.places p) ≡ ltb (held_by s p) (places_of s.places p)
                 by_side Ours = refl
@@ -72,11 +84,11 @@ module _ (s : State) (k : ℕ) where
             post_2 g q = rw (w, lt-ltb _ _ h, ← door, ← f, g, ← free, q)
 
             -- one of the 64 places is left
-            pub room_left : length s.messages ≡ 64 → r ≡ true → s.count < 64
-            room_left l q = place_room s (well_formed_lem s w) l (party_of s k) (ltb-true _ _ (sym free ∙ q))
+            pub room_left : r ≡ true → s.count < 64
+            room_left q = place_room s (well_formed_lem s w) ms (party_of s k) (ltb-true _ _ (sym free ∙ q))
 
             pub posted : c ≡ false → r ≡ true → (n : ℕ) → n ≡ wait_after d (wait_at s k)
-                → ◌≡◌ {A = PostResult} (record { answer = Posted k (s.clock + (get_or s.set.streams k blank).deadline); state = record { set = s.set; clock = s.clock; count = s.count + 1; messages = set s.messages s.count (record { stream = k; deadline = s.clock + (get_or s.set.streams k blank).deadline; used = 0; stage = 0 }); waits = set s.waits k n; owners = s.owners; places = s.places } }) (post_of s k)
+                → ◌≡◌ {A = PostResult} (record { answer = Ok (record { stream = k; deadline = s.clock + x.deadline }); state = record { set = s.set; clock = s.clock; count = s.count + 1; messages = set s.messages s.count (record { stream = k; deadline = s.clock + x.deadline; used = 0; stage = 0 }); waits = set s.waits k n; owners = s.owners; places = s.places } }) (post_of s k)
             unfolding post_of
             posted g q n t = rw (t, read, w, lt-ltb _ _ h, ← door, ← f, g, ← free, q)
 

@@ -3,25 +3,25 @@
 
 ghost use Rattle.std.specs.Prelude.{◌≡◌, ◌<◌};
 ghost use Rattle.rules.specs.Steps.{fresh_for, start_refused, start_for, start_of, post_of, choose_of, laxity_of, unit_of, call_of};
-ghost use Rattle.scheduler.specs.Serving.{work_of, served_answer, stepped_on};
+ghost use Rattle.scheduler.specs.Serving.{served_answer, stepped_on};
 
 use rules::{
-    Call, CallAnswer, CallResult, ChooseAnswer, Message, Owner, Places, PostAnswer, PostResult,
-    Refusal, Set, StartAnswer, StartResult, State, UnitAnswer, UnitResult,
+    Call, CallAnswer, CallResult, Message, Outcome, Party, Places, PostResult, Posted, Refusal,
+    Running, Set, StartResult, State, UnitResult,
 };
-use state_choosing::ToServe;
+use state_choosing::Looked;
 
 // ---- start
 
-fn fresh_state(x: Set, owners: [Owner; 16], places: Places) -> State
+fn fresh_state(x: Set, owners: [Party; 16], places: Places) -> State
     ensures { result ≡ fresh_for x owners places }
 {
-    let ms = [state_formed::no_message(); 64];
+    let messages = [state_formed::no_message(); 64];
     State {
         set: x,
         clock: 0,
         count: 0,
-        messages: ms,
+        messages,
         waits: [0; 16],
         owners,
         places,
@@ -32,19 +32,20 @@ fn fresh_state(x: Set, owners: [Owner; 16], places: Places) -> State
 fn no_start(why: Refusal) -> StartResult
     ensures { result ≡ start_refused why }
 {
-    let s = fresh_state(
+    let state = fresh_state(
         stream_valid::empty_set(),
         state_parties::all_ours(),
         state_parties::all_places(),
     );
     StartResult {
-        answer: StartAnswer::Refused(why),
-        state: s,
+        answer: Err(why),
+        state,
     }
 }
 
 // A valid set's start, with its streams' owners and the parties' places; 7 for any other set, 16 for more places than there are.
-pub fn start_for(x: Set, given: [Owner; 16], places: Places) -> StartResult
+#[tactic(auto, unfolding(rules::specs::Steps::start_for))]
+pub fn start_for(x: Set, given: [Party; 16], places: Places) -> StartResult
     ensures { result ≡ start_for x given places }
 {
     if !stream_valid::is_valid(x) {
@@ -54,10 +55,10 @@ pub fn start_for(x: Set, given: [Owner; 16], places: Places) -> StartResult
         return no_start(Refusal::Crowded);
     }
     let owners = state_parties::owners_for(x.count, given);
-    let s = fresh_state(x, owners, places);
+    let state = fresh_state(x, owners, places);
     StartResult {
-        answer: StartAnswer::Started,
-        state: s,
+        answer: Ok(()),
+        state,
     }
 }
 
@@ -70,200 +71,171 @@ pub fn start(x: Set) -> StartResult
 
 // ---- post
 
-// A message of the stream k, which counts at its door, or 12, 1, 15 or 2. Here and in `unit` the state that goes is copied before the one that came is
-// tested: behind the test the compiler cannot tell that it is still the same, and keeps a copy more.
+// A message of the stream k, which counts at its door, or 12, 1, 15 or 2, which change nothing.
+fn add(s: &mut State, k: usize) -> Result<Posted, Refusal>
+    ensures { record { answer = result; state = s.new } ≡ post_of s.old k }
+{
+    let tested = state_formed::inspect(s).ok_or(Refusal::IllFormed)?;
+    if s.set.count <= k {
+        return Err(Refusal::NoStream);
+    }
+    let stream = s.set.streams[k];
+    let door = stream_doors::door_of(&stream);
+    let wait = s.waits[k];
+    if stream_doors::is_shut(door, wait) {
+        return Err(Refusal::Early);
+    }
+    if !state_parties::has_place(s.owners[k], tested.held, s.places) {
+        return Err(Refusal::Full);
+    }
+    let deadline = s.clock + stream.deadline;
+    s.messages[s.count] = Message {
+        stream: k,
+        deadline,
+        used: 0,
+        stage: 0,
+    };
+    s.count += 1;
+    s.waits[k] = stream_doors::wait_after(door, wait) as u32;
+    Ok(Posted {
+        stream: k,
+        deadline,
+    })
+}
+
+// A message of the stream k is added, or the post is refused.
 pub fn post(s: State, k: usize) -> PostResult
     ensures { result ≡ post_of s k }
 {
-    let mut next = s;
-    let tested = state_formed::inspect(s);
-    let held = tested.held;
-    let mut a = PostAnswer::Refused(Refusal::IllFormed);
-    if tested.sound {
-        a = PostAnswer::Refused(Refusal::NoStream);
-        if k < next.set.count {
-            let set = next.set;
-            let x = set.streams[k];
-            let door = stream_doors::door_of(x);
-            let wait = next.waits[k];
-            let owner = next.owners[k];
-            let places = next.places;
-            let at = next.count;
-            if stream_doors::is_shut(door, wait) {
-                a = PostAnswer::Refused(Refusal::Early);
-            } else if state_parties::has_place(owner, held, places) {
-                let d = next.clock + x.deadline;
-                next.messages[at] = Message {
-                    stream: k,
-                    deadline: d,
-                    used: 0,
-                    stage: 0,
-                };
-                next.count = at + 1;
-                next.waits[k] = stream_doors::wait_after(door, wait) as u32;
-                a = PostAnswer::Posted(k, d);
-            } else {
-                a = PostAnswer::Refused(Refusal::Full);
-            }
-        }
-    }
-    PostResult {
-        answer: a,
-        state: next,
-    }
+    let mut state = s;
+    let answer = add(&mut state, k);
+    PostResult { answer, state }
 }
 
 // ---- choose
 
 // The task that runs and the stream of the message that it serves, none, or 12.
-pub fn choose(s: State) -> ChooseAnswer
+pub fn choose(s: State) -> Result<Option<Running>, Refusal>
     ensures { result ≡ choose_of s }
 {
-    state_choosing::choose(s)
+    state_choosing::choose(&s)
 }
 
 // ---- unit
 
-// What a unit is to do: it is refused, only the clock moves, or the message at a place is served, in a stage of a task and a cost c, its last or not.
-#[derive(Clone, Copy)]
-enum Work {
-    Refused(Refusal),
-    Idle,
-    Serve(usize, usize, u32, bool),
-}
-
-// In the order 12, 3, 4.
-fn decide(found: ToServe, clock: u32, done: bool) -> Work
-    ensures { result ≡ work_of found clock done }
-{
-    match found {
-        ToServe::IllFormed => Work::Refused(Refusal::IllFormed),
-        ToServe::Nothing => {
-            if rules::LAST_CLOCK <= clock {
-                return Work::Refused(Refusal::LastClock);
-            }
-            if done {
-                return Work::Refused(Refusal::NothingPending);
-            }
-            Work::Idle
-        }
-        ToServe::At(i, task, cost, last) => {
-            if clock < rules::LAST_CLOCK {
-                return Work::Serve(i, task, cost, last);
-            }
-            Work::Refused(Refusal::LastClock)
-        }
-    }
-}
-
 fn laxity(deadline: u32, clock: u32) -> i64
     ensures { result ≡ laxity_of deadline clock }
 {
-    let d = deadline as i64;
-    let c = clock as i64;
-    d - c
+    i64::from(deadline) - i64::from(clock)
 }
 
 // What is answered when the message m of the task was served: now is the clock after the unit, spent whether its used units equal c, last whether its stage
 // is its last.
-fn served(task: usize, m: Message, now: u32, done: bool, spent: bool, last: bool) -> UnitAnswer
+#[tactic(auto, unfolding(crate::specs::Serving::served_answer))]
+fn served(task: usize, m: Message, now: u32, done: bool, spent: bool, last: bool) -> Outcome
     ensures { result ≡ served_answer task m now done spent last }
 {
     let left = laxity(m.deadline, now);
-    if done {
-        if last {
-            return UnitAnswer::Finished(task, m.stream, left);
-        }
-        return UnitAnswer::Passed(task, m.stream);
+    if done && last {
+        Outcome::Finished(task, m.stream, left)
+    } else if done {
+        Outcome::Passed(task, m.stream)
+    } else if spent {
+        Outcome::Cut(task, m.stream, left)
+    } else {
+        Outcome::Ran(task, m.stream)
     }
-    if spent {
-        return UnitAnswer::Cut(task, m.stream, left);
-    }
-    UnitAnswer::Ran(task, m.stream)
 }
 
 // A message that stays, after its unit: passed on to its next stage with no unit used, or with a unit more.
+#[tactic(auto, unfolding(crate::specs::Serving::stepped_on))]
 fn stepped(m: Message, done: bool) -> Message
     requires { (m.used < 65535) × (m.stage < 4) }
     ensures { result ≡ stepped_on m done }
 {
-    let mut on = m;
     if done {
-        on.used = 0;
-        on.stage = m.stage + 1;
+        Message {
+            used: 0,
+            stage: m.stage + 1,
+            ..m
+        }
     } else {
-        on.used = m.used + 1;
+        Message {
+            used: m.used + 1,
+            ..m
+        }
     }
-    on
 }
 
-// A unit of running. Where it moves the clock, less is left to wait at the doors. Where the message leaves, those behind it move up, in their order, and the place of the last is zero.
+// A unit of running, or 12, 3 or 4, which change nothing. Where it moves the clock, less is left to wait at the doors. Where the message leaves, those behind
+// it move up, in their order, and the place of the last is zero.
+fn run(s: &mut State, done: bool) -> Result<Outcome, Refusal>
+    ensures { record { answer = result; state = s.new } ≡ unit_of s.old done }
+{
+    let Looked {
+        served: found,
+        later,
+    } = state_choosing::look(s)?;
+    if rules::LAST_CLOCK <= s.clock {
+        return Err(Refusal::LastClock);
+    }
+    let Some(it) = found else {
+        if done {
+            return Err(Refusal::NothingPending);
+        }
+        s.clock += 1;
+        s.waits = later;
+        return Ok(Outcome::Idle);
+    };
+    let m = s.messages[it.place];
+    let spent = m.used + 1 == it.cost;
+    s.clock += 1;
+    s.waits = later;
+    let outcome = served(it.task, m, s.clock, done, spent, it.last);
+    let leaves = if done { it.last } else { spent };
+    if leaves {
+        let end = s.count - 1;
+        for k in it.place..end {
+            s.messages[k] = s.messages[k + 1];
+        }
+        s.messages[end] = state_formed::no_message();
+        s.count = end;
+    } else {
+        s.messages[it.place] = stepped(m, done);
+    }
+    Ok(outcome)
+}
+
+// A unit of running, or why there is none.
 pub fn unit(s: State, done: bool) -> UnitResult
     ensures { result ≡ unit_of s done }
 {
-    let mut next = s;
-    let looked = state_choosing::look(s);
-    let found = looked.found;
-    let later = looked.later;
-    let mut a = UnitAnswer::Idle;
-    let what = decide(found, next.clock, done);
-    match what {
-        Work::Refused(why) => {
-            a = UnitAnswer::Refused(why);
-        }
-        Work::Idle => {
-            next.clock = next.clock + 1;
-            next.waits = later;
-        }
-        Work::Serve(i, task, cost, last) => {
-            let m = next.messages[i];
-            let spent = m.used + 1 == cost;
-            next.clock = next.clock + 1;
-            next.waits = later;
-            a = served(task, m, next.clock, done, spent, last);
-            if (done & last) | (!done & spent) {
-                let end = next.count - 1;
-                let mut k = i;
-                while k < end {
-                    let behind = next.messages[k + 1];
-                    next.messages[k] = behind;
-                    k = k + 1;
-                }
-                let zero = state_formed::no_message();
-                next.messages[end] = zero;
-                next.count = end;
-            } else {
-                let on = stepped(m, done);
-                next.messages[i] = on;
-            }
-        }
-    }
-    UnitResult {
-        answer: a,
-        state: next,
-    }
+    let mut state = s;
+    let answer = run(&mut state, done);
+    UnitResult { answer, state }
 }
 
 // ---- a call
 
 // A post or a unit.
+#[tactic(auto, unfolding(rules::specs::Steps::call_of))]
 pub fn call(s: State, c: Call) -> CallResult
     ensures { result ≡ call_of s c }
 {
     match c {
         Call::Posts(k) => {
-            let r = post(s, k);
-            let said = r.answer;
-            let answer = CallAnswer::ToPost(said);
-            let state = r.state;
-            CallResult { answer, state }
+            let PostResult { answer, state } = post(s, k);
+            CallResult {
+                answer: CallAnswer::ToPost(answer),
+                state,
+            }
         }
         Call::Units(done) => {
-            let r = unit(s, done);
-            let said = r.answer;
-            let answer = CallAnswer::ToUnit(said);
-            let state = r.state;
-            CallResult { answer, state }
+            let UnitResult { answer, state } = unit(s, done);
+            CallResult {
+                answer: CallAnswer::ToUnit(answer),
+                state,
+            }
         }
     }
 }

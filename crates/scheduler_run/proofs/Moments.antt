@@ -2,25 +2,17 @@
 -- Assumes nothing.
 use Prim.Native.Nat.{ℕ, ◌+◌, ◌≤◌, ◌<◌}
 use native.Mathlib.Numerals.{add-one}
-use native.Mathlib.Omega.{arith}
-use mathlib.Core.Bool.{Bool, true, false, not, ◌||◌}
+use mathlib.Core.Bool.{Bool, true, false, ◌||◌}
 use mathlib.Core.List.{List, [], ◌∷◌, ◌++◌}
 use mathlib.Core.Path.{◌≡◌, refl, ap, ap₂, sym, ◌∙◌}
-use borrow.Author.Tests.{ltb-true, ltb-false, le-leb, lt-leb, lt-ltb, le-ltb}
-use lib.Dec.{ltb, leb, eqb}
 use lib.ListN.{length, get_or, take}
 use lib.Seq.{take-suc, take_all}
-use Rattle.laws.specs.Lists.{any}
-use Rattle.laws.proofs.Sums.{by_test, any_take}
 use Rattle.rules.specs.declared.State.{State}
 use Rattle.rules.specs.declared.Call.{Call}
 use Rattle.rules.specs.declared.Set.{Set}
 use Rattle.rules.specs.declared.StartResult.{StartResult}
-use Rattle.rules.specs.declared.PostResult.{PostResult}
-use Rattle.rules.specs.declared.UnitResult.{UnitResult}
-use Rattle.rules.specs.States.{no_message}
-use Rattle.rules.specs.Steps.{start_of, post_of, unit_of, call_of}
-use Rattle.rules.specs.Runs.{Run, step_of, start_at, begin, run_from, run_of, overdue, missed_now, missed_from, missed_in}
+use Rattle.rules.specs.Steps.{start_of, call_of}
+use Rattle.rules.specs.Runs.{Run, step_of, start_at, begin, run_from, run_of, missed_now, missed_from, missed_in}
 use Rattle.rules.proofs.Events.{step_state}
 use Rattle.scheduler_run.specs.Calls.{call_byte, calls_of, EndOf}
 
@@ -100,46 +92,3 @@ state_all s₀ bytes k s a h = a ∙ ap (λ (l : List ℕ). (run_from (start_at 
 pub from_start : (x : Set) (q : StartResult) (bytes : List ℕ) (s : State) → q ≡ start_of x → s ≡ (run_from (start_at q.state) (calls_of bytes)).state → s ≡ (run_of x (calls_of bytes)).state
 unfolding run_of begin
 from_start x q bytes s e a = a ∙ ap (λ (q : StartResult). (run_from (start_at q.state) (calls_of bytes)).state) e
-
--- ---- is a message pending at its deadline? As a pass over the places finds it
-
-not_sooner : (d clock : ℕ) → leb d clock ≡ not (ltb clock d)
-not_sooner d clock = by_test (ltb clock d) (λ e. rw e (lt-leb d clock (ltb-true clock d e))) (λ e. rw e (le-leb d clock (ltb-false clock d e)))
-
-pub record Overdue (s : State) (k : ℕ) (found : Bool) : Type 0 where
-  pub places : length s.messages ≡ 64
-  pub here : k ≤ s.count
-  pub upto : k ≤ 64
-  pub found_is : found ≡ any (overdue s.clock) (take k s.messages)
-
-pub overdue_none : (s : State) → length s.messages ≡ 64 → Overdue s 0 false
-unfolding any
-overdue_none s e = record { places = e; here = omega arith; upto = omega arith; found_is = refl }
-
-pub overdue_more : (s : State) (k : ℕ) (found : Bool) → Overdue s k found → k < 64 → k < s.count
-    → Overdue s (k + 1) (found || leb (get_or s.messages k no_message).deadline s.clock)
-overdue_more s k found o h q = record {
-  places = o.places;
-  here = omega arith;
-  upto = omega arith;
-  found_is = ap₂ ◌||◌ o.found_is (not_sooner (get_or s.messages k no_message).deadline s.clock) ∙ sym (any_take (overdue s.clock) s.messages k no_message (omega (arith, o.places)));
-}
-
-pub overdue_all : (s : State) (k : ℕ) (found : Bool) → Overdue s k found → s.count ≤ k → found ≡ missed_now s
-unfolding missed_now
-overdue_all s k found o h = o.found_is ∙ ap (λ (n : ℕ). any (overdue s.clock) (take n s.messages)) (let e : k ≡ s.count = omega (arith, o.here) in e)
-
-pub overdue_full : (s : State) (k : ℕ) (found : Bool) → Overdue s k found → 64 ≤ k → found ≡ missed_now s
-unfolding missed_now
-overdue_full s k found o h =
-    o.found_is ∙ ap (any (overdue s.clock)) (take_all k s.messages (omega (arith, o.places)) ∙ sym (take_all s.count s.messages (omega (arith, o.places, o.here))))
-
--- ---- the call of a byte
-
-pub posts_of : (s : State) (b k : ℕ) (p : PostResult) → b < 16 → p ≡ post_of s k → k ≡ b → p.state ≡ (call_of s (call_byte b)).state
-unfolding call_byte call_of
-posts_of s b k p h e f = rw (lt-ltb b 16 h, e, f)
-
-pub units_of : (s : State) (b : ℕ) (u : UnitResult) → 16 ≤ b → u ≡ unit_of s (not (eqb b 16)) → u.state ≡ (call_of s (call_byte b)).state
-unfolding call_byte call_of
-units_of s b u h e = rw (le-ltb b 16 h, e)

@@ -15,22 +15,16 @@ pub struct Ended {
     pub missed: bool,
 }
 
-fn wide(b: u8) -> usize
-    ensures { result ≡ b }
-{
-    b as usize
-}
-
 // The state after the call of a byte: below 16 a post to that stream, 16 a unit, any other a unit with done.
+#[tactic(auto, unfolding(crate::specs::Calls::call_byte, rules::specs::Steps::call_of))]
 fn called(s: State, b: u8) -> State
     ensures { result ≡ (call_of s (call_byte b)).state }
 {
     if b < 16 {
-        let p = scheduler::post(s, wide(b));
-        return p.state;
+        scheduler::post(s, usize::from(b)).state
+    } else {
+        scheduler::unit(s, b != 16).state
     }
-    let u = scheduler::unit(s, !(b == 16));
-    u.state
 }
 
 // The state after the calls, one after the other, from a state. A function of its own: with the start beside the loop, the compiler copies the state more often at each call.
@@ -38,10 +32,8 @@ fn after(s: State, calls: &[u8]) -> State
     ensures { result ≡ (run_from (start_at s) (calls_of calls.now)).state }
 {
     let mut next = s;
-    let mut k: usize = 0;
-    while k < calls.len() {
-        next = called(next, calls[k]);
-        k = k + 1;
+    for b in calls {
+        next = called(next, *b);
     }
     next
 }
@@ -50,41 +42,29 @@ fn after(s: State, calls: &[u8]) -> State
 pub fn last_state(x: Set, calls: &[u8]) -> State
     ensures { result ≡ (run_of x (calls_of calls.now)).state }
 {
-    let begun = scheduler::start(x);
-    let s = begun.state;
-    after(s, calls)
+    after(scheduler::start(x).state, calls)
 }
 
 // Has the clock reached the deadline of a pending message?
-pub fn missed_now(s: State) -> bool
-    ensures { result ≡ missed_now s }
+#[tactic(auto, unfolding(rules::specs::Runs::missed_now))]
+pub fn missed_now(s: &State) -> bool
+    ensures { result ≡ missed_now s.now }
 {
-    let mut any = false;
-    let mut k: usize = 0;
-    while k < 64 {
-        if s.count <= k {
-            return any;
-        }
-        let m = s.messages[k];
-        any = any | (m.deadline <= s.clock);
-        k = k + 1;
-    }
-    any
+    s.messages
+        .iter()
+        .take(s.count)
+        .any(|m| !(s.clock < m.deadline))
 }
 
 // The same run, and whether a message was pending at its deadline, at the start or after any call.
 pub fn run(x: Set, calls: &[u8]) -> Ended
     ensures { EndOf x calls.now result }
 {
-    let begun = scheduler::start(x);
-    let mut s = begun.state;
-    let mut missed = missed_now(s);
-    let mut k: usize = 0;
-    while k < calls.len() {
-        s = called(s, calls[k]);
-        let late = missed_now(s);
-        missed = missed | late;
-        k = k + 1;
+    let mut s = scheduler::start(x).state;
+    let mut missed = missed_now(&s);
+    for b in calls {
+        s = called(s, *b);
+        missed |= missed_now(&s);
     }
     Ended { state: s, missed }
 }

@@ -5,58 +5,54 @@ use mathlib.Core.List.{List, [], ◌∷◌}
 use mathlib.Core.Path.{◌≡◌, refl, sym, ap, ap₂, ◌∙◌}
 use mathlib.Core.Bool.{Bool, true, false, cond, ◌||◌}
 use native.Mathlib.Omega.{arith}
-use lib.ListN.{length, get_or, take}
+use lib.ListN.{length, get_or, length-take, take}
+use lib.Seq.{take-length}
 use lib.Dec.{eqb}
 use borrow.Author.Tests.{eq-eqb, le-leb, leb-true, lt-leb, ltb-true, ne_eqb}
 use Rattle.laws.specs.Lists.{All, sum, within}
-use Rattle.laws.proofs.Sums.{Holds as Passes, all_take_at, and_parts, every_all, sum_take}
+use Rattle.laws.proofs.Sums.{Holds as Passes, all_at, and_parts, every_all, sum_take}
 use Rattle.rules.specs.declared.Stream.{Stream}
 use Rattle.rules.specs.declared.Set.{Set}
-use Rattle.rules.specs.Streams.{valid}
+use Rattle.rules.specs.Streams.{streams_of, valid}
 use Rattle.rules.specs.Valid.{ValidStream}
 use Rattle.rules.proofs.Valid.{valid_set}
 use Rattle.sheet_carried.specs.declared.Carried.{Carried}
 use Rattle.sheet_carried.specs.Table.{width_of}
 use Rattle.sheet_carried.specs.Kept.{most_whole, tuples_whole}
-use Rattle.sheet_carried.specs.Left.{before_row, came_of, could_be_left, deepened, fit_tests, fits, held, kept_fits, last_of, part_room, point_fits, point_tests, stream_room, streams_room, value_tests, values_fit, whole_bytes}
+use Rattle.sheet_carried.specs.Left.{before_row, came_of, deepened, fit_tests, fits, held, kept_fits, last_of, part_room, point_fits, point_tests, stream_room, streams_room, value_tests, values_fit, whole_bytes}
 use Rattle.sheet_carried.proofs.Rows.{by_value_row}
 use Rattle.sheet_carried.proofs.Sound.{get_d_le, held_high, held_zero, padding_room}
 
 -- ---- a stream, and the streams of a set
 
-pub stream_first : (version : ℕ) (s : Stream) → version ≡ 1 → 20 + (20 * s.depth + 37 * s.count) ≡ stream_room version s
-unfolding stream_room
-stream_first version s e = sym (ap (λ (b : Bool). cond b 20 22 + (20 * s.depth + 37 * s.count)) (eq-eqb version 1 e))
-
-pub stream_second : (version : ℕ) (s : Stream) → (version ≡ 1 → ⊥) → 22 + (20 * s.depth + 37 * s.count) ≡ stream_room version s
-unfolding stream_room
-stream_second version s e = sym (ap (λ (b : Bool). cond b 20 22 + (20 * s.depth + 37 * s.count)) (ne_eqb version 1 e))
-
 head_few : (b : Bool) → cond b 20 22 ≤ 22
 head_few true = omega arith
 head_few false = omega arith
+
+pub count_most : (x : Set) → length (streams_of x) ≤ x.count
+count_most x = omega (arith, length-take x.count x.streams)
 
 module _ (x : Set) (v : valid x ≡ true) where
   pub count_few : x.count ≤ 16
   count_few = (valid_set x v).count
 
-  module _ (k : ℕ) (z : Stream) (h : k < x.count) (e : length x.streams ≡ 16) where
-    stream_at_lem : ValidStream (get_or x.streams k z)
-    stream_at_lem = all_take_at ValidStream x.streams x.count k z h (omega (arith, count_few)) (valid_set x v).streams
+  module _ (k : ℕ) (z : Stream) (h : k < length (streams_of x)) where
+    stream_at_lem : ValidStream (get_or (streams_of x) k z)
+    stream_at_lem = all_at ValidStream (streams_of x) k z h (valid_set x v).streams
 
-    pub stream_few : ((get_or x.streams k z).depth ≤ 4) × ((get_or x.streams k z).count ≤ 4)
+    pub stream_few : ((get_or (streams_of x) k z).depth ≤ 4) × ((get_or (streams_of x) k z).count ≤ 4)
     stream_few = (stream_at_lem.depth.high, stream_at_lem.count.high)
 
-    pub room_few : (r : ℕ) → r ≡ stream_room x.version (get_or x.streams k z) → r ≤ 250
+    pub room_few : (r : ℕ) → r ≡ stream_room x.version (get_or (streams_of x) k z) → r ≤ 250
     unfolding stream_room
     room_few r q = omega (arith, head_few (eqb x.version 1), stream_few.0, stream_few.1)
 
-    pub room_next : (room r : ℕ) → room ≡ sum (stream_room x.version) (take k x.streams) → r ≡ stream_room x.version (get_or x.streams k z) → room + r ≡ sum (stream_room x.version) (take (k + 1) x.streams)
-    room_next room r a b = omega (arith, sum_take (stream_room x.version) x.streams k z (omega (arith, count_few)))
+    pub room_next : (room r : ℕ) → room ≡ sum (stream_room x.version) (take k (streams_of x)) → r ≡ stream_room x.version (get_or (streams_of x) k z) → room + r ≡ sum (stream_room x.version) (take (k + 1) (streams_of x))
+    room_next room r a b = omega (arith, sum_take (stream_room x.version) (streams_of x) k z h)
 
-  pub room_all : (room k : ℕ) → k ≡ x.count → room ≡ sum (stream_room x.version) (take k x.streams) → room ≡ streams_room x
+  pub room_all : (room k : ℕ) → k ≡ length (streams_of x) → room ≡ sum (stream_room x.version) (take k (streams_of x)) → room ≡ streams_room x
   unfolding streams_room
-  room_all room k e h = h ∙ ap (λ (j : ℕ). sum (stream_room x.version) (take j x.streams)) e
+  room_all room k e h = h ∙ ap (λ (l : List Stream). sum (stream_room x.version) l) (ap (λ (j : ℕ). take j (streams_of x)) e ∙ take-length (streams_of x))
 
 -- ---- the stream that is being read
 
@@ -167,11 +163,3 @@ late_whole c h = sym (ap (λ (b : Bool). b || eqb (came_of c % 8) 0) (le-leb 17 
 pub bytes_whole : (c : Carried) (r : ℕ) → c.point.row < 17 → r ≡ came_of c → eqb (r % 8) 0 ≡ whole_bytes c
 unfolding whole_bytes
 bytes_whole c r h e = ap (λ (i : ℕ). eqb (i % 8) 0) e ∙ sym (ap (λ (b : Bool). b || eqb (came_of c % 8) 0) (lt-leb 17 c.point.row h))
-
-pub left_whole : (c : Carried) (b : Bool) → fits c ≡ true → b ≡ whole_bytes c → b ≡ could_be_left c
-unfolding could_be_left
-left_whole c b e h = h ∙ sym (ap (λ (t : Bool). cond t (whole_bytes c) false) e)
-
-pub left_not : (c : Carried) → fits c ≡ false → false ≡ could_be_left c
-unfolding could_be_left
-left_not c e = sym (ap (λ (t : Bool). cond t (whole_bytes c) false) e)

@@ -12,7 +12,8 @@ use lib.Seq.{take-append_seam, take-length}
 use lib.Dec.{eqb, leb, ltb}
 use lib.Pow.{pow_pos}
 use borrow.Author.Tests.{eqb-true, le-leb, leb-true, lt-ltb, ltb-false, ltb-true}
-use Rattle.laws.specs.Lists.{All, all, scan, within}
+use Rattle.std.specs.List.{list_all}
+use Rattle.laws.specs.Lists.{All, scan, within}
 use Rattle.laws.specs.Bits.{bits, bytes, to_bits}
 use Rattle.laws.proofs.Sums.{Holds as Passes, all_map, and_parts, by_test, every_all}
 use Rattle.laws.proofs.Fields.{AreBits, bits_bits, bits_length}
@@ -56,7 +57,7 @@ refused_left f h k =
     (record { came = 16 ∷ 1 ∷ []; are = (omega arith, (omega arith, tt)); leads = refl }) f h k
 
 refused_passes : (f : ℕ) → 17 ≤ f → f < 20 → could_be_left (refused_of f) ≡ true
-unfolding could_be_left fits point_fits kept_fits whole_bytes valid version_fits count_fits most_whole stages_fit tuples_fit values_fit stages_whole tuples_whole last_of held dated deepened row_of refused_of all stream_unused stage_unused tuple_unused version_ok tuples_ok scan
+unfolding could_be_left fits point_fits kept_fits whole_bytes valid version_fits count_fits most_whole stages_fit tuples_fit values_fit stages_whole tuples_whole last_of held dated deepened row_of refused_of stream_unused stage_unused tuple_unused version_ok tuples_ok scan
 refused_passes f h k = by_refusal (λ (g : ℕ). could_be_left (refused_of g) ≡ true) refl refl refl f h k
 
 -- ---- what passes has been left
@@ -271,13 +272,13 @@ module _ (f n N d s t m z : ℕ) (gs : List Stage) (ts : List TuplePlace) (x : S
   stages_pass : stages_fit (stages_whole x.version s f n) (padded 4 no_stage gs) ≡ true
   unfolding stages_fit
   stages_pass =
-      ap (λ (k : ℕ). all stage_ok (take k (padded 4 no_stage gs)) && all stage_unused (drop k (padded 4 no_stage gs))) (sym q.long)
-      ∙ ap₂ (λ (a b : Bool). a && b) (ap (all stage_ok) (take-append_seam gs (replicate (4 - length gs) no_stage)) ∙ stages_ok gs q.staged) (rest_unused stage_unused 4 no_stage gs no_stage_unused)
+      ap (λ (k : ℕ). list_all stage_ok (take k (padded 4 no_stage gs)) && list_all stage_unused (drop k (padded 4 no_stage gs))) (sym q.long)
+      ∙ ap₂ (λ (a b : Bool). a && b) (ap (list_all stage_ok) (take-append_seam gs (replicate (4 - length gs) no_stage)) ∙ stages_ok gs q.staged) (rest_unused stage_unused 4 no_stage gs no_stage_unused)
 
   tuples_pass : tuples_fit (tuples_whole f n) (padded 4 no_tuple ts) ≡ true
   unfolding tuples_fit tuples_ok
   tuples_pass =
-      ap (λ (k : ℕ). eqb (offset_at (get_or (padded 4 no_tuple ts) 0 no_tuple)) 0 && (tuples_ok (take k (padded 4 no_tuple ts)) && all tuple_unused (drop k (padded 4 no_tuple ts)))) (sym q.many)
+      ap (λ (k : ℕ). eqb (offset_at (get_or (padded 4 no_tuple ts) 0 no_tuple)) 0 && (tuples_ok (take k (padded 4 no_tuple ts)) && list_all tuple_unused (drop k (padded 4 no_tuple ts)))) (sym q.many)
       ∙ ap₂ (λ (a b : Bool). a && b) (first_place_lem ts q.chain)
       (ap₂ (λ (a b : Bool). a && b) (ap tuples_ok (take-append_seam ts (replicate (4 - length ts) no_tuple)) ∙ scan_of 0 0 ts q.chain) (rest_unused tuple_unused 4 no_tuple ts no_tuple_unused))
 

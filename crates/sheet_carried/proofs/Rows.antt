@@ -9,7 +9,8 @@ use lib.ListN.{length, take, drop, get_or, get_or-eq_default}
 use lib.Seq.{get_or-drop, get_or-take}
 use lib.Dec.{eqb, leb, ltb}
 use borrow.Author.Tests.{eq-eqb, eqb-false, eqb-true, le-leb, lt-leb, leb-true, ltb-false, ltb-true, ne_eqb}
-use Rattle.laws.specs.Lists.{All, all, within}
+use Rattle.std.specs.List.{list_all}
+use Rattle.laws.specs.Lists.{All, within}
 use Rattle.laws.proofs.Sums.{and_no, and_parts, by_test}
 use Rattle.sheet_carried.specs.declared.SheetField.{SheetField}
 use Rattle.sheet_carried.specs.declared.Point.{Point}
@@ -19,42 +20,37 @@ use Rattle.sheet_carried.proofs.Filled.{cond_elim}
 
 -- ---- widths
 
-column_le : (m : ℕ) (l : List SheetField) → all (λ (r : SheetField). leb r.width m) l ≡ true → (f : ℕ) → (get_or l f (row 0 0 0)).width ≤ m
-unfolding all
+column_le : (m : ℕ) (l : List SheetField) → list_all (λ (r : SheetField). leb r.width m) l ≡ true → (f : ℕ) → (get_or l f (row 0 0 0)).width ≤ m
 column_le m [] e f = omega arith
-column_le m (r ∷ l) e zero = leb-true r.width m (and_parts (leb r.width m) (all (λ (q : SheetField). leb q.width m) l) e).0
-column_le m (r ∷ l) e (suc f) = column_le m l (and_parts (leb r.width m) (all (λ (q : SheetField). leb q.width m) l) e).1 f
+column_le m (r ∷ l) e zero = leb-true r.width m (and_parts (leb r.width m) (list_all (λ (q : SheetField). leb q.width m) l) e).0
+column_le m (r ∷ l) e (suc f) = column_le m l (and_parts (leb r.width m) (list_all (λ (q : SheetField). leb q.width m) l) e).1 f
 
-column_ge : (m : ℕ) (l : List SheetField) → all (λ (r : SheetField). leb m r.width) l ≡ true → (f : ℕ) → f < length l → m ≤ (get_or l f (row 0 0 0)).width
-unfolding all
+column_ge : (m : ℕ) (l : List SheetField) → list_all (λ (r : SheetField). leb m r.width) l ≡ true → (f : ℕ) → f < length l → m ≤ (get_or l f (row 0 0 0)).width
 column_ge m [] e f h = absurd (omega arith)
-column_ge m (r ∷ l) e zero h = leb-true m r.width (and_parts (leb m r.width) (all (λ (q : SheetField). leb m q.width) l) e).0
-column_ge m (r ∷ l) e (suc f) h = column_ge m l (and_parts (leb m r.width) (all (λ (q : SheetField). leb m q.width) l) e).1 f (omega arith)
+column_ge m (r ∷ l) e zero h = leb-true m r.width (and_parts (leb m r.width) (list_all (λ (q : SheetField). leb m q.width) l) e).0
+column_ge m (r ∷ l) e (suc f) h = column_ge m l (and_parts (leb m r.width) (list_all (λ (q : SheetField). leb m q.width) l) e).1 f (omega arith)
 
 -- the rows from j on
 row_behind : (j f : ℕ) → j ≤ f → row_of f ≡ get_or (drop j sheet_fields) (f - j) (row 0 0 0)
 unfolding row_of
 row_behind j f h = ap (λ (i : ℕ). get_or sheet_fields i (row 0 0 0)) (let q : f ≡ j + (f - j) = omega arith in q) ∙ sym (get_or-drop j sheet_fields (f - j) (row 0 0 0))
 
-behind_le : (m j f : ℕ) → j ≤ f → all (λ (r : SheetField). leb r.width m) (drop j sheet_fields) ≡ true → width_of f ≤ m
+behind_le : (m j f : ℕ) → j ≤ f → list_all (λ (r : SheetField). leb r.width m) (drop j sheet_fields) ≡ true → width_of f ≤ m
 behind_le m j f h e = omega (arith, column_le m (drop j sheet_fields) e (f - j), ap (λ (r : SheetField). r.width) (row_behind j f h))
 
 pub width_le : (f : ℕ) → width_of f ≤ 20
-unfolding all
 width_le f = behind_le 20 0 f (omega arith) refl
 
 -- a bit of padding is a field of its own
 pub width_pad : (f : ℕ) → 9 ≤ f → width_of f ≤ 1
-unfolding all
 width_pad f h = behind_le 1 9 f h refl
 
 -- a refused sheet has no bit to come, and any other has
 pub width_none : (f : ℕ) → 17 ≤ f → width_of f ≤ 0
-unfolding all
 width_none f h = behind_le 0 17 f h refl
 
 pub width_some : (f : ℕ) → f < 17 → 0 < width_of f
-unfolding row_of all
+unfolding row_of
 width_some f h = omega (arith, column_ge 1 (take 17 sheet_fields) refl f (omega arith), ap (λ (r : SheetField). r.width) (get_or-take 17 sheet_fields f (row 0 0 0) h))
 
 pub row_some : (f : ℕ) → 0 < width_of f → f < 17

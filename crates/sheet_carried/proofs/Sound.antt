@@ -11,7 +11,8 @@ use lib.Seq.{set_out}
 use lib.Dec.{eqb, leb, ltb}
 use lib.Pow.{pow_pos}
 use borrow.Author.Tests.{eqb-true, lt-leb, le-ltb, leb-true, ltb-false, ltb-true, lt-ltb, ne_eqb}
-use Rattle.laws.specs.Lists.{All, all, within}
+use Rattle.std.specs.List.{list_all}
+use Rattle.laws.specs.Lists.{All, within}
 use Rattle.laws.proofs.Sums.{Holds as Passes, all_all, all_at, all_zip, and_parts, by_test, every_all}
 use Rattle.laws.proofs.Fields.{all_take}
 use Rattle.rules.specs.declared.TuplePlace.{TuplePlace}
@@ -500,15 +501,15 @@ module _ (f n N d s t m z low a h : ℕ) (gs : List Stage) (ts : List TuplePlace
     J_few =
         get_d_le 4 f (0 ∷ 0 ∷ 0 ∷ 0 ∷ 0 ∷ 0 ∷ 0 ∷ n ∷ n ∷ []) (omega arith, (omega arith, (omega arith, (omega arith, (omega arith, (omega arith, (omega arith, (omega (arith, n_few), (omega (arith, n_few), tt)))))))))
 
-    stage_parts : (all stage_ok (take K gs) ≡ true) × (all stage_unused (drop K gs) ≡ true)
+    stage_parts : (list_all stage_ok (take K gs) ≡ true) × (list_all stage_unused (drop K gs) ≡ true)
     unfolding stages_fit
-    stage_parts = and_parts (all stage_ok (take K gs)) (all stage_unused (drop K gs)) tests.1.1.1.1.0
+    stage_parts = and_parts (list_all stage_ok (take K gs)) (list_all stage_unused (drop K gs)) tests.1.1.1.1.0
 
-    tuple_parts : (eqb (offset_at (get_or ts 0 no_tuple)) 0 ≡ true) × ((tuples_ok (take J ts) ≡ true) × (all tuple_unused (drop J ts) ≡ true))
+    tuple_parts : (eqb (offset_at (get_or ts 0 no_tuple)) 0 ≡ true) × ((tuples_ok (take J ts) ≡ true) × (list_all tuple_unused (drop J ts) ≡ true))
     unfolding tuples_fit
     tuple_parts =
-        let u = and_parts (eqb (offset_at (get_or ts 0 no_tuple)) 0) (tuples_ok (take J ts) && all tuple_unused (drop J ts)) tests.1.1.1.1.1.0 in
-        (u.0, and_parts (tuples_ok (take J ts)) (all tuple_unused (drop J ts)) u.1)
+        let u = and_parts (eqb (offset_at (get_or ts 0 no_tuple)) 0) (tuples_ok (take J ts) && list_all tuple_unused (drop J ts)) tests.1.1.1.1.1.0 in
+        (u.0, and_parts (tuples_ok (take J ts)) (list_all tuple_unused (drop J ts)) u.1)
 
     stages_held : Holds 4 no_stage K gs
     stages_held = holds_of 4 K no_stage gs four K_few (all_none stage_unused no_stage no_stage_lem (drop K gs) stage_parts.1)
@@ -520,7 +521,7 @@ module _ (f n N d s t m z low a h : ℕ) (gs : List Stage) (ts : List TuplePlace
     set_valid = valid_set x tests.0
 
     set_either : Either x.version
-    set_either = ⊎_elim (λ (q : (x.version ≡ 1) × (all one_stage (streams_of x) ≡ true)). inl q.0) (λ (q : x.version ≡ 2). inr q) (version_cases x set_valid)
+    set_either = ⊎_elim (λ (q : (x.version ≡ 1) × (list_all one_stage (streams_of x) ≡ true)). inl q.0) (λ (q : x.version ≡ 2). inr q) (version_cases x set_valid)
 
     low_is : low ≡ last_of 0 (take J ts)
     low_is = eqb-true low (last_of 0 (take J ts)) values.1.1.1.1.1.1.1.1.0

@@ -9,7 +9,8 @@ use lib.ListN.{length, drop, get_or, replicate, length-append, length-replicate}
 use lib.Seq.{take-append_seam, drop-append_seam}
 use lib.Dec.{eqb, leb}
 use borrow.Author.Tests.{eq-eqb, eqb-false, eqb-true, le-leb, leb-true}
-use Rattle.laws.specs.Lists.{All, all, every, scan, within}
+use Rattle.std.specs.List.{list_all}
+use Rattle.laws.specs.Lists.{All, every, scan, within}
 use Rattle.laws.proofs.Sums.{Holds as Passes, all_map, and_parts, every_all}
 use Rattle.laws.proofs.Fields.{all_append, all_replicate}
 use Rattle.rules.specs.declared.Tuple.{Tuple}
@@ -34,10 +35,9 @@ every_of (t ∷ (u ∷ ts)) h = ap₂ (λ (a b : Bool). a && b) h.0 (every_of (u
 pub both : (a b : Bool) → a ≡ true → b ≡ true → a && b ≡ true
 both a b h k = ap₂ (λ (p q : Bool). p && q) h k
 
-pub all_same : {A : Type 0} (p : A → Bool) (n : ℕ) (a : A) → p a ≡ true → all p (replicate n a) ≡ true
-unfolding all
+pub all_same : {A : Type 0} (p : A → Bool) (n : ℕ) (a : A) → p a ≡ true → list_all p (replicate n a) ≡ true
 all_same p zero a h = refl
-all_same p (suc n) a h = both (p a) (all p (replicate n a)) h (all_same p n a h)
+all_same p (suc n) a h = both (p a) (list_all p (replicate n a)) h (all_same p n a h)
 
 pub within_is : (a x b : ℕ) → a ≤ x → x ≤ b → within a x b ≡ true
 within_is a x b h k = ap₂ (λ (p q : Bool). p && q) (le-leb a x h) (le-leb x b k)
@@ -118,10 +118,9 @@ pub stage_ok_lem : (g : Stage) → ValidStage g → stage_ok g ≡ true
 unfolding stage_ok
 stage_ok_lem g v = both (leb g.task 15) (within 1 g.cost 65535) (le-leb g.task 15 v.task) (within_both 1 g.cost 65535 v.cost)
 
-pub stages_ok : (gs : List Stage) → All ValidStage gs → all stage_ok gs ≡ true
-unfolding all
+pub stages_ok : (gs : List Stage) → All ValidStage gs → list_all stage_ok gs ≡ true
 stages_ok [] v = refl
-stages_ok (g ∷ gs) v = both (stage_ok g) (all stage_ok gs) (stage_ok_lem g v.0) (stages_ok gs v.1)
+stages_ok (g ∷ gs) v = both (stage_ok g) (list_all stage_ok gs) (stage_ok_lem g v.0) (stages_ok gs v.1)
 
 pub no_stage_unused : stage_unused no_stage ≡ true
 unfolding stage_unused
@@ -131,8 +130,8 @@ no_stage_unused = refl
 pub places_length : {A : Type 0} (N : ℕ) (none : A) (l : List A) → length l ≤ N → length (l ++ replicate (N - length l) none) ≡ N
 places_length {A} N none l h = omega (arith, length-append l (replicate (N - length l) none), length-replicate {A = A} (N - length l) none)
 
-pub rest_unused : {A : Type 0} (p : A → Bool) (N : ℕ) (none : A) (l : List A) → p none ≡ true → all p (drop (length l) (l ++ replicate (N - length l) none)) ≡ true
-rest_unused p N none l h = ap (all p) (drop-append_seam l (replicate (N - length l) none)) ∙ all_same p (N - length l) none h
+pub rest_unused : {A : Type 0} (p : A → Bool) (N : ℕ) (none : A) (l : List A) → p none ≡ true → list_all p (drop (length l) (l ++ replicate (N - length l) none)) ≡ true
+rest_unused p N none l h = ap (list_all p) (drop-append_seam l (replicate (N - length l) none)) ∙ all_same p (N - length l) none h
 
 module _ (gs : List Stage) (deadline : ℕ) (ps : List TuplePlace) (shallow : length gs ≤ 4) (few : length ps ≤ 4) where
   pub stream_four : FourPlaces (stream_of gs deadline ps)
@@ -144,7 +143,7 @@ module _ (gs : List Stage) (deadline : ℕ) (ps : List TuplePlace) (shallow : le
       every_of (stream_tests (stream_of gs deadline ps)) (
         both (leb 1 (length gs)) (leb (length gs) 4) (le-leb 1 (length gs) deep) (le-leb (length gs) 4 shallow),
         (
-          ap (all stage_ok) (take-append_seam gs (replicate (4 - length gs) no_stage)) ∙ stages_ok gs v,
+          ap (list_all stage_ok) (take-append_seam gs (replicate (4 - length gs) no_stage)) ∙ stages_ok gs v,
           (
             rest_unused stage_unused 4 no_stage gs no_stage_unused,
             (
@@ -176,28 +175,26 @@ pub streams_of_lem : (version : ℕ) (qs : List Stream) → streams_of (set_of v
 streams_of_lem version qs = take-append_seam qs (replicate (16 - length qs) no_stream)
 
 pub no_stream_unused : stream_unused no_stream ≡ true
-unfolding stream_unused all stage_unused tuple_unused
+unfolding stream_unused stage_unused tuple_unused
 no_stream_unused = refl
 
 pub no_stream_four : FourPlaces no_stream
 no_stream_four = record { stages = refl; tuples = refl }
 
 module _ (version : ℕ) where
-  good_ok : (qs : List Stream) → All (GoodStream version) qs → all stream_ok qs ≡ true
-  unfolding all
+  good_ok : (qs : List Stream) → All (GoodStream version) qs → list_all stream_ok qs ≡ true
   good_ok [] g = refl
-  good_ok (q ∷ qs) g = both (stream_ok q) (all stream_ok qs) g.0.ok (good_ok qs g.1)
+  good_ok (q ∷ qs) g = both (stream_ok q) (list_all stream_ok qs) g.0.ok (good_ok qs g.1)
 
-  good_one : version ≡ 1 → (qs : List Stream) → All (GoodStream version) qs → all one_stage qs ≡ true
-  unfolding all
+  good_one : version ≡ 1 → (qs : List Stream) → All (GoodStream version) qs → list_all one_stage qs ≡ true
   good_one e [] g = refl
-  good_one e (q ∷ qs) g = both (one_stage q) (all one_stage qs) (eq-eqb q.depth 1 (g.0.staged e)) (good_one e qs g.1)
+  good_one e (q ∷ qs) g = both (one_stage q) (list_all one_stage qs) (eq-eqb q.depth 1 (g.0.staged e)) (good_one e qs g.1)
 
   good_version : (qs : List Stream) → within 1 version 2 ≡ true → All (GoodStream version) qs → version_ok (set_of version qs) ≡ true
   unfolding version_ok
   good_version qs w g =
-      cond_elim (λ (b : Bool). b ≡ true) (eqb version 1) (all one_stage (streams_of (set_of version qs))) (eqb version 2)
-      (λ e. ap (all one_stage) (streams_of_lem version qs) ∙ good_one (eqb-true version 1 e) qs g)
+      cond_elim (λ (b : Bool). b ≡ true) (eqb version 1) (list_all one_stage (streams_of (set_of version qs))) (eqb version 2)
+      (λ e. ap (list_all one_stage) (streams_of_lem version qs) ∙ good_one (eqb-true version 1 e) qs g)
       (λ e. eq-eqb version 2 (omega (arith, eqb-false version 1 e, within_low 1 version 2 w, within_high 1 version 2 w)))
 
   pub set_ok : (qs : List Stream) → within 1 version 2 ≡ true → length qs ≤ 16 → All (GoodStream version) qs → valid (set_of version qs) ≡ true
@@ -206,7 +203,7 @@ module _ (version : ℕ) where
       every_of (set_tests (set_of version qs)) (
         le-leb (length qs) 16 few,
         (
-          ap (all stream_ok) (streams_of_lem version qs) ∙ good_ok qs g,
+          ap (list_all stream_ok) (streams_of_lem version qs) ∙ good_ok qs g,
           (rest_unused stream_unused 16 no_stream qs no_stream_unused, (good_version qs w g, tt)),
         ),
       )

@@ -1,17 +1,17 @@
 -- The ways out of the functions that test a carried state, as laws.
 -- Assumes nothing.
-use Prim.Native.Nat.{ℕ, suc, ◌+◌, ◌-◌, ◌*◌, ◌%◌, ◌^◌, ◌≤◌, ◌<◌}
+use Prim.Native.Nat.{ℕ, suc, ◌-◌, ◌^◌, ◌≤◌, ◌<◌, min}
 use mathlib.Core.List.{List, [], ◌∷◌}
 use mathlib.Core.Path.{◌≡◌, refl, sym, ap, ap₂, ◌∙◌}
-use mathlib.Core.Bool.{Bool, true, false, cond, ◌&&◌, ◌||◌}
+use mathlib.Core.Bool.{Bool, true, false, ◌&&◌, ◌||◌}
 use native.Mathlib.Omega.{arith}
-use lib.ListN.{length, get_or, take, drop, get_or-eq_default}
-use native.Mathlib.Nat.{mod-eq_of_lt}
-use lib.Pow.{pow_mono}
+use lib.ListN.{length, get_or, take, drop}
 use lib.Seq.{take-length, take_all}
 use lib.Dec.{eqb, leb, ltb}
-use borrow.Author.Tests.{le-leb, lt-leb}
-use Rattle.laws.specs.Lists.{all, within}
+use borrow.Author.Tests.{le-leb, lt-leb, ltb-false, ltb-true}
+use Rattle.laws.proofs.Sums.{by_test}
+use Rattle.std.specs.List.{list_all}
+use Rattle.laws.specs.Lists.{within}
 use Rattle.laws.proofs.Fits.{and_assoc}
 use Rattle.rules.specs.declared.TuplePlace.{TuplePlace}
 use Rattle.rules.specs.declared.Stage.{Stage}
@@ -25,9 +25,6 @@ use Rattle.sheet_carried.proofs.Chains.{last_taken}
 use Rattle.sheet_carried.proofs.Rows.{by_value_row, refused_row, width_le, width_pad, width_some}
 
 -- ---- by row
-
-pub past : (l : List ℕ) (f : ℕ) → length l ≡ 9 → 9 ≤ f → 0 ≡ get_or l f 0
-past l f e h = sym (get_or-eq_default l 0 {n = f} (omega arith))
 
 pub width_value : (f v : ℕ) → f < 9 → v ≡ get_or (4 ∷ 5 ∷ 18 ∷ 2 ∷ 4 ∷ 16 ∷ 2 ∷ 20 ∷ 17 ∷ []) f 0 → v ≡ width_of f
 unfolding row_of
@@ -65,24 +62,25 @@ width_few p w left e h = (h, omega (arith, width_le p))
 
 -- ---- the stream that is being read
 
-pub stages_row : (version less f n all first v : ℕ) → all ≡ less + 1 → first ≡ cond (eqb version 1) all 0 → v ≡ get_or (0 ∷ 0 ∷ first ∷ 0 ∷ n ∷ n ∷ all ∷ all ∷ all ∷ []) f 0 → v ≡ stages_whole version less f n
-unfolding stages_whole
-stages_row version less f n all first v a b e =
-    e ∙ ap (λ (j : ℕ). get_or (0 ∷ 0 ∷ j ∷ 0 ∷ n ∷ n ∷ all ∷ all ∷ all ∷ []) f 0) b
-    ∙ ap (λ (j : ℕ). get_or (0 ∷ 0 ∷ cond (eqb version 1) j 0 ∷ 0 ∷ n ∷ n ∷ j ∷ j ∷ j ∷ []) f 0) a
-
 pub last_none : (k : ℕ) (ts : List TuplePlace) → k ≡ 0 → 0 ≡ last_of 0 (take k ts)
 unfolding last_of
 last_none k ts e = ap (λ (j : ℕ). last_of 0 (take j ts)) (sym e)
 
-pub last_in : (k v : ℕ) (ts : List TuplePlace) → length ts ≡ 4 → (k ≡ 0 → ⊥) → k < 4 → v ≡ offset_at (get_or ts (k - 1) no_tuple) → v ≡ last_of 0 (take k ts)
+last_in : (k v : ℕ) (ts : List TuplePlace) → length ts ≡ 4 → (k ≡ 0 → ⊥) → k < 4 → v ≡ offset_at (get_or ts (k - 1) no_tuple) → v ≡ last_of 0 (take k ts)
 last_in k v ts e h i g = g ∙ sym (last_taken 0 (k - 1) ts (omega arith)) ∙ ap (λ (j : ℕ). last_of 0 (take j ts)) (let q : suc (k - 1) ≡ k = omega (arith, h) in q)
 
-pub last_all : (k v : ℕ) (ts : List TuplePlace) → length ts ≡ 4 → 4 ≤ k → v ≡ offset_at (get_or ts 3 no_tuple) → v ≡ last_of 0 (take k ts)
+last_all : (k v : ℕ) (ts : List TuplePlace) → length ts ≡ 4 → 4 ≤ k → v ≡ offset_at (get_or ts 3 no_tuple) → v ≡ last_of 0 (take k ts)
 last_all k v ts e h g = g ∙ sym (last_taken 0 3 ts (omega arith)) ∙ ap (last_of 0) (ap (λ (j : ℕ). take j ts) (sym e) ∙ take-length ts ∙ sym (take_all k ts (omega arith)))
 
-pub part_whole : (k j first : ℕ) (gs : List Stage) (ts : List TuplePlace) (staged tupled : Bool) → staged ≡ (all stage_ok (take k gs) && all stage_unused (drop k gs)) → first ≡ offset_at (get_or ts 0 no_tuple)
-    → tupled ≡ (tuples_ok (take j ts) && all tuple_unused (drop j ts)) → (staged && (eqb first 0 && tupled)) ≡ (stages_fit k gs && tuples_fit j ts)
+-- the offset of the last of the first k, or of all four
+pub last_at : (k m v : ℕ) (ts : List TuplePlace) → length ts ≡ 4 → (k ≡ 0 → ⊥) → m ≡ min k 4 → v ≡ offset_at (get_or ts (m - 1) no_tuple) → v ≡ last_of 0 (take k ts)
+last_at k m v ts e h q g =
+    by_test (ltb k 4)
+    (λ y. last_in k v ts e h (ltb-true k 4 y) (g ∙ ap (λ (j : ℕ). offset_at (get_or ts (j - 1) no_tuple)) (let u : m ≡ k = omega (arith, ltb-true k 4 y) in u)))
+    (λ y. last_all k v ts e (ltb-false k 4 y) (g ∙ ap (λ (j : ℕ). offset_at (get_or ts j no_tuple)) (let u : m - 1 ≡ 3 = omega (arith, ltb-false k 4 y) in u)))
+
+pub part_whole : (k j first : ℕ) (gs : List Stage) (ts : List TuplePlace) (staged tupled : Bool) → staged ≡ (list_all stage_ok (take k gs) && list_all stage_unused (drop k gs)) → first ≡ offset_at (get_or ts 0 no_tuple)
+    → tupled ≡ (tuples_ok (take j ts) && list_all tuple_unused (drop j ts)) → (staged && (eqb first 0 && tupled)) ≡ (stages_fit k gs && tuples_fit j ts)
 unfolding stages_fit tuples_fit
 part_whole k j first gs ts staged tupled e f g = rw (e, f, g)
 
@@ -100,17 +98,8 @@ kept_whole f n j k most low m vs gs ts x ok version count part valued a b c d e 
     ∙ ap₂ (λ (u v : Bool). valid x && (version_fits x.version f && (count_fits f x.count (get_or vs 1 0) && (leb n (most_whole f vs) && (u && v))))) r (p ∙ ap (λ (u : ℕ). values_fit x.version f u vs) q)
     ∙ ap (λ (t : Bool). valid x && (version_fits x.version f && (count_fits f x.count (get_or vs 1 0) && (leb n (most_whole f vs) && t)))) (sym (and_assoc (stages_fit (stages_whole x.version (get_or vs 3 0) f n) gs) (tuples_fit (tuples_whole f n) ts) _))
 
-pub most_row : (f a b v : ℕ) (vs : List ℕ) → a ≡ get_or vs 3 0 → b ≡ get_or vs 6 0 → v ≡ get_or (0 ∷ 0 ∷ 0 ∷ 0 ∷ a ∷ a ∷ 0 ∷ b ∷ b ∷ []) f 0 → v ≡ most_whole f vs
-unfolding most_whole
-most_row f a b v vs e g h = h ∙ ap₂ (λ (i j : ℕ). get_or (0 ∷ 0 ∷ 0 ∷ 0 ∷ i ∷ i ∷ 0 ∷ j ∷ j ∷ []) f 0) e g
-
 pub values_whole : (version f low : ℕ) (vs : List ℕ) (count hasDate date hasDepth depth task limit cycle : Bool) → count ≡ held (within 2 f 16) 0 16 (get_or vs 1 0) → hasDate ≡ dated version f → date ≡ held hasDate 1 200000 (get_or vs 2 0)
     → hasDepth ≡ deepened version f → depth ≡ held hasDepth 0 3 (get_or vs 3 0) → task ≡ held (eqb f 5) 0 15 (get_or vs 4 0) → limit ≡ held (within 7 f 8) 0 3 (get_or vs 6 0) → cycle ≡ held (eqb f 8) 0 1000000 (get_or vs 7 0)
     → (eqb (get_or vs 0 0) 0 && (count && (date && (depth && (task && (eqb (get_or vs 5 0) 0 && (limit && (cycle && eqb (get_or vs 8 0) low)))))))) ≡ values_fit version f low vs
 unfolding values_fit
 values_whole version f low vs count hasDate date hasDepth depth task limit cycle a b c d e g h i = rw (a, c, b, e, d, g, h, i)
-
-pub shifted : (acc w left : ℕ) → left ≤ w → w ≤ 20 → ltb acc (1 * 2 ^ (w - left) % 18446744073709551616) ≡ ltb acc (2 ^ (w - left))
-shifted acc w left h k =
-    ap (ltb acc) (ap (λ (n : ℕ). n % 18446744073709551616) (let e : 1 * 2 ^ (w - left) ≡ 2 ^ (w - left) = omega arith in e)
-    ∙ mod-eq_of_lt (omega (arith, pow_mono {i = w - left} {j = 20} (omega arith))))

@@ -11,7 +11,8 @@ use lib.ListN.{length, take, drop, replicate, length-drop, take-append-drop}
 use lib.Seq.{length-take-le}
 use lib.Dec.{eqb}
 use borrow.Author.Tests.{eqb-true}
-use Rattle.laws.specs.Lists.{All, all}
+use Rattle.std.specs.List.{list_all}
+use Rattle.laws.specs.Lists.{All}
 use Rattle.laws.proofs.Sums.{Holds as Passes, all_all, all_each, and_parts, every_all}
 use Rattle.laws.proofs.Fields.{all_drop}
 use Rattle.rules.specs.declared.Tuple.{Tuple}
@@ -70,18 +71,17 @@ no_stage_lem g e =
     ap₂ (λ (t c : ℕ). record { task = t; cost = c }) (eqb-true g.task 0 u.0) (eqb-true g.cost 0 u.1)
 
 -- places that pass a test which only the unused one passes
-pub all_none : {A : Type 0} (p : A → Bool) (none : A) → ((a : A) → p a ≡ true → a ≡ none) → (l : List A) → all p l ≡ true → l ≡ replicate (length l) none
-unfolding all
+pub all_none : {A : Type 0} (p : A → Bool) (none : A) → ((a : A) → p a ≡ true → a ≡ none) → (l : List A) → list_all p l ≡ true → l ≡ replicate (length l) none
 all_none p none h [] e = refl
 all_none {A} p none h (a ∷ l) e =
-    let u = and_parts (p a) (all p l) e in
+    let u = and_parts (p a) (list_all p l) e in
     ap₂ (λ (b : A) (m : List A). b ∷ m) (h a u.0) (all_none p none h l u.1)
 
-none_of : {A : Type 0} (p : A → Bool) (none : A) → ((a : A) → p a ≡ true → a ≡ none) → (n : ℕ) (l : List A) → length l ≡ n → all p l ≡ true → l ≡ replicate n none
+none_of : {A : Type 0} (p : A → Bool) (none : A) → ((a : A) → p a ≡ true → a ≡ none) → (n : ℕ) (l : List A) → length l ≡ n → list_all p l ≡ true → l ≡ replicate n none
 none_of p none h n l f e = all_none p none h l e ∙ ap (λ (k : ℕ). replicate k none) f
 
 abbrev unused_tests : Stream → List Bool
-unused_tests s = eqb s.depth 0 ∷ all stage_unused s.stages ∷ eqb s.deadline 0 ∷ eqb s.count 0 ∷ all tuple_unused s.tuples ∷ []
+unused_tests s = eqb s.depth 0 ∷ list_all stage_unused s.stages ∷ eqb s.deadline 0 ∷ eqb s.count 0 ∷ list_all tuple_unused s.tuples ∷ []
 
 no_stream_lem : (s : Stream) → FourPlaces s → stream_unused s ≡ true → s ≡ no_stream
 unfolding stream_unused
@@ -91,11 +91,10 @@ no_stream_lem s f e =
     ∙ ap₂ (λ (d c : ℕ). record { depth = 0; stages = replicate 4 no_stage; deadline = d; count = c; tuples = s.tuples }) (eqb-true s.deadline 0 u.1.1.0) (eqb-true s.count 0 u.1.1.1.0)
     ∙ ap (λ (l : List TuplePlace). record { depth = 0; stages = replicate 4 no_stage; deadline = 0; count = 0; tuples = l }) (none_of tuple_unused no_tuple no_tuple_lem 4 s.tuples f.tuples u.1.1.1.1.0)
 
-no_streams_lem : (l : List Stream) → All FourPlaces l → all stream_unused l ≡ true → l ≡ replicate (length l) no_stream
-unfolding all
+no_streams_lem : (l : List Stream) → All FourPlaces l → list_all stream_unused l ≡ true → l ≡ replicate (length l) no_stream
 no_streams_lem [] f e = refl
 no_streams_lem (s ∷ l) f e =
-    let u = and_parts (stream_unused s) (all stream_unused l) e in
+    let u = and_parts (stream_unused s) (list_all stream_unused l) e in
     ap₂ (λ (q : Stream) (m : List Stream). q ∷ m) (no_stream_lem s f.0 u.0) (no_streams_lem l f.1 u.1)
 
 -- ---- what a valid set with its places holds
@@ -118,20 +117,20 @@ set_holds x v p =
 abbrev pub Staged : ℕ → Stream → Type 0
 Staged version s = version ≡ 1 → s.depth ≡ 1
 
-pub version_cases : (x : Set) → ValidSet x → ((x.version ≡ 1) × (all one_stage (streams_of x) ≡ true)) ⊎ (x.version ≡ 2)
+pub version_cases : (x : Set) → ValidSet x → ((x.version ≡ 1) × (list_all one_stage (streams_of x) ≡ true)) ⊎ (x.version ≡ 2)
 unfolding version_ok
 version_cases x v = by_version (eqb x.version 1) (eqb-true x.version 1) v.version
   where
-    by_version : (b : Bool) → (b ≡ true → x.version ≡ 1) → cond b (all one_stage (streams_of x)) (eqb x.version 2) ≡ true
-        → ((x.version ≡ 1) × (all one_stage (streams_of x) ≡ true)) ⊎ (x.version ≡ 2)
+    by_version : (b : Bool) → (b ≡ true → x.version ≡ 1) → cond b (list_all one_stage (streams_of x)) (eqb x.version 2) ≡ true
+        → ((x.version ≡ 1) × (list_all one_stage (streams_of x) ≡ true)) ⊎ (x.version ≡ 2)
     by_version true h e = inl (h refl, e)
     by_version false h e = inr (eqb-true x.version 2 e)
 
 pub version_within : (x : Set) → ValidSet x → (1 ≤ x.version) × (x.version ≤ 2)
 version_within x v =
-    ⊎_elim (λ (h : (x.version ≡ 1) × (all one_stage (streams_of x) ≡ true)). (omega (arith, h.0), omega (arith, h.0))) (λ (h : x.version ≡ 2). (omega arith, omega arith)) (version_cases x v)
+    ⊎_elim (λ (h : (x.version ≡ 1) × (list_all one_stage (streams_of x) ≡ true)). (omega (arith, h.0), omega (arith, h.0))) (λ (h : x.version ≡ 2). (omega arith, omega arith)) (version_cases x v)
 
 pub set_staged : (x : Set) → ValidSet x → All (Staged x.version) (streams_of x)
 set_staged x v =
-    ⊎_elim (λ (h : (x.version ≡ 1) × (all one_stage (streams_of x) ≡ true)). all_all one_stage (Staged x.version) (λ s e _. eqb-true s.depth 1 e) (streams_of x) h.1)
+    ⊎_elim (λ (h : (x.version ≡ 1) × (list_all one_stage (streams_of x) ≡ true)). all_all one_stage (Staged x.version) (λ s e _. eqb-true s.depth 1 e) (streams_of x) h.1)
     (λ (h : x.version ≡ 2). all_each (Staged x.version) (streams_of x) (λ s e. absurd (omega arith))) (version_cases x v)

@@ -1,7 +1,8 @@
 -- Which carried states pieces can have left: a test, clause by clause (docs/STATE.md). That it is exact is proved in proofs/.
 -- Assumes nothing.
 use Rattle.std.specs.Prelude.{ℕ, ◌+◌, ◌-◌, ◌*◌, ◌%◌, ◌^◌, Bool, true, false, cond, ◌&&◌, ◌||◌, List, [], ◌∷◌, ◌≡◌, length, get_or, take, drop, eqb, leb, ltb, ◌↔◌}
-use Rattle.laws.specs.Lists.{All, all, every, sum, within}
+use Rattle.std.specs.List.{list_all}
+use Rattle.laws.specs.Lists.{All, every, sum, within}
 use Rattle.laws.specs.Bits.{bits}
 use Rattle.rules.specs.declared.TuplePlace.{TuplePlace}
 use Rattle.rules.specs.declared.Stage.{Stage}
@@ -49,10 +50,10 @@ count_fits f k n = cond (within at_deadline f at_offset) (ltb k n) (eqb k n)
 -- ---- the stream that is being read
 
 unfoldable pub stages_fit : ℕ → List Stage → Bool
-stages_fit k gs = all stage_ok (take k gs) && all stage_unused (drop k gs)
+stages_fit k gs = list_all stage_ok (take k gs) && list_all stage_unused (drop k gs)
 
 unfoldable pub tuples_fit : ℕ → List TuplePlace → Bool
-tuples_fit k ts = eqb (offset_at (get_or ts 0 no_tuple)) 0 && (tuples_ok (take k ts) && all tuple_unused (drop k ts))
+tuples_fit k ts = eqb (offset_at (get_or ts 0 no_tuple)) 0 && (tuples_ok (take k ts) && list_all tuple_unused (drop k ts))
 
 -- the offset of the last tuple, or `low` where there is none
 unfoldable pub last_of : ℕ → List TuplePlace → ℕ

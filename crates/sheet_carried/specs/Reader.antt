@@ -7,8 +7,8 @@ use Rattle.rules.specs.declared.Stage.{Stage}
 use Rattle.rules.specs.declared.Stream.{Stream}
 use Rattle.rules.specs.declared.Set.{Set}
 use Rattle.rules.specs.declared.ReadResult.{ReadResult}
-use Rattle.rules.specs.declared.ReadAnswer.{ReadAnswer}
-use Rattle.rules.specs.declared.ReadAnswer.TheVariants.{Read, Refused}
+use Rattle.std.specs.Prelude.{Result, Ok, Err}
+use Rattle.rules.specs.declared.Refusal.{Refusal}
 use Rattle.rules.specs.Streams.{empty_set, no_stage, no_tuple}
 use Rattle.rules.specs.Sheet.{no_set, tuple_of}
 use Rattle.sheet_carried.specs.declared.SheetField.{SheetField}
@@ -139,9 +139,9 @@ unfoldable pub run : Carried → List ℕ → Carried
 run c [] = c
 run c (b ∷ bs) = run (step_of c b) bs
 
-abbrev pub close_as : ReadAnswer → Set → ReadResult
-close_as Read x = record { answer = Read; set = x }
-close_as (Refused why) x = no_set why
+abbrev pub close_as : Result (Unit {0}) Refusal → Set → ReadResult
+close_as (Ok tt) x = record { answer = Ok tt; set = x }
+close_as (Err why) x = no_set why
 
 unfoldable pub close_of : Carried → ReadResult
 close_of c = close_as (answer_of c.point.row) c.set

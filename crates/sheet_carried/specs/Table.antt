@@ -4,8 +4,7 @@ use Rattle.std.specs.Prelude.{ℕ, ◌+◌, Bool, cond, ◌&&◌, List, [], ◌�
 use Rattle.laws.specs.Lists.{within}
 use Rattle.rules.specs.declared.Refusal.{Refusal}
 use Rattle.rules.specs.declared.Refusal.TheVariants.{BitsMissing, BadVersion, OutOfRule, Leftover}
-use Rattle.rules.specs.declared.ReadAnswer.{ReadAnswer}
-use Rattle.rules.specs.declared.ReadAnswer.TheVariants.{Read, Refused}
+use Rattle.std.specs.Prelude.{Result, Ok, Err}
 use Rattle.sheet_carried.specs.declared.SheetField.{SheetField}
 
 -- ---- rows
@@ -122,5 +121,5 @@ following_of version f v = cond (eqb f at_count) (opened_of version 0 v) (behind
 unfoldable pub why_of : ℕ → Refusal
 why_of f = cond (eqb f 17) BadVersion (cond (eqb f 18) OutOfRule Leftover)
 
-unfoldable pub answer_of : ℕ → ReadAnswer
-answer_of f = cond (ltb f at_padding) (Refused BitsMissing) (cond (ltb f at_refused) Read (Refused (why_of f)))
+unfoldable pub answer_of : ℕ → Result (Unit {0}) Refusal
+answer_of f = cond (ltb f at_padding) (Err BitsMissing) (cond (ltb f at_refused) (Ok tt) (Err (why_of f)))

@@ -7,6 +7,7 @@ use crate::{Carried, fitting};
 use rules::{Set, Stream};
 
 // The bits of a stream's fields.
+#[tactic(auto, unfolding(crate::specs::Left::stream_room))]
 fn stream_room(version: u32, s: Stream) -> usize
     requires { (s.depth ≤ 4) × (s.count ≤ 4) }
     ensures { result ≡ stream_room version s }
@@ -20,13 +21,9 @@ fn streams_room(x: Set) -> usize
     requires { valid x ≡ true }
     ensures { (result ≡ streams_room x) × (result ≤ 4000) }
 {
-    let n = x.count;
     let mut room: usize = 0;
-    let mut k: usize = 0;
-    while k < n {
-        let s = x.streams[k];
-        room += stream_room(x.version, s);
-        k += 1;
+    for s in &x.streams[..x.count] {
+        room += stream_room(x.version, *s);
     }
     room
 }
@@ -64,27 +61,22 @@ fn came(c: Carried) -> usize
     requires { fits c ≡ true }
     ensures { result ≡ came_of c }
 {
-    let point = c.point;
-    let values = c.values;
-    let set = c.set;
-    let f = point.row;
-    let here = fitting::width(f) - fitting::wide(point.left);
+    let f = c.point.row;
+    let here = fitting::width(f) - c.point.left as usize;
     if f == 0 {
         return here;
     }
     if f == 1 {
         return 4 + here;
     }
-    9 + streams_room(set) + part_room(set.version, fitting::wide(values[3]), f, point.whole) + here
+    9 + streams_room(c.set)
+        + part_room(c.set.version, c.values[3] as usize, f, c.point.whole)
+        + here
 }
 
 pub(crate) fn whole_bytes(c: Carried) -> bool
     requires { fits c ≡ true }
     ensures { result ≡ whole_bytes c }
 {
-    let point = c.point;
-    if 17 <= point.row {
-        return true;
-    }
-    came(c) % 8 == 0
+    17 <= c.point.row || came(c) % 8 == 0
 }

@@ -9,18 +9,13 @@ use crate::{Carried, Point};
 use rules::{Stage, Stream, Tuple, TuplePlace};
 
 // ---- by row
+// kept: a row is a number, as the definitions' table and the carried state's layout (docs/STATE.md) count it
 
 // A number for each row of a value; none behind them.
 pub(crate) fn by_row(row: [usize; 9], f: usize) -> usize
     ensures { result ≡ get_or row f 0 }
 {
-    if f < 9 { row[f] } else { 0 }
-}
-
-pub(crate) fn wide(v: u32) -> usize
-    ensures { result ≡ v }
-{
-    v as usize
+    row.get(f).copied().unwrap_or(0)
 }
 
 // ---- the field that comes
@@ -40,15 +35,14 @@ fn came_fits(acc: u64, w: usize, left: usize) -> bool
     requires { (left ≤ w) × (w ≤ 20) }
     ensures { result ≡ ltb acc (2 ^ (w - left)) }
 {
-    let one: u64 = 1;
-    acc < one << (w - left)
+    acc < 1u64 << (w - left)
 }
 
 fn point_fits(p: Point) -> bool
     ensures { result ≡ point_fits p }
 {
     let w = width(p.row);
-    let left = wide(p.left);
+    let left = p.left as usize;
     if w < left {
         return false;
     }
@@ -58,6 +52,7 @@ fn point_fits(p: Point) -> bool
 
 // ---- the streams that are whole
 
+#[tactic(auto, unfolding(crate::specs::Left::version_fits))]
 fn version_fits(version: u32, f: usize) -> bool
     ensures { result ≡ version_fits version f }
 {
@@ -68,6 +63,7 @@ fn version_fits(version: u32, f: usize) -> bool
     }
 }
 
+#[tactic(auto, unfolding(crate::specs::Left::count_fits))]
 fn count_fits(f: usize, k: usize, n: usize) -> bool
     ensures { result ≡ count_fits f k n }
 {
@@ -84,14 +80,16 @@ fn first_stages(version: u32, all: usize) -> usize
 }
 
 // How many stages are whole before a row; `less` are the stages less one.
+#[tactic(auto, unfolding(crate::specs::Kept::stages_whole))]
 fn whole_stages(version: u32, less: u32, f: usize, n: usize) -> usize
     ensures { result ≡ stages_whole version less f n }
 {
-    let all = wide(less) + 1;
+    let all = less as usize + 1;
     let first = first_stages(version, all);
     by_row([0, 0, first, 0, n, n, all, all, all], f)
 }
 
+#[tactic(auto, unfolding(crate::specs::Kept::tuples_whole))]
 fn whole_tuples(f: usize, n: usize) -> usize
     ensures { result ≡ tuples_whole f n }
 {
@@ -99,11 +97,12 @@ fn whole_tuples(f: usize, n: usize) -> usize
 }
 
 // How many stages or tuples may be whole before a row.
+#[tactic(auto, unfolding(crate::specs::Kept::most_whole))]
 fn most_whole(f: usize, values: [u32; 9]) -> usize
     ensures { result ≡ most_whole f values }
 {
-    let stages = wide(values[3]);
-    let tuples = wide(values[6]);
+    let stages = values[3] as usize;
+    let tuples = values[6] as usize;
     by_row([0, 0, 0, 0, stages, stages, 0, tuples, tuples], f)
 }
 
@@ -111,9 +110,7 @@ fn offset_at(places: [TuplePlace; 4], j: usize) -> u32
     requires { j < 4 }
     ensures { result ≡ offset_at (get_or places j no_tuple) }
 {
-    let p = places[j];
-    let t = p.tuple;
-    stream_valid::offset_of(t)
+    stream_valid::offset_of(places[j].tuple)
 }
 
 // The offset of the last of the first `k` tuples, 0 behind none.
@@ -121,12 +118,9 @@ fn last_offset(k: usize, places: [TuplePlace; 4]) -> u32
     ensures { result ≡ last_of 0 (take k places) }
 {
     if k == 0 {
-        return 0;
-    }
-    if k < 4 {
-        offset_at(places, k - 1)
+        0
     } else {
-        offset_at(places, 3)
+        offset_at(places, k.min(4) - 1)
     }
 }
 
@@ -149,6 +143,7 @@ fn part(k: usize, stages: [Stage; 4], j: usize, places: [TuplePlace; 4]) -> bool
 
 // ---- the values
 
+#[tactic(auto, unfolding(crate::specs::Left::held))]
 fn in_rule(read: bool, low: u32, high: u32, v: u32) -> bool
     ensures { result ≡ held read low high v }
 {
@@ -159,6 +154,7 @@ fn in_rule(read: bool, low: u32, high: u32, v: u32) -> bool
     }
 }
 
+#[tactic(auto, unfolding(crate::specs::Left::dated))]
 fn has_date(version: u32, f: usize) -> bool
     ensures { result ≡ dated version f }
 {
@@ -169,6 +165,7 @@ fn has_date(version: u32, f: usize) -> bool
     }
 }
 
+#[tactic(auto, unfolding(crate::specs::Left::deepened))]
 fn has_depth(version: u32, f: usize) -> bool
     ensures { result ≡ deepened version f }
 {
@@ -199,33 +196,24 @@ fn values_fit(version: u32, f: usize, low: u32, values: [u32; 9]) -> bool
 fn kept(c: Carried) -> bool
     ensures { result ≡ kept_fits c.point.row c.point.whole c.values c.stages c.places c.set }
 {
-    let point = c.point;
-    let values = c.values;
-    let stages = c.stages;
-    let places = c.places;
-    let set = c.set;
-    let f = point.row;
-    let n = point.whole;
+    let f = c.point.row;
+    let n = c.point.whole;
     let j = whole_tuples(f, n);
-    let valid = stream_valid::is_valid(set);
-    let version = version_fits(set.version, f);
-    let count = count_fits(f, set.count, wide(values[1]));
-    let most = most_whole(f, values);
-    let part = part(
-        whole_stages(set.version, values[3], f, n),
-        stages,
-        j,
-        places,
-    );
-    let valued = values_fit(set.version, f, last_offset(j, places), values);
+    let k = whole_stages(c.set.version, c.values[3], f, n);
+    let valid = stream_valid::is_valid(c.set);
+    let version = version_fits(c.set.version, f);
+    let count = count_fits(f, c.set.count, c.values[1] as usize);
+    let most = most_whole(f, c.values);
+    let part = part(k, c.stages, j, c.places);
+    let valued = values_fit(c.set.version, f, last_offset(j, c.places), c.values);
     valid & (version & (count & ((n <= most) & (part & valued))))
 }
 
+#[tactic(auto, unfolding(crate::specs::Left::fits))]
 pub(crate) fn fits(c: Carried) -> bool
     ensures { result ≡ fits c }
 {
-    let point = c.point;
-    let here = point_fits(point);
+    let here = point_fits(c.point);
     let kept = kept(c);
     here & kept
 }

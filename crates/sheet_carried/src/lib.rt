@@ -45,12 +45,9 @@ pub struct Carried {
 // ---- the test
 
 // Could some pieces have left this? The bits that have come are counted only of what is in its rules.
+#[tactic(auto, unfolding(crate::specs::Left::could_be_left))]
 pub fn could_be_left(c: Carried) -> bool
     ensures { result ≡ could_be_left c }
 {
-    if fitting::fits(c) {
-        counting::whole_bytes(c)
-    } else {
-        false
-    }
+    fitting::fits(c) && counting::whole_bytes(c)
 }

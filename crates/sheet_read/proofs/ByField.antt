@@ -10,7 +10,8 @@ use native.Mathlib.Nat.{zero-add}
 use lib.ListN.{drop, get_or, length, replicate, set, take}
 use lib.Dec.{eqb, leb, ltb, leb-suc-suc}
 use borrow.Author.Tests.{eqb-true, lt-leb, le-leb, le-ltb, lt-ltb, ltb-false, ltb-true, ne_eqb}
-use Rattle.laws.specs.Lists.{all, within}
+use Rattle.std.specs.List.{list_all}
+use Rattle.laws.specs.Lists.{within}
 use Rattle.laws.specs.Bits.{bits, onto}
 use Rattle.laws.proofs.Sums.{and_parts, by_test}
 use Rattle.laws.proofs.Fields.{AreBits, bits_bits}
@@ -20,7 +21,7 @@ use Rattle.rules.specs.declared.TuplePlace.{TuplePlace}
 use Rattle.rules.specs.declared.Set.{Set}
 use Rattle.rules.specs.declared.Refusal.TheVariants.{BitsMissing, BadVersion, OutOfRule, Leftover}
 use Rattle.rules.specs.declared.ReadResult.{ReadResult}
-use Rattle.rules.specs.declared.ReadAnswer.TheVariants.{Read}
+use Rattle.std.specs.Prelude.{Ok}
 use Rattle.rules.specs.Streams.{no_stage, no_stream, no_tuple, streams_of}
 use Rattle.rules.specs.Sheet.{field, in_rule, is_zero, no_set, read_bits, read_deadline, read_end, read_head, read_of, read_stages, read_stream, read_streams, read_tuples, set_of, stream_of, tuple_of}
 use Rattle.sheet_carried.specs.declared.Carried.{Carried}
@@ -106,7 +107,7 @@ rest_after f n vs gs ts x =
 
 -- the end, behind p padding bits
 abbrev end_from : ℕ → Set → List ℕ → ReadResult
-end_from p x bs = cond (ltb (p + length bs) 8 && all is_zero bs) (record { answer = Read; set = x }) (no_set Leftover)
+end_from p x bs = cond (ltb (p + length bs) 8 && list_all is_zero bs) (record { answer = Ok tt; set = x }) (no_set Leftover)
 
 finish_by : ℕ → ℕ → List ℕ → List Stage → List TuplePlace → Set → ℕ → ℕ → List ℕ → ReadResult
 finish_by f n vs gs ts x a l bs = cond (ltb f 9) (part a l bs (rest_after f n vs gs ts x)) (cond (ltb f 17) (end_from (f - 9) x bs) (no_set (why_of f)))
@@ -195,7 +196,7 @@ module _ (a b c d e f g h i : ℕ) (gs : List Stage) (ts : List TuplePlace) (x :
   unfolding read_streams read_end finish_by row_of
   opens_none k t =
       ap (λ (m : ℕ). read_streams x.version m (streams_of x) bs) (let q : b - x.count ≡ 0 = omega arith in q)
-      ∙ ap₂ (λ (y : Set) (n : ℕ). cond (ltb n 8 && all is_zero bs) (record { answer = Read; set = y }) (no_set Leftover)) (tidy_set x t) (sym (zero-add (length bs)))
+      ∙ ap₂ (λ (y : Set) (n : ℕ). cond (ltb n 8 && list_all is_zero bs) (record { answer = Ok tt; set = y }) (no_set Leftover)) (tidy_set x t) (sym (zero-add (length bs)))
 
   opens : (x.version ≡ 1 → d ≡ 0) → Holds 16 no_stream x.count x.streams → read_streams x.version (b - x.count) (streams_of x) bs ≡ finish (begun (opened_of x.version x.count b) 0 given gs ts x) bs
   unfolding opened_of
@@ -417,11 +418,11 @@ module _ (f n : ℕ) (vs : List ℕ) (gs : List Stage) (ts : List TuplePlace) (x
   pad_over = ap₂ (λ (t u : Bool). finish (refused_of (cond t 17 (cond u 18 19))) bs) (sym (ne_eqb f 0 (λ e. omega arith))) (sym (le-ltb f 9 h))
 
   pads : end_from (f - 9) x (b ∷ bs) ≡ finish (next_of f n vs gs ts x b) bs
-  unfolding next_of all
+  unfolding next_of
   pads =
-      pad_cases (eqb b 0) (ltb (f - 9) 7) (ltb (f - 9 + suc (length bs)) 8) (all is_zero bs) (record { answer = Read; set = x }) (no_set Leftover)
+      pad_cases (eqb b 0) (ltb (f - 9) 7) (ltb (f - 9 + suc (length bs)) 8) (list_all is_zero bs) (record { answer = Ok tt; set = x }) (no_set Leftover)
       (λ q. le-ltb (f - 9 + suc (length bs)) 8 (omega (arith, ltb-false (f - 9) 7 q)))
-      ∙ ap₂ (λ (t : Bool) (m : ℕ). cond t (cond (ltb m 8 && all is_zero bs) (record { answer = Read; set = x }) (no_set Leftover)) (no_set Leftover))
+      ∙ ap₂ (λ (t : Bool) (m : ℕ). cond t (cond (ltb m 8 && list_all is_zero bs) (record { answer = Ok tt; set = x }) (no_set Leftover)) (no_set Leftover))
       (sym (pad_rule f n (value_at vs 8) b h k)) (let e : f - 9 + suc (length bs) ≡ f + 1 - 9 + length bs = omega arith in e)
       ∙ judged bs (in_rule_of f n (value_at vs 8) b) _ _ (goes_on f n vs gs ts x b) (refused_of (refusal_of f))
       (λ q. pad_next (omega (arith, ltb-true (f - 9) 7 (and_parts (eqb b 0) (ltb (f - 9) 7) (sym (pad_rule f n (value_at vs 8) b h k) ∙ q)).1))) pad_over
@@ -462,7 +463,7 @@ module _ (f n : ℕ) (vs : List ℕ) (gs : List Stage) (ts : List TuplePlace) (x
       (λ u w. absurd (omega (arith, k.left, width_pad f u))) (λ u. absurd (omega (arith, k.left, width_none f u)))
 
   finish_none : (a l : ℕ) → Kept (reading f n vs gs ts x a l) → finish_by f n vs gs ts x a l [] ≡ close_of (reading f n vs gs ts x a l)
-  unfolding close_of answer_of all
+  unfolding close_of answer_of
   finish_none a l k =
       by_place f
       (λ u. finish_value f n vs gs ts x a l [] u ∙ part_none a l (rest_after f n vs gs ts x) (k.some (width_some f (omega arith))) ∙ sym (simp (lt-ltb f 9 u)))

@@ -9,7 +9,7 @@ use Rattle.laws.specs.Bits.{bits}
 use Rattle.laws.proofs.Sums.{by_test}
 use Rattle.laws.proofs.Fields.{AreBytes, IsByte, all_append, bits_append, bits_bits}
 use Rattle.rules.specs.declared.Refusal.TheVariants.{IllFormed}
-use Rattle.rules.specs.declared.FeedAnswer.TheVariants.{Fed, Refused}
+use Rattle.std.specs.Prelude.{Ok, Err}
 use Rattle.rules.specs.Sheet.{no_set, read_of}
 use Rattle.rules.specs.Pieces.{CouldLeave, Piece, fed_from, joined, left_by}
 use Rattle.sheet_carried.specs.declared.Carried.{Carried}
@@ -31,11 +31,11 @@ left_kept c b e =
 
 -- ---- feeding, by the test
 
-pub feed_takes : (c : Carried) (p : List ℕ) → could_be_left c ≡ true → record { answer = Fed; carried = run c (bits p) } ≡ feed_of c p
+pub feed_takes : (c : Carried) (p : List ℕ) → could_be_left c ≡ true → record { answer = Ok tt; carried = run c (bits p) } ≡ feed_of c p
 unfolding feed_of
 feed_takes c p e = sym (simp e)
 
-pub feed_twelve : (c : Carried) (p : List ℕ) → could_be_left c ≡ false → record { answer = Refused IllFormed; carried = c } ≡ feed_of c p
+pub feed_twelve : (c : Carried) (p : List ℕ) → could_be_left c ≡ false → record { answer = Err IllFormed; carried = c } ≡ feed_of c p
 unfolding feed_of
 feed_twelve c p e = sym (simp e)
 
@@ -56,10 +56,10 @@ pub could : (s : List ℕ) → AreBytes s → could_be_left (after s) ≡ true
 could s b = complete (after s) (record { came = s; are = b; leads = refl })
 
 -- one piece more is the bytes with its own behind them
-pub feed_more : (s p : List ℕ) → AreBytes s → feed_of (after s) p ≡ record { answer = Fed; carried = after (s ++ p) }
+pub feed_more : (s p : List ℕ) → AreBytes s → feed_of (after s) p ≡ record { answer = Ok tt; carried = after (s ++ p) }
 feed_more s p b =
     sym (feed_takes (after s) p (could s b))
-    ∙ ap (λ (c : Carried). record { answer = Fed; carried = c }) (sym (run_append start_of (bits s) (bits p)) ∙ ap (run start_of) (sym (bits_append s p)))
+    ∙ ap (λ (c : Carried). record { answer = Ok tt; carried = c }) (sym (run_append start_of (bits s) (bits p)) ∙ ap (run start_of) (sym (bits_append s p)))
 
 fed_all : (ps : List (List ℕ)) (s : List ℕ) → AreBytes s → All Piece ps → fed_from sheet_cable (after s) ps ≡ after (s ++ joined ps)
 unfolding fed_from flat

@@ -1,7 +1,8 @@
 -- What tuples that come at once leave: the same as if they had come field by field.
 -- Assumes nothing.
-use Rattle.std.specs.Prelude.{ℕ, ◌+◌, ◌*◌, ◌<◌, ◌≤◌, List, ◌≡◌, length, drop, set}
+use Rattle.std.specs.Prelude.{ℕ, ◌*◌, ◌<◌, ◌≤◌, List, ◌≡◌, length, drop, set}
 use Rattle.laws.specs.Bits.{bits}
+use Rattle.rules.specs.Recordings.{bit_at}
 use Rattle.rules.specs.declared.Stage.{Stage}
 use Rattle.rules.specs.declared.Set.{Set}
 use Rattle.sheet_carried.specs.declared.Carried.{Carried}
@@ -12,7 +13,7 @@ use Rattle.sheet_read.specs.declared.Came.{Came}
 
 -- the place behind them, in bits
 abbrev pub end_of : Came → ℕ
-end_of r = 8 * r.byte + r.bit
+end_of r = bit_at r.at
 
 -- before the first cycle of a stream, and before the one behind them
 abbrev pub untupled : List ℕ → List Stage → Set → Carried
@@ -23,7 +24,7 @@ tupled_by r vs gs x = begun at_cycle r.whole (set (set vs at_cycle r.cycle) at_o
 
 -- from the place p of the bytes s on
 pub record AtOnce (vs s : List ℕ) (p : ℕ) (r : Came) : Type 0 where
-  pub bit : r.bit < 8
+  pub bit : r.at.bit < 8
   pub later : p ≤ end_of r
   pub ends : end_of r ≤ 8 * length s
   pub kept : (gs : List Stage) (x : Set) → Kept (untupled vs gs x) → Kept (tupled_by r vs gs x)

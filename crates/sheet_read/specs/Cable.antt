@@ -3,8 +3,8 @@
 use Rattle.std.specs.Prelude.{cond, List, ℕ}
 use Rattle.laws.specs.Bits.{bits}
 use Rattle.rules.specs.declared.Refusal.TheVariants.{IllFormed}
-use Rattle.rules.specs.declared.FeedAnswer.{FeedAnswer}
-use Rattle.rules.specs.declared.FeedAnswer.TheVariants.{Fed, Refused}
+use Rattle.std.specs.Prelude.{Result, Ok, Err}
+use Rattle.rules.specs.declared.Refusal.{Refusal}
 use Rattle.rules.specs.declared.ReadResult.{ReadResult}
 use Rattle.rules.specs.Sheet.{no_set}
 use Rattle.rules.specs.Pieces.{Cable, TakesPieces}
@@ -16,13 +16,13 @@ use Rattle.sheet_read.specs.declared.FeedResult.{FeedResult}
 -- "12 for a carried state that no pieces could have left, which stays unchanged"; any other takes the bits of the piece
 unfoldable pub feed_of : Carried → List ℕ → FeedResult
 feed_of c piece =
-    cond (could_be_left c) (record { answer = Fed; carried = run c (bits piece) }) (record { answer = Refused IllFormed; carried = c })
+    cond (could_be_left c) (record { answer = Ok tt; carried = run c (bits piece) }) (record { answer = Err IllFormed; carried = c })
 
 -- 12 with the empty set, or what has come, read as a sheet
 unfoldable pub closed_of : Carried → ReadResult
 closed_of c = cond (could_be_left c) (close_of c) (no_set IllFormed)
 
-abbrev pub feed_answer : Carried → List ℕ → FeedAnswer
+abbrev pub feed_answer : Carried → List ℕ → Result (Unit {0}) Refusal
 feed_answer c piece = (feed_of c piece).answer
 
 abbrev pub feed_leaves : Carried → List ℕ → Carried

@@ -7,22 +7,16 @@ ghost use Rattle.sheet_carried.specs.Kept.{Holds, Kept};
 
 use crate::{table, tuples};
 use bits::Gathered;
-use rules::{Set, Stage, Stream, TuplePlace};
+use rules::{Place, Set, Stage, Stream, TuplePlace};
 use sheet_carried::{Carried, Point};
 
 // ---- stages, tuples and streams
-
-fn wide(v: u32) -> usize
-    ensures { result ≡ v }
-{
-    v as usize
-}
 
 fn stage_in(task: u32, cost: u32) -> Stage
     ensures { result ≡ stage_in task cost }
 {
     Stage {
-        task: wide(task),
+        task: task as usize,
         cost,
     }
 }
@@ -33,18 +27,12 @@ fn no_stages() -> [Stage; 4]
     [Stage { task: 0, cost: 0 }; 4]
 }
 
-// "stages less one": how many there are.
-fn depth(less: u32) -> usize
-    ensures { result ≡ less + 1 }
-{
-    less as usize + 1
-}
-
 fn stream_in(values: [u32; 9], stages: [Stage; 4], n: usize, tuples: [TuplePlace; 4]) -> Stream
     ensures { result ≡ stream_in values stages n tuples }
 {
     Stream {
-        depth: depth(values[table::STAGES]),
+        // "stages less one"
+        depth: values[table::STAGES] as usize + 1,
         stages,
         deadline: values[table::DEADLINE],
         count: n,
@@ -69,16 +57,13 @@ pub(crate) fn cleared(x: Set) -> Set
     requires { (x.count ≤ 16) × Holds 16 no_stream x.count x.streams }
     ensures { result ≡ empty_set }
 {
-    let mut set = x;
-    let n = x.count;
-    let mut k: usize = 0;
-    while k < n {
-        set.streams[k] = no_stream();
-        k += 1;
+    let mut streams = x.streams;
+    streams[..x.count].fill(no_stream());
+    Set {
+        count: 0,
+        streams,
+        version: 1,
     }
-    set.count = 0;
-    set.version = 1;
-    set
 }
 
 // A stream is whole: of the values that were read the count stays.
@@ -103,6 +88,7 @@ pub(crate) fn start() -> Carried
 }
 
 // A refused reader keeps nothing but its refusal.
+#[tactic(auto, unfolding(sheet_carried::specs::Reader::refused_of))]
 fn refused(f: usize, x: Set) -> Carried
     requires { (x.count ≤ 16) × Holds 16 no_stream x.count x.streams }
     ensures { result ≡ refused_of f }
@@ -144,13 +130,11 @@ pub(crate) fn feed(s: Carried, piece: &[u8]) -> Carried
     let blank = no_stages();
     let none = tuples::no_tuples();
     let mut rule = table::rule(point, values);
-    let mut byte: usize = 0;
-    let mut bit: u32 = 0;
-    while (byte < piece.len()) & (0 < point.left) {
-        let g = bits::gather(piece, byte, bit, point.left);
-        let end = bit + g.got;
-        byte += (end / 8) as usize;
-        bit = end % 8;
+    let mut at = Place { byte: 0, bit: 0 };
+    // kept: a while, its place moves by as many bits as a field has
+    while (at.byte < piece.len()) & (0 < point.left) {
+        let g = bits::gather(piece, at, point.left);
+        at = bits::after(at, g.got);
         if g.got < point.left {
             point = joined(point, g);
         } else {
@@ -163,7 +147,7 @@ pub(crate) fn feed(s: Carried, piece: &[u8]) -> Carried
             }
             if f == table::OFFSET {
                 places[n] = tuples::tuple_of(values[table::CYCLE], v);
-                if n < wide(values[table::TUPLES]) {
+                if n < values[table::TUPLES] as usize {
                     values[table::CYCLE] = 0;
                     values[table::OFFSET] = v;
                     point = table::begun(table::CYCLE, n + 1);
@@ -172,7 +156,7 @@ pub(crate) fn feed(s: Carried, piece: &[u8]) -> Carried
                     let k = set.count;
                     set.streams[k] = stream_in(values, stages, n + 1, places);
                     set.count = k + 1;
-                    let next = table::opened(set.version, k + 1, wide(values[table::COUNT]));
+                    let next = table::opened(set.version, k + 1, values[table::COUNT] as usize);
                     point = table::begun(next, 0);
                     values = front(values);
                     stages = blank;
@@ -182,7 +166,7 @@ pub(crate) fn feed(s: Carried, piece: &[u8]) -> Carried
             } else if f == table::COST {
                 stages[n] = stage_in(values[table::TASK], v);
                 values[table::TASK] = 0;
-                if n < wide(values[table::STAGES]) {
+                if n < values[table::STAGES] as usize {
                     point = table::begun(table::TASK, n + 1);
                     rule = table::rule(point, values);
                 } else {
@@ -195,12 +179,11 @@ pub(crate) fn feed(s: Carried, piece: &[u8]) -> Carried
                 rule = table::rule(point, values);
             } else if f == table::TUPLES {
                 values[table::TUPLES] = v;
-                let t = tuples::before_last(values, piece, byte, bit);
+                let t = tuples::before_last(values, piece, at);
                 places = t.places;
                 values[table::CYCLE] = t.cycle;
                 values[table::OFFSET] = t.low;
-                byte = t.byte;
-                bit = t.bit;
+                at = t.at;
                 point = table::begun(table::CYCLE, t.whole);
                 rule = table::rule(point, values);
             } else if f < table::PADDING {

@@ -12,7 +12,7 @@ ghost use Rattle.rules.specs.Sheet.{read_of};
 ghost use Rattle.sheet_carried.specs.Reader.{start_of};
 ghost use Rattle.sheet_read.specs.Cable.{closed_of, feed_of};
 
-use rules::{FeedAnswer, ReadAnswer, ReadResult, Refusal, TuplePlace};
+use rules::{Place, ReadResult, Refusal, TuplePlace};
 use sheet_carried::Carried;
 
 // Tuples that came at once: how many, and the tuples; the cycle and the offset that are kept behind them; the place behind them.
@@ -22,8 +22,7 @@ pub(crate) struct Came {
     pub places: [TuplePlace; 4],
     pub cycle: u32,
     pub low: u32,
-    pub byte: usize,
-    pub bit: u32,
+    pub at: Place,
 }
 
 // What a string of bytes reads as: the set, or a refusal with the empty set.
@@ -38,7 +37,7 @@ pub fn read(bytes: &[u8]) -> ReadResult
 // What feeding a piece answers, and what is carried behind it.
 #[derive(Clone, Copy)]
 pub struct FeedResult {
-    pub answer: FeedAnswer,
+    pub answer: Result<(), Refusal>,
     pub carried: Carried,
 }
 
@@ -55,12 +54,12 @@ pub fn feed(c: Carried, piece: &[u8]) -> FeedResult
 {
     if sheet_carried::could_be_left(c) {
         FeedResult {
-            answer: FeedAnswer::Fed,
+            answer: Ok(()),
             carried: feeding::feed(c, piece),
         }
     } else {
         FeedResult {
-            answer: FeedAnswer::Refused(Refusal::IllFormed),
+            answer: Err(Refusal::IllFormed),
             carried: c,
         }
     }
@@ -73,9 +72,6 @@ pub fn close(c: Carried) -> ReadResult
     if sheet_carried::could_be_left(c) {
         closing::close(c)
     } else {
-        ReadResult {
-            answer: ReadAnswer::Refused(Refusal::IllFormed),
-            set: stream_valid::empty_set(),
-        }
+        closing::no_set(Refusal::IllFormed)
     }
 }

@@ -7,6 +7,7 @@ ghost use Rattle.sheet_carried.specs.Reader.{point_at, rule_of};
 use sheet_carried::{Point, SheetField};
 
 // The rows that something else than the next row can come behind, or that a value is looked up by.
+// kept: a row is a number, as the definitions' table and the carried state's layout (docs/STATE.md) count it
 pub(crate) const VERSION: usize = 0;
 
 pub(crate) const COUNT: usize = 1;
@@ -26,8 +27,12 @@ pub(crate) const CYCLE: usize = 7;
 pub(crate) const OFFSET: usize = 8;
 // seven padding bits, and a bit of a further byte
 pub(crate) const PADDING: usize = 9;
-// refused with 6, 7 and 10
+// refused with 6, and behind it with 7 and with 10
 pub(crate) const REFUSED: usize = 17;
+
+pub(crate) const OUT_OF_RULE: usize = 18;
+
+pub(crate) const LEFTOVER: usize = 19;
 
 // ---- rows
 
@@ -42,19 +47,20 @@ fn field(width: u32, least: u32, greatest: u32) -> SheetField
 }
 
 // The table, row by row. A padding bit is 0, a bit of a further byte has no value, and a refused sheet has no bits.
+#[tactic(auto, unfolding(sheet_carried::specs::Table::row_of))]
 fn row(f: usize) -> SheetField
     ensures { result ≡ row_of f }
 {
     if f < PADDING {
         return match f {
-            0 => field(4, 1, 2),
-            1 => field(5, 0, 16),
-            2 => field(18, 1, 200000),
-            3 => field(2, 0, 3),
-            4 => field(4, 0, 15),
-            5 => field(16, 1, 65535),
-            6 => field(2, 0, 3),
-            7 => field(20, 0, 1000000),
+            VERSION => field(4, 1, 2),
+            COUNT => field(5, 0, 16),
+            DEADLINE => field(18, 1, 200000),
+            STAGES => field(2, 0, 3),
+            TASK => field(4, 0, 15),
+            COST => field(16, 1, 65535),
+            TUPLES => field(2, 0, 3),
+            CYCLE => field(20, 0, 1000000),
             _ => field(17, 0, 100000),
         };
     }
@@ -69,6 +75,7 @@ fn row(f: usize) -> SheetField
 }
 
 // "the first is 0 and they never fall": how large an offset behind `n` tuples may be.
+#[tactic(auto, unfolding(sheet_carried::specs::Table::greatest_of, sheet_carried::specs::Table::row_of))]
 fn greatest_offset(n: usize) -> u32
     ensures { result ≡ greatest_of 8 n }
 {
@@ -76,6 +83,7 @@ fn greatest_offset(n: usize) -> u32
 }
 
 // The row of the field that comes, with an offset's own bounds: it is looked up once for a field.
+#[tactic(auto, unfolding(sheet_carried::specs::Reader::rule_of, sheet_carried::specs::Table::least_of, sheet_carried::specs::Table::greatest_of))]
 pub(crate) fn rule(p: Point, values: [u32; 9]) -> SheetField
     ensures { result ≡ rule_of p values }
 {
@@ -95,6 +103,7 @@ pub(crate) fn in_rule(r: SheetField, v: u32) -> bool
 }
 
 // Whether `v` may be the value of the field `f`, behind `n` tuples, the last of them at `low`.
+#[tactic(auto, unfolding(sheet_carried::specs::Table::in_rule_of, sheet_carried::specs::Table::least_of, sheet_carried::specs::Table::greatest_of))]
 pub(crate) fn fits(f: usize, n: usize, low: u32, v: u32) -> bool
     ensures { result ≡ in_rule_of f n low v }
 {
@@ -105,31 +114,30 @@ pub(crate) fn fits(f: usize, n: usize, low: u32, v: u32) -> bool
 }
 
 // The row of the refusal that any other value gets.
+#[tactic(auto, unfolding(sheet_carried::specs::Table::refusal_of))]
 pub(crate) fn refusal(f: usize) -> usize
     ensures { result ≡ refusal_of f }
 {
-    if f == VERSION {
-        return REFUSED;
-    }
-    if f < PADDING {
-        REFUSED + 1
-    } else {
-        REFUSED + 2
+    match f {
+        VERSION => REFUSED,
+        COUNT..PADDING => OUT_OF_RULE,
+        _ => LEFTOVER,
     }
 }
 
 // ---- what comes next
 
 // A version's order: what comes behind a field, where no further stage or tuple of its stream does. In version 2 it is the table's own.
+#[tactic(auto, unfolding(sheet_carried::specs::Table::behind_of))]
 pub(crate) fn behind(version: u32, f: usize) -> usize
     requires { f < 9 }
     ensures { result ≡ behind_of version f }
 {
     if version == 1 {
         return match f {
-            1 => TASK,
-            2 => TUPLES,
-            5 => DEADLINE,
+            COUNT => TASK,
+            DEADLINE => TUPLES,
+            COST => DEADLINE,
             _ => f + 1,
         };
     }
@@ -137,6 +145,7 @@ pub(crate) fn behind(version: u32, f: usize) -> usize
 }
 
 // What comes behind `k` whole streams of `n`.
+#[tactic(auto, unfolding(sheet_carried::specs::Table::opened_of))]
 pub(crate) fn opened(version: u32, k: usize, n: usize) -> usize
     ensures { result ≡ opened_of version k n }
 {
@@ -148,6 +157,7 @@ pub(crate) fn opened(version: u32, k: usize, n: usize) -> usize
 }
 
 // What comes behind a field with the value `v`.
+#[tactic(auto, unfolding(sheet_carried::specs::Table::following_of))]
 pub(crate) fn following(version: u32, f: usize, v: u32) -> usize
     requires { f < 9 }
     ensures { result ≡ following_of version f v }

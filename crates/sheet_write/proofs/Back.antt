@@ -9,7 +9,8 @@ use lib.ListN.{length, length-replicate}
 use lib.Seq.{append_snoc}
 use lib.Dec.{eqb, leb}
 use borrow.Author.Tests.{eqb-true, le-leb, lt-ltb, ne_eqb}
-use Rattle.laws.specs.Lists.{All, all, flat, within}
+use Rattle.std.specs.List.{list_all}
+use Rattle.laws.specs.Lists.{All, flat, within}
 use Rattle.laws.specs.Bits.{to_bits, zeros}
 use Rattle.laws.proofs.Fields.{AreBits, IsBit, all_append, all_take, field_first, field_fits, field_rest, to_bits_bits}
 use Rattle.laws.proofs.Packing.{pack_bits, pad_few, pad_of}
@@ -21,7 +22,7 @@ use Rattle.rules.specs.declared.Stream.{Stream}
 use Rattle.rules.specs.declared.Set.{Set}
 use Rattle.rules.specs.declared.Refusal.TheVariants.{BadVersion, OutOfRule}
 use Rattle.rules.specs.declared.ReadResult.{ReadResult}
-use Rattle.rules.specs.declared.ReadAnswer.TheVariants.{Read}
+use Rattle.std.specs.Prelude.{Ok}
 use Rattle.rules.specs.Streams.{FourPlaces, Placed, offset, offset_at, stages_of, streams_of, tuples_of, valid}
 use Rattle.rules.specs.Sheet.{field, head_bits, in_rule, is_zero, no_set, place_bits, read_bits, read_deadline, read_end, read_head, read_of, read_stages, read_stream, read_streams, read_tuples, set_of, sheet_bits, sheet_of, stage_bits, stream_bits, stream_of, tuple_bits, tuple_of}
 use Rattle.rules.specs.Valid.{Between, ValidCycle, ValidSet, ValidStage, ValidStream}
@@ -180,12 +181,11 @@ streams_read version (s ∷ ss) ps rest v f one =
 
 -- ---- the whole sheet
 
-zeros_all : (k : ℕ) → all is_zero (zeros k) ≡ true
-unfolding all
+zeros_all : (k : ℕ) → list_all is_zero (zeros k) ≡ true
 zeros_all zero = refl
 zeros_all (suc k) = zeros_all k
 
-end_reads : (version : ℕ) (ss : List Stream) (k : ℕ) → k < 8 → read_end version ss (zeros k) ≡ record { answer = Read; set = set_of version ss }
+end_reads : (version : ℕ) (ss : List Stream) (k : ℕ) → k < 8 → read_end version ss (zeros k) ≡ record { answer = Ok tt; set = set_of version ss }
 unfolding read_end
 end_reads version ss k h = simp (lt-ltb (length (zeros k)) 8 (omega (arith, length-replicate {A = ℕ} k 0)), zeros_all k)
 
@@ -212,9 +212,9 @@ fields_read x rest v p =
     ∙ ap (λ (k : ℕ). read_streams n k [] (flat (stream_bits n) ss ++ rest)) (sym (set_holds x v p).used)
     ∙ streams_read n ss [] rest v.streams (all_take FourPlaces x.count x.streams p.four) (set_staged x v)
 
-pub bits_read : (x : Set) (k : ℕ) → ValidSet x → Placed x → k < 8 → read_bits (sheet_bits x ++ zeros k) ≡ record { answer = Read; set = x }
+pub bits_read : (x : Set) (k : ℕ) → ValidSet x → Placed x → k < 8 → read_bits (sheet_bits x ++ zeros k) ≡ record { answer = Ok tt; set = x }
 bits_read x k v p h =
-    fields_read x (zeros k) v p ∙ end_reads x.version (streams_of x) k h ∙ ap (λ (y : Set). record { answer = Read; set = y }) (whole_set x (set_holds x v p))
+    fields_read x (zeros k) v p ∙ end_reads x.version (streams_of x) k h ∙ ap (λ (y : Set). record { answer = Ok tt; set = y }) (whole_set x (set_holds x v p))
 
 -- the fields are bits
 flat_bits : {A : Type 0} (f : A → List ℕ) → ((a : A) → AreBits (f a)) → (l : List A) → AreBits (flat f l)
@@ -248,7 +248,7 @@ sheet_bits_lem x =
     (all_append IsBit (to_bits 5 x.count) _ (to_bits_bits 5 x.count) (flat_bits (stream_bits x.version) (stream_bits_lem x.version) (streams_of x)))
 
 -- "reading what was written gives the same set"
-pub read_back : (x : Set) → valid x ≡ true → Placed x → read_of (sheet_of x) ≡ record { answer = Read; set = x }
+pub read_back : (x : Set) → valid x ≡ true → Placed x → read_of (sheet_of x) ≡ record { answer = Ok tt; set = x }
 unfolding read_of sheet_of
 read_back x v p =
     ap read_bits (pack_bits (sheet_bits x) (sheet_bits_lem x)) ∙ bits_read x (pad_of (length (sheet_bits x))) (valid_set x v) p (pad_few (length (sheet_bits x)))

@@ -10,7 +10,8 @@ use lib.ListN.{length, take, drop, length-append, length-drop, take-append-drop}
 use lib.Seq.{drop-append-le, length-take-le, take_all, take-append-le}
 use lib.Dec.{eqb, leb}
 use borrow.Author.Tests.{le-leb, le-ltb, leb-false, leb-true}
-use Rattle.laws.specs.Lists.{all, within}
+use Rattle.std.specs.List.{list_all}
+use Rattle.laws.specs.Lists.{within}
 use Rattle.laws.specs.Bits.{bits, value}
 use Rattle.laws.proofs.Sums.{by_test}
 use Rattle.laws.proofs.Fields.{AreBits, IsBit, all_drop, bits_append, bits_bits, bits_length, taken_lt}
@@ -19,7 +20,7 @@ use Rattle.rules.specs.declared.Stage.{Stage}
 use Rattle.rules.specs.declared.Stream.{Stream}
 use Rattle.rules.specs.declared.Refusal.TheVariants.{BitsMissing, Leftover}
 use Rattle.rules.specs.declared.ReadResult.{ReadResult}
-use Rattle.rules.specs.declared.ReadAnswer.TheVariants.{Read}
+use Rattle.std.specs.Prelude.{Ok}
 use Rattle.rules.specs.Sheet.{field, is_zero, no_set, read_bits, read_deadline, read_end, read_head, read_of, read_stages, read_stream, read_streams, read_tuples, set_of, stream_of, tuple_of}
 use Rattle.sheet_write.specs.Long.{LongSheet, longest_sheet}
 use Rattle.sheet_write.proofs.Back.{cost_next, count_next, cycle_next, deadline_next, head_next, offset_next, read_head_by, task_next, tuples_next, version_next}
@@ -33,7 +34,7 @@ cond_same false r s other h = refl
 end_over : (version : ℕ) (ss : List Stream) (bs : List ℕ) → 8 ≤ length bs → read_end version ss bs ≡ no_set Leftover
 unfolding read_end
 end_over version ss bs l =
-    ap (λ (t : Bool). cond (t && all is_zero bs) (record { answer = Read; set = set_of version ss }) (no_set Leftover)) (le-ltb (length bs) 8 l)
+    ap (λ (t : Bool). cond (t && list_all is_zero bs) (record { answer = Ok tt; set = set_of version ss }) (no_set Leftover)) (le-ltb (length bs) 8 l)
 
 -- q is what stands behind
 module _ (q : List ℕ) where

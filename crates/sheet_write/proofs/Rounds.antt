@@ -9,7 +9,8 @@ use native.Mathlib.Nat.{mul-le-mul_left}
 use lib.ListN.{length, take, drop, length-append, length-take}
 use lib.Dec.{eqb, leb, ltb}
 use borrow.Author.Tests.{eqb-true, leb-false, leb-true, lt-leb, le-leb, ltb-true}
-use Rattle.laws.specs.Lists.{All, all, any, flat, within}
+use Rattle.std.specs.List.{list_all, list_any}
+use Rattle.laws.specs.Lists.{All, flat, within}
 use Rattle.laws.specs.Bits.{bits, bytes_for, to_bits, value, zeros}
 use Rattle.laws.proofs.Sums.{all_each, all_map, all_zip, and_parts, by_test}
 use Rattle.laws.proofs.Fields.{AreBits, AreBytes, IsBit, all_drop, all_replicate, bits_bits, taken_split, to_bits_length}
@@ -22,9 +23,8 @@ use Rattle.rules.specs.declared.Stream.{Stream}
 use Rattle.rules.specs.declared.Set.{Set}
 use Rattle.rules.specs.declared.Refusal.TheVariants.{BitsMissing, BadVersion, OutOfRule, Leftover, ShortBuffer}
 use Rattle.rules.specs.declared.ReadResult.{ReadResult}
-use Rattle.rules.specs.declared.ReadAnswer.{ReadAnswer}
-use Rattle.rules.specs.declared.ReadAnswer.TheVariants.{Read, Refused}
-use Rattle.rules.specs.declared.WriteAnswer.TheVariants.{Wrote, Refused as NotWritten}
+use Rattle.std.specs.Prelude.{Result, Ok, Err}
+use Rattle.rules.specs.declared.Refusal.{Refusal}
 use Rattle.rules.specs.Streams.{FourPlaces, Placed, empty_set, no_stream, stages_of, streams_of, tuples_of, valid}
 use Rattle.rules.specs.Sheet.{head_bits, is_zero, no_set, place_bits, read_bits, read_end, read_of, set_of, sheet_bits, sheet_of, stage_bits, stream_bits, tuple_bits, write_of}
 use Rattle.rules.specs.Numbers.{number, read_says, refused, write_says, wrote}
@@ -52,37 +52,34 @@ never e = absurd (omega arith)
 
 -- what holds of every answer to a string of bits
 record Why (bs : List ℕ) (no : ℕ) : Type 0 where
-  pub one : any (eqb no) (5 ∷ 6 ∷ 7 ∷ 10 ∷ []) ≡ true
+  pub one : list_any (eqb no) (5 ∷ 6 ∷ 7 ∷ 10 ∷ []) ≡ true
   pub six : no ≡ 6 → (4 ≤ length bs) × ((value (take 4 bs) ≡ 1 → ⊥) × (value (take 4 bs) ≡ 2 → ⊥))
   pub ten : no ≡ 10 → Begins bs
 
-abbrev Answered : List ℕ → ReadAnswer → Set → Type 0
-Answered bs Read x = Accepted bs x
-Answered bs (Refused why) x = (x ≡ empty_set) × Why bs (number why)
+abbrev Answered : List ℕ → Result (Unit {0}) Refusal → Set → Type 0
+Answered bs (Ok tt) x = Accepted bs x
+Answered bs (Err why) x = (x ≡ empty_set) × Why bs (number why)
 
 abbrev Tells : List ℕ → ReadResult → Type 0
 Tells bs r = Answered bs r.answer r.set
 
 missing : (bs : List ℕ) → Tells bs (no_set BitsMissing)
-unfolding any
 missing bs = (refl, record { one = refl; six = λ e. absurd (omega arith); ten = λ e. absurd (omega arith) })
 
 wrong : (bs : List ℕ) → Tells bs (no_set OutOfRule)
-unfolding any
 wrong bs = (refl, record { one = refl; six = λ e. absurd (omega arith); ten = λ e. absurd (omega arith) })
 
-zeros_of : (bs : List ℕ) → all is_zero bs ≡ true → bs ≡ zeros (length bs)
-unfolding all
+zeros_of : (bs : List ℕ) → list_all is_zero bs ≡ true → bs ≡ zeros (length bs)
 zeros_of [] e = refl
 zeros_of (b ∷ bs) e =
-    let u = and_parts (is_zero b) (all is_zero bs) e in
+    let u = and_parts (is_zero b) (list_all is_zero bs) e in
     ap (λ (x : ℕ). x ∷ bs) (eqb-true b 0 u.0) ∙ ap (λ (l : List ℕ). 0 ∷ l) (zeros_of bs u.1)
 
 end_tells : (bs : List ℕ) (x : Set) (rest : List ℕ) → valid x ≡ true → Placed x → bs ≡ sheet_bits x ++ rest → Tells bs (read_end x.version (streams_of x) rest)
-unfolding read_end any
+unfolding read_end
 end_tells bs x rest v p e =
-    cond_elim (Tells bs) (ltb (length rest) 8 && all is_zero rest) (record { answer = Read; set = set_of x.version (streams_of x) }) (no_set Leftover)
-    (λ t. let u = and_parts (ltb (length rest) 8) (all is_zero rest) t in
+    cond_elim (Tells bs) (ltb (length rest) 8 && list_all is_zero rest) (record { answer = Ok tt; set = set_of x.version (streams_of x) }) (no_set Leftover)
+    (λ t. let u = and_parts (ltb (length rest) 8) (list_all is_zero rest) t in
     subst (Accepted bs) (sym (whole_set x (set_holds x (valid_set x v) p)))
     (record { ok = v; placed = p; pads = length rest; few = ltb-true (length rest) 8 u.0; same = e ∙ ap (λ (l : List ℕ). sheet_bits x ++ l) (zeros_of rest u.1) }))
     (λ t. (refl, record { one = refl; six = λ q. absurd (omega arith); ten = λ q. record { set = x; ok = v; placed = p; rest = rest; same = e; bad = t } }))
@@ -103,7 +100,7 @@ unfolding sheet_bits
 fields_are x rest = simp append_assoc
 
 reading_tells : (bs : List ℕ) → AreBits bs → Tells bs (read_bits bs)
-unfolding read_bits any
+unfolding read_bits
 reading_tells bs b =
     let v : ℕ = value (take 4 bs) in
     field_ends (Tells bs) (missing bs) (wrong bs) 4 bs version_next
@@ -121,12 +118,12 @@ reading_tells bs b =
 -- ---- a set and its sheet determine each other
 
 -- "what is accepted is valid"
-pub accepted : (s : List ℕ) (x : Set) → read_of s ≡ record { answer = Read; set = x } → Accepted (bits s) x
+pub accepted : (s : List ℕ) (x : Set) → read_of s ≡ record { answer = Ok tt; set = x } → Accepted (bits s) x
 unfolding read_of
 accepted s x e = subst (Tells (bits s)) e (reading_tells (bits s) (bits_bits s))
 
 -- "writing what was read gives the same bytes for every accepted string"
-pub write_back : (s : List ℕ) (x : Set) → AreBytes s → read_of s ≡ record { answer = Read; set = x } → sheet_of x ≡ s
+pub write_back : (s : List ℕ) (x : Set) → AreBytes s → read_of s ≡ record { answer = Ok tt; set = x } → sheet_of x ≡ s
 unfolding sheet_of
 write_back s x h e =
     let a : Accepted (bits s) x = accepted s x e in
@@ -138,10 +135,10 @@ pub record SheetOf (s : List ℕ) (x : Set) : Type 0 where
   pub sheet : sheet_of x ≡ s
 
 -- a string of bytes reads as a set exactly when it is the sheet of that set and the set is valid
-pub read_exactly : (s : List ℕ) (x : Set) → AreBytes s → read_of s ≡ record { answer = Read; set = x } → SheetOf s x
+pub read_exactly : (s : List ℕ) (x : Set) → AreBytes s → read_of s ≡ record { answer = Ok tt; set = x } → SheetOf s x
 read_exactly s x h e = record { ok = (accepted s x e).ok; placed = (accepted s x e).placed; sheet = write_back s x h e }
 
-pub sheet_exactly : (s : List ℕ) (x : Set) → SheetOf s x → read_of s ≡ record { answer = Read; set = x }
+pub sheet_exactly : (s : List ℕ) (x : Set) → SheetOf s x → read_of s ≡ record { answer = Ok tt; set = x }
 sheet_exactly s x k = ap read_of (sym k.sheet) ∙ read_back x k.ok k.placed
 
 pub sheet_tells : SheetTells
@@ -287,9 +284,9 @@ unfolding read_of
 tells s = reading_tells (bits s) (bits_bits s)
 
 -- what a refusal's number stands for
-refused_why : (bs : List ℕ) (a : ReadAnswer) (x : Set) (no : ℕ) → Answered bs a x → read_says a ≡ refused no → (x ≡ empty_set) × Why bs no
-refused_why bs Read x n t e = never (cc)
-refused_why bs (Refused why) x n t e = (t.0, subst (Why bs) (let q : number why ≡ n = cc in q) t.1)
+refused_why : (bs : List ℕ) (a : Result (Unit {0}) Refusal) (x : Set) (no : ℕ) → Answered bs a x → read_says a ≡ refused no → (x ≡ empty_set) × Why bs no
+refused_why bs (Ok tt) x n t e = never (cc)
+refused_why bs (Err why) x n t e = (t.0, subst (Why bs) (let q : number why ≡ n = cc in q) t.1)
 
 heard : (s : List ℕ) (no : ℕ) → reading_says s ≡ refused no → ((read_of s).set ≡ empty_set) × Why (bits s) no
 heard s n e = refused_why (bits s) (read_of s).answer (read_of s).set n (tells s) e
@@ -316,22 +313,22 @@ ten_exactly s = (λ e. (heard s 10 e).1.ten refl, λ b. ap (λ (r : ReadResult).
 
 -- writing: 7 for an invalid set, 11 for a valid one whose sheet is longer than the buffer, else the sheet is written
 module _ (x : Set) (room : ℕ) where
-  seven_given : valid x ≡ false → write_of x room ≡ NotWritten OutOfRule
+  seven_given : valid x ≡ false → write_of x room ≡ Err OutOfRule
   unfolding write_of
   seven_given e = simp e
 
-  eleven_given : valid x ≡ true → room < length (sheet_of x) → write_of x room ≡ NotWritten ShortBuffer
+  eleven_given : valid x ≡ true → room < length (sheet_of x) → write_of x room ≡ Err ShortBuffer
   unfolding write_of
   eleven_given e h = simp (e, lt-leb (length (sheet_of x)) room h)
 
-  wrote_given : valid x ≡ true → length (sheet_of x) ≤ room → write_of x room ≡ Wrote (length (sheet_of x))
+  wrote_given : valid x ≡ true → length (sheet_of x) ≤ room → write_of x room ≡ Ok (length (sheet_of x))
   unfolding write_of
   wrote_given e h = simp (e, le-leb (length (sheet_of x)) room h)
 
   -- what holds of each of the three holds
-  by_writing : {A : Type 0} → (valid x ≡ false → write_of x room ≡ NotWritten OutOfRule → A)
-      → (valid x ≡ true → room < length (sheet_of x) → write_of x room ≡ NotWritten ShortBuffer → A)
-      → (valid x ≡ true → length (sheet_of x) ≤ room → write_of x room ≡ Wrote (length (sheet_of x)) → A) → A
+  by_writing : {A : Type 0} → (valid x ≡ false → write_of x room ≡ Err OutOfRule → A)
+      → (valid x ≡ true → room < length (sheet_of x) → write_of x room ≡ Err ShortBuffer → A)
+      → (valid x ≡ true → length (sheet_of x) ≤ room → write_of x room ≡ Ok (length (sheet_of x)) → A) → A
   by_writing f g h =
       by_test (valid x)
       (λ v. by_test (leb (length (sheet_of x)) room) (λ e. let k : length (sheet_of x) ≤ room = leb-true (length (sheet_of x)) room e in h v k (wrote_given v k))
@@ -364,9 +361,9 @@ wrote_exactly x room = (
 empty_placed : Placed empty_set
 empty_placed = record { sixteen = refl; four = all_replicate FourPlaces 16 no_stream (record { stages = refl; tuples = refl }) }
 
-answered_placed : (bs : List ℕ) (a : ReadAnswer) (x : Set) → Answered bs a x → Placed x
-answered_placed bs Read x t = t.placed
-answered_placed bs (Refused why) x t = subst Placed (sym t.0) empty_placed
+answered_placed : (bs : List ℕ) (a : Result (Unit {0}) Refusal) (x : Set) → Answered bs a x → Placed x
+answered_placed bs (Ok tt) x t = t.placed
+answered_placed bs (Err why) x t = subst Placed (sym t.0) empty_placed
 
 pub read_placed : ReadPlaced
 unfolding ReadPlaced

@@ -2,22 +2,21 @@
 -- Assumes nothing.
 use Prim.Native.Nat.{ℕ, zero, suc, ◌+◌, ◌-◌, ◌*◌, ◌/◌, ◌≤◌, ◌<◌}
 use mathlib.Core.List.{List, [], ◌∷◌, ◌++◌, append_assoc, append-nil}
-use mathlib.Core.Path.{◌≡◌, refl, sym, ap, ap₂, ◌∙◌, subst}
+use mathlib.Core.Path.{◌≡◌, refl, sym, ap, ap₂, ◌∙◌}
 use mathlib.Core.Bool.{Bool, true, false}
 use native.Mathlib.Omega.{arith}
 use native.Mathlib.Numerals.{add-one}
 use lib.ListN.{length, get_or, take, drop, replicate, length-append, length-replicate, length-take, replicate-append-replicate}
-use lib.Seq.{drop-append-le, paste, take-suc, get_or-take, length-take-le, take-length}
+use lib.Seq.{drop-append-le, paste, take-suc, length-take-le, take-length}
 use lib.Dec.{eqb}
 use borrow.Author.Tests.{eq-eqb, le-leb, lt-leb, ne_eqb}
 use Rattle.laws.specs.Lists.{flat}
 use Rattle.laws.specs.Bits.{bits, bytes_for, to_bits, zeros}
-use Rattle.laws.proofs.Sums.{all_at, all_map, all_take_at}
+use Rattle.laws.proofs.Sums.{all_at, all_map}
 use Rattle.laws.proofs.Fields.{AreBytes, bits_append, to_bits_length, to_bits_zero}
 use Rattle.laws.proofs.Packing.{drop_bits, front, front_bytes, pack_length, pad_of, paste_front, paste_more}
 use Rattle.bits.specs.Places.{behind, put_bits, put_by, put_of}
-use Rattle.bits.specs.declared.Placing.{Placing}
-use Rattle.bits.specs.declared.Placing.TheVariants.{Done}
+use Rattle.bits.specs.declared.NotPut.{NotPut}
 use Rattle.rules.specs.declared.Tuple.{Tuple}
 use Rattle.rules.specs.declared.Tuple.TheVariants.{Once, Every}
 use Rattle.rules.specs.declared.TuplePlace.{TuplePlace}
@@ -25,8 +24,8 @@ use Rattle.rules.specs.declared.Stage.{Stage}
 use Rattle.rules.specs.declared.Stream.{Stream}
 use Rattle.rules.specs.declared.Set.{Set}
 use Rattle.rules.specs.declared.Refusal.TheVariants.{OutOfRule, ShortBuffer}
-use Rattle.rules.specs.declared.WriteAnswer.{WriteAnswer}
-use Rattle.rules.specs.declared.WriteAnswer.TheVariants.{Wrote, Refused as NotWritten}
+use Rattle.std.specs.Prelude.{Result, Ok, Err}
+use Rattle.rules.specs.declared.Refusal.{Refusal}
 use Rattle.rules.specs.Streams.{no_stream, offset, stages_of, streams_of, tuples_of, valid}
 use Rattle.rules.specs.Sheet.{buffer_by, buffer_of, head_bits, place_bits, sheet_bits, sheet_of, stage_bits, stream_bits, tuple_bits, write_of}
 use Rattle.rules.specs.Valid.{ValidSet, ValidStage, ValidStream}
@@ -41,7 +40,7 @@ pub put_is : (s : List ℕ) (at w v p : ℕ) → p ≡ at → w ≤ 64 → at + 
 unfolding put_bits put_of
 put_is s at w v p e h k =
     ap (λ (q : ℕ). put_bits s q w v) e
-    ∙ ap (λ (r : Placing). put_by r (bits s) at w v) (let d : put_of (length s) at w ≡ Done = simp (le-leb w 64 h, le-leb w (behind (length s) at) (omega arith)) in d)
+    ∙ ap (λ (r : Result (Unit {0}) NotPut). put_by r (bits s) at w v) (let d : put_of (length s) at w ≡ Ok tt = simp (le-leb w 64 h, le-leb w (behind (length s) at) (omega arith)) in d)
 
 -- a field behind the fields f
 paste_next : (d f g : List ℕ) (at n w q : ℕ) → at ≤ length d → length f ≡ n → length g ≡ w → q ≡ at + n → paste (paste d at f n) q g w ≡ paste d at (f ++ g) (n + w)
@@ -82,25 +81,21 @@ module _ {A : Type 0} (f : A → List ℕ) (first second : A → ℕ) (i j n : �
       (append_assoc g a b ∙ ap (λ (m : List ℕ). g ++ m) (sym (is p)) ∙ sym (flat_more f l k z h))
       (let q : n * k + i + j ≡ n * (k + 1) = omega (arith, sum) in q)
 
-  -- all of them
-  pub pairs_all : (d : List ℕ) (l : List A) (k at : ℕ) → k ≤ length l → paste d at (flat f (take k l)) (n * k) ≡ paste d at (flat f (take k l)) (length (flat f (take k l)))
-  pairs_all d l k at h = paste_size d (flat f (take k l)) at (n * k) (some_pairs l k h)
-
 -- a stage, and the stages of a stream
 pub stage_more : (d : List ℕ) (gs : List Stage) (k at : ℕ) (z : Stage) → k < length gs → at ≤ length d
     → paste (paste (paste d at (flat stage_bits (take k gs)) (20 * k)) (at + 20 * k) (to_bits 4 (get_or gs k z).task) 4) (at + 20 * k + 4) (to_bits 16 (get_or gs k z).cost) 16
     ≡ paste d at (flat stage_bits (take (k + 1) gs)) (20 * (k + 1))
 stage_more d gs k at z h hd = pair_more stage_bits (λ g. g.task) (λ g. g.cost) 4 16 20 refl (λ g. refl) stages_length d gs k at z h hd
 
-pub stages_all : (d : List ℕ) (s : Stream) (at : ℕ) → s.depth ≤ 4 → length s.stages ≡ 4
-    → paste d at (flat stage_bits (stages_of s)) (20 * s.depth) ≡ paste d at (flat stage_bits (stages_of s)) (length (flat stage_bits (stages_of s)))
-stages_all d s at h e = pairs_all stage_bits (λ g. g.task) (λ g. g.cost) 4 16 20 refl (λ g. refl) stages_length d s.stages s.depth at (omega arith)
+pub stages_all : (d : List ℕ) (gs : List Stage) (k at : ℕ) → k ≡ length gs → paste d at (flat stage_bits (take k gs)) (20 * k) ≡ paste d at (flat stage_bits gs) (length (flat stage_bits gs))
+stages_all d gs k at e =
+    ap₂ (λ (l : List Stage) (n : ℕ). paste d at (flat stage_bits l) n) (ap (λ (n : ℕ). take n gs) e ∙ take-length gs) (ap (λ (n : ℕ). 20 * n) e ∙ sym (stages_length gs))
 
 pub stages_room : (s : Stream) → s.depth ≤ 4 → length s.stages ≡ 4 → length (flat stage_bits (stages_of s)) ≡ 20 * s.depth
 stages_room s h e = some_pairs stage_bits (λ g. g.task) (λ g. g.cost) 4 16 20 refl (λ g. refl) stages_length s.stages s.depth (omega arith)
 
-pub task_fits : (s : Stream) → Written s → length s.stages ≡ 4 → (k : ℕ) (z : Stage) → k < s.depth → (get_or s.stages k z).task ≤ 15
-task_fits s w e k z h = all_take_at TaskFits s.stages s.depth k z h (omega (arith, w.shallow)) w.tasks
+pub task_fits : (s : Stream) → Written s → (k : ℕ) (z : Stage) → k < length (stages_of s) → (get_or (stages_of s) k z).task ≤ 15
+task_fits s w k z h = all_at TaskFits (stages_of s) k z h w.tasks
 
 -- a tuple, and the tuples of a stream
 place_bits_lem : (p : TuplePlace) → place_bits p ≡ to_bits 20 (cycle_of p.tuple) ++ to_bits 17 (offset p.tuple)
@@ -115,9 +110,9 @@ pub tuple_more : (d : List ℕ) (ts : List TuplePlace) (k at : ℕ) (z : TuplePl
     ≡ paste d at (flat place_bits (take (k + 1) ts)) (37 * (k + 1))
 tuple_more d ts k at z h hd = pair_more place_bits (λ p. cycle_of p.tuple) (λ p. offset p.tuple) 20 17 37 refl place_bits_lem tuples_length d ts k at z h hd
 
-pub tuples_all : (d : List ℕ) (s : Stream) (at : ℕ) → s.count ≤ 4 → length s.tuples ≡ 4
-    → paste d at (flat place_bits (tuples_of s)) (37 * s.count) ≡ paste d at (flat place_bits (tuples_of s)) (length (flat place_bits (tuples_of s)))
-tuples_all d s at h e = pairs_all place_bits (λ p. cycle_of p.tuple) (λ p. offset p.tuple) 20 17 37 refl place_bits_lem tuples_length d s.tuples s.count at (omega arith)
+pub tuples_all : (d : List ℕ) (ts : List TuplePlace) (k at : ℕ) → k ≡ length ts → paste d at (flat place_bits (take k ts)) (37 * k) ≡ paste d at (flat place_bits ts) (length (flat place_bits ts))
+tuples_all d ts k at e =
+    ap₂ (λ (l : List TuplePlace) (n : ℕ). paste d at (flat place_bits l) n) (ap (λ (n : ℕ). take n ts) e ∙ take-length ts) (ap (λ (n : ℕ). 37 * n) e ∙ sym (tuples_length ts))
 
 pub tuples_room : (s : Stream) → s.count ≤ 4 → length s.tuples ≡ 4 → length (flat place_bits (tuples_of s)) ≡ 37 * s.count
 tuples_room s h e = some_pairs place_bits (λ p. cycle_of p.tuple) (λ p. offset p.tuple) 20 17 37 refl place_bits_lem tuples_length s.tuples s.count (omega arith)
@@ -202,34 +197,31 @@ abbrev pub up_to : Set → ℕ → List ℕ
 up_to x k = flat (stream_bits x.version) (take k (streams_of x))
 
 module _ (x : Set) (w : WrittenSet x) where
-  count_is : length (streams_of x) ≡ x.count
+  pub count_is : length (streams_of x) ≡ x.count
   count_is = length-take-le x.count x.streams (omega (arith, w.few, w.sixteen))
 
   module _ (k : ℕ) (z : Stream) (h : k < x.count) where
-    same_stream : get_or (streams_of x) k z ≡ get_or x.streams k z
-    same_stream = get_or-take x.count x.streams k z h
+    pub stream_written : Written (get_or (streams_of x) k z)
+    stream_written = all_at Written (streams_of x) k z (omega (arith, count_is)) w.streams
 
-    pub stream_written : Written (get_or x.streams k z)
-    stream_written = subst Written same_stream (all_at Written (streams_of x) k z (omega (arith, count_is)) w.streams)
+    up_to_more : up_to x (k + 1) ≡ up_to x k ++ stream_bits x.version (get_or (streams_of x) k z)
+    up_to_more = flat_more (stream_bits x.version) (streams_of x) k z (omega (arith, count_is))
 
-    up_to_more : up_to x (k + 1) ≡ up_to x k ++ stream_bits x.version (get_or x.streams k z)
-    up_to_more = flat_more (stream_bits x.version) (streams_of x) k z (omega (arith, count_is)) ∙ ap (λ (s : Stream). up_to x k ++ stream_bits x.version s) same_stream
-
-    pub up_to_length : length (up_to x (k + 1)) ≡ length (up_to x k) + length (stream_bits x.version (get_or x.streams k z))
-    up_to_length = ap length up_to_more ∙ length-append (up_to x k) (stream_bits x.version (get_or x.streams k z))
+    pub up_to_length : length (up_to x (k + 1)) ≡ length (up_to x k) + length (stream_bits x.version (get_or (streams_of x) k z))
+    up_to_length = ap length up_to_more ∙ length-append (up_to x k) (stream_bits x.version (get_or (streams_of x) k z))
 
     stream_next : (d : List ℕ) → 9 ≤ length d
-        → paste (paste d 9 (up_to x k) (length (up_to x k))) (9 + length (up_to x k)) (stream_bits x.version (get_or x.streams k z)) (length (stream_bits x.version (get_or x.streams k z)))
+        → paste (paste d 9 (up_to x k) (length (up_to x k))) (9 + length (up_to x k)) (stream_bits x.version (get_or (streams_of x) k z)) (length (stream_bits x.version (get_or (streams_of x) k z)))
         ≡ paste d 9 (up_to x (k + 1)) (length (up_to x (k + 1)))
     stream_next d hd =
-        let s : Stream = get_or x.streams k z in
+        let s : Stream = get_or (streams_of x) k z in
         paste_next d (up_to x k) (stream_bits x.version s) 9 (length (up_to x k)) (length (stream_bits x.version s)) (9 + length (up_to x k)) hd refl refl refl
         ∙ ap₂ (λ (l : List ℕ) (m : ℕ). paste d 9 l m) (sym up_to_more) (sym up_to_length)
 
     pub stream_step : (d b b' : List ℕ) (at : ℕ) → 9 ≤ length d → b ≡ paste d 9 (up_to x k) (length (up_to x k)) → at ≡ 9 + length (up_to x k)
-        → b' ≡ paste b at (stream_bits x.version (get_or x.streams k z)) (length (stream_bits x.version (get_or x.streams k z))) → b' ≡ paste d 9 (up_to x (k + 1)) (length (up_to x (k + 1)))
+        → b' ≡ paste b at (stream_bits x.version (get_or (streams_of x) k z)) (length (stream_bits x.version (get_or (streams_of x) k z))) → b' ≡ paste d 9 (up_to x (k + 1)) (length (up_to x (k + 1)))
     stream_step d b b' at hd e f g =
-        let s : Stream = get_or x.streams k z in
+        let s : Stream = get_or (streams_of x) k z in
         g ∙ ap₂ (λ (l : List ℕ) (p : ℕ). paste l p (stream_bits x.version s) (length (stream_bits x.version s))) e f ∙ stream_next d hd
 
   pub up_to_most : (k : ℕ) → k ≤ x.count → length (up_to x k) ≤ 250 * k
@@ -241,7 +233,7 @@ module _ (x : Set) (w : WrittenSet x) where
         up_to_most k (omega arith),
         up_to_length k no_stream (omega arith),
         ap (λ (n : ℕ). length (up_to x n)) (add-one k),
-        stream_most x.version (get_or x.streams k no_stream) (stream_written k no_stream (omega arith)).shallow (stream_written k no_stream (omega arith)).few,
+        stream_most x.version (get_or (streams_of x) k no_stream) (stream_written k no_stream (omega arith)).shallow (stream_written k no_stream (omega arith)).few,
       )
 
   flat_rest : {A : Type 0} (f : A → List ℕ) (k : ℕ) (l : List A) → length (flat f (take k l)) ≤ length (flat f l)
@@ -256,7 +248,7 @@ module _ (x : Set) (w : WrittenSet x) where
   pub up_to_all : up_to x x.count ≡ flat (stream_bits x.version) (streams_of x)
   up_to_all = ap (λ (n : ℕ). flat (stream_bits x.version) (take n (streams_of x))) (sym count_is) ∙ ap (λ (l : List Stream). flat (stream_bits x.version) l) (take-length (streams_of x))
 
-  module _ (k : ℕ) (z : Stream) (end r : ℕ) (h : k < x.count) (e : end ≡ 9 + length (up_to x k)) (q : r ≡ length (stream_bits x.version (get_or x.streams k z))) where
+  module _ (k : ℕ) (z : Stream) (end r : ℕ) (h : k < x.count) (e : end ≡ 9 + length (up_to x k)) (q : r ≡ length (stream_bits x.version (get_or (streams_of x) k z))) where
     -- the end behind one stream more
     pub end_next : end + r ≡ 9 + length (up_to x (k + 1))
     end_next = omega (arith, up_to_length k z h, e, q)
@@ -264,12 +256,12 @@ module _ (x : Set) (w : WrittenSet x) where
     pub end_fits : end + r ≤ 4009
     end_fits = omega (arith, end_next, up_to_most (k + 1) (omega arith), w.few)
 
-    pub end_room : end + length (stream_bits x.version (get_or x.streams k z)) ≤ 9 + length (flat (stream_bits x.version) (streams_of x))
+    pub end_room : end + length (stream_bits x.version (get_or (streams_of x) k z)) ≤ 9 + length (flat (stream_bits x.version) (streams_of x))
     end_room = omega (arith, end_next, up_to_le (k + 1), q)
 
   pub stream_room_lem : (k : ℕ) (z : Stream) (end m n : ℕ) → k < x.count → end ≡ 9 + length (up_to x k) → 9 + length (flat (stream_bits x.version) (streams_of x)) ≤ 8 * m → n ≡ m
-      → end + length (stream_bits x.version (get_or x.streams k z)) ≤ 8 * n
-  stream_room_lem k z end m n h e r q = omega (arith, end_room k z end (length (stream_bits x.version (get_or x.streams k z))) h e refl)
+      → end + length (stream_bits x.version (get_or (streams_of x) k z)) ≤ 8 * n
+  stream_room_lem k z end m n h e r q = omega (arith, end_room k z end (length (stream_bits x.version (get_or (streams_of x) k z))) h e refl)
 
   pub end_is : (k end : ℕ) → k ≡ x.count → end ≡ 9 + length (up_to x k) → end ≡ length (sheet_bits x)
   end_is k end e h = omega (arith, h, sheet_length x, ap (λ (n : ℕ). length (up_to x n)) e, ap length up_to_all)
@@ -317,11 +309,11 @@ module _ (x : Set) (old new : List ℕ) (end n : ℕ) (v : valid x ≡ true) (ee
   unfolding sheet_of
   n_is = en ∙ ap bytes_for ee ∙ sym (pack_length (sheet_bits x))
 
-  pub short : length old < n → (NotWritten ShortBuffer ≡ write_of x (length old)) × (old ≡ buffer_of x old)
+  pub short : length old < n → (Err ShortBuffer ≡ write_of x (length old)) × (old ≡ buffer_of x old)
   unfolding write_of buffer_of
   short h =
-      let e : NotWritten ShortBuffer ≡ write_of x (length old) = simp (v, lt-leb (length (sheet_of x)) (length old) (omega (arith, n_is))) in
-      (e, ap (λ (r : WriteAnswer). buffer_by r x old) e)
+      let e : Err ShortBuffer ≡ write_of x (length old) = simp (v, lt-leb (length (sheet_of x)) (length old) (omega (arith, n_is))) in
+      (e, ap (λ (r : Result ℕ Refusal). buffer_by r x old) e)
 
   -- the bits behind the fields: zeros up to the end of the byte, and the others as they were
   behind_is : n ≤ length old → drop end (bits (replicate n 0 ++ drop n old)) ≡ zeros (8 * n - end) ++ drop (8 * n) (bits old)
@@ -355,17 +347,17 @@ module _ (x : Set) (old new : List ℕ) (end n : ℕ) (v : valid x ≡ true) (ee
       ∙ ap (λ (l : List ℕ). front l d) (append_assoc a c ss) ∙ padded h
 
   pub wrote : n ≤ length old → AreBytes old → AreBytes new → bits new ≡ writes x (bits (replicate n 0 ++ drop n old))
-      → (Wrote n ≡ write_of x (length old)) × (new ≡ buffer_of x old)
+      → (Ok n ≡ write_of x (length old)) × (new ≡ buffer_of x old)
   unfolding write_of buffer_of sheet_of
   wrote h ho hn e =
-      let r : Wrote n ≡ write_of x (length old) = simp (v, le-leb (length (sheet_of x)) (length old) (omega (arith, n_is))) (ap Wrote n_is) in (
+      let r : Ok n ≡ write_of x (length old) = simp (v, le-leb (length (sheet_of x)) (length old) (omega (arith, n_is))) (ap Ok n_is) in (
         r,
         front_bytes (sheet_bits x) old new (sheet_bits_lem x) ho hn (front_is h e)
-            ∙ ap (λ (j : ℕ). sheet_of x ++ drop j old) (sym (pack_length (sheet_bits x)) ∙ sym n_is) ∙ ap (λ (y : WriteAnswer). buffer_by y x old) r,
+            ∙ ap (λ (j : ℕ). sheet_of x ++ drop j old) (sym (pack_length (sheet_bits x)) ∙ sym n_is) ∙ ap (λ (y : Result ℕ Refusal). buffer_by y x old) r,
       )
 
-pub invalid : (x : Set) (old : List ℕ) → valid x ≡ false → (NotWritten OutOfRule ≡ write_of x (length old)) × (old ≡ buffer_of x old)
+pub invalid : (x : Set) (old : List ℕ) → valid x ≡ false → (Err OutOfRule ≡ write_of x (length old)) × (old ≡ buffer_of x old)
 unfolding write_of buffer_of
 invalid x old v =
-    let e : NotWritten OutOfRule ≡ write_of x (length old) = simp v in
-    (e, ap (λ (r : WriteAnswer). buffer_by r x old) e)
+    let e : Err OutOfRule ≡ write_of x (length old) = simp v in
+    (e, ap (λ (r : Result ℕ Refusal). buffer_by r x old) e)

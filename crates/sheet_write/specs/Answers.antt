@@ -1,7 +1,7 @@
 -- Document 01, "Numbers the cab prints": when reading and writing a sheet give each number, and what comes with it.
 -- Assumes nothing.
 use Rattle.std.specs.Prelude.{ℕ, ◌≤◌, ◌<◌, true, false, ◌&&◌, List, [], ◌∷◌, ◌++◌, ◌↔◌, ◌≡◌, length, take, eqb, ltb}
-use Rattle.laws.specs.Lists.{all, any}
+use Rattle.std.specs.List.{list_all, list_any}
 use Rattle.laws.specs.Bits.{bits, value}
 use Rattle.rules.specs.declared.Set.{Set}
 use Rattle.rules.specs.Streams.{Placed, empty_set, valid}
@@ -21,11 +21,11 @@ pub record Begins (bs : List ℕ) : Type 0 where
   pub placed : Placed set
   pub rest : List ℕ
   pub same : bs ≡ sheet_bits set ++ rest
-  pub bad : ltb (length rest) 8 && all is_zero rest ≡ false
+  pub bad : ltb (length rest) 8 && list_all is_zero rest ≡ false
 
 -- "5, 6, 10 .. empty set"; 7 likewise. No other number is given
 pub record ReadRefusal (s : List ℕ) (no : ℕ) : Type 0 where
-  pub one : any (eqb no) (5 ∷ 6 ∷ 7 ∷ 10 ∷ []) ≡ true
+  pub one : list_any (eqb no) (5 ∷ 6 ∷ 7 ∷ 10 ∷ []) ≡ true
   pub empty : (read_of s).set ≡ empty_set
 
 unfoldable pub ReadRefusals : Type 0

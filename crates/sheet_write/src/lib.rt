@@ -9,7 +9,7 @@ ghost use Rattle.rules.specs.Streams.{offset, stages_of, streams_of, tuples_of};
 ghost use Rattle.rules.specs.Sheet.{place_bits, stage_bits, head_bits, stream_bits, sheet_bits, write_of, buffer_of};
 ghost use Rattle.sheet_write.specs.Writer.{cycle_of, Written, WrittenSet};
 
-use rules::{Refusal, Set, Stream, Tuple, WriteAnswer};
+use rules::{Place, Refusal, Set, Stream, Tuple};
 
 // "0 for once"
 fn cycle_of(t: Tuple) -> u32
@@ -21,21 +21,16 @@ fn cycle_of(t: Tuple) -> u32
     }
 }
 
-fn offset_of(t: Tuple) -> u32
-    ensures { result ≡ offset t }
-{
-    match t {
-        Tuple::Once(a) => a,
-        Tuple::Every(_, a) => a,
-    }
-}
-
 // The `w` lowest bits of `v` go to the bit `at`.
 fn put(buf: &mut [u8], at: usize, w: u32, v: u32)
     requires { (w ≤ 32) × (at + w ≤ 8 * length buf.old) }
     ensures { bits buf.new ≡ paste (bits buf.old) at (to_bits w v) w }
 {
-    bits::put(buf, at / 8, (at % 8) as u32, w, v as u64);
+    let place = Place {
+        byte: at / 8,
+        bit: (at % 8) as u32,
+    };
+    let _ = bits::put(buf, place, w, u64::from(v));
 }
 
 // The first `n` bytes are zero.
@@ -43,25 +38,18 @@ fn clear(buf: &mut [u8], n: usize)
     requires { n ≤ length buf.old }
     ensures { buf.new ≡ replicate n 0 ++ drop n buf.old }
 {
-    let mut k: usize = 0;
-    while k < n {
-        buf[k] = 0;
-        k += 1;
-    }
+    buf[..n].fill(0);
 }
 
 fn put_stages(buf: &mut [u8], at: usize, s: Stream)
     requires { Written s × (at ≤ 4000) × (at + length (flat stage_bits (stages_of s)) ≤ 8 * length buf.old) }
     ensures { bits buf.new ≡ paste (bits buf.old) at (flat stage_bits (stages_of s)) (length (flat stage_bits (stages_of s))) }
 {
-    let n = s.depth;
-    let mut k: usize = 0;
-    while k < n {
-        let g = s.stages[k];
-        let here = at + 20 * k;
+    let mut here = at;
+    for g in &s.stages[..s.depth] {
         put(buf, here, 4, g.task as u32);
         put(buf, here + 4, 16, g.cost);
-        k += 1;
+        here += 20;
     }
 }
 
@@ -69,15 +57,11 @@ fn put_tuples(buf: &mut [u8], at: usize, s: Stream)
     requires { Written s × (at ≤ 4000) × (at + length (flat place_bits (tuples_of s)) ≤ 8 * length buf.old) }
     ensures { bits buf.new ≡ paste (bits buf.old) at (flat place_bits (tuples_of s)) (length (flat place_bits (tuples_of s))) }
 {
-    let n = s.count;
-    let mut k: usize = 0;
-    while k < n {
-        let p = s.tuples[k];
-        let t = p.tuple;
-        let here = at + 37 * k;
-        put(buf, here, 20, cycle_of(t));
-        put(buf, here + 20, 17, offset_of(t));
-        k += 1;
+    let mut here = at;
+    for p in &s.tuples[..s.count] {
+        put(buf, here, 20, cycle_of(p.tuple));
+        put(buf, here + 20, 17, stream_valid::offset_of(p.tuple));
+        here += 37;
     }
 }
 
@@ -132,15 +116,10 @@ fn put_streams(buf: &mut [u8], x: Set)
     requires { WrittenSet x × (9 + length (flat (stream_bits x.version) (streams_of x)) ≤ 8 * length buf.old) }
     ensures { bits buf.new ≡ paste (bits buf.old) 9 (flat (stream_bits x.version) (streams_of x)) (length (flat (stream_bits x.version) (streams_of x))) }
 {
-    let n = x.count;
-    let version = x.version;
     let mut at: usize = 9;
-    let mut k: usize = 0;
-    while k < n {
-        let s = x.streams[k];
-        put_stream(buf, at, version, s);
-        at += stream_end(version, s);
-        k += 1;
+    for s in &x.streams[..x.count] {
+        put_stream(buf, at, x.version, *s);
+        at += stream_end(x.version, *s);
     }
 }
 
@@ -149,20 +128,15 @@ fn fields_end(x: Set) -> usize
     requires { WrittenSet x }
     ensures { result ≡ length (sheet_bits x) }
 {
-    let n = x.count;
-    let version = x.version;
     let mut end: usize = 9;
-    let mut k: usize = 0;
-    while k < n {
-        let s = x.streams[k];
-        end += stream_end(version, s);
-        k += 1;
+    for s in &x.streams[..x.count] {
+        end += stream_end(x.version, *s);
     }
     end
 }
 
 // The sheet of a set goes to the first bytes of `buf`; no other byte changes. 7 for an invalid set, 11 for a buffer that is too short.
-pub fn write(x: Set, buf: &mut [u8]) -> WriteAnswer
+pub fn write(x: Set, buf: &mut [u8]) -> Result<usize, Refusal>
     ensures { (result ≡ write_of x (length buf.old)) × (buf.new ≡ buffer_of x buf.old) }
 {
     if stream_valid::is_valid(x) {
@@ -174,9 +148,9 @@ pub fn write(x: Set, buf: &mut [u8]) -> WriteAnswer
             put(buf, 0, 4, x.version);
             put(buf, 4, 5, count as u32);
             put_streams(buf, x);
-            return WriteAnswer::Wrote(n);
+            return Ok(n);
         }
-        return WriteAnswer::Refused(Refusal::ShortBuffer);
+        return Err(Refusal::ShortBuffer);
     }
-    WriteAnswer::Refused(Refusal::OutOfRule)
+    Err(Refusal::OutOfRule)
 }

@@ -1,4 +1,4 @@
 pub mod Choice
 pub mod Best
-pub mod Looking
 pub mod Passing
+pub mod Looking

@@ -1,118 +1,86 @@
 -- What looking for a message to serve tells of the state, and of the message; the ways out of looking and of choosing.
 -- Assumes nothing.
-use Prim.Native.Nat.{ℕ, ◌<◌}
 use mathlib.Core.Bool.{Bool, true, false, cond}
-use mathlib.Core.List.{List}
 use mathlib.Core.Path.{◌≡◌, refl, ap, sym, ◌∙◌}
-use native.Mathlib.Omega.{arith}
-use borrow.Author.Tests.{eqb-false, eq-eqb, ne_eqb}
+use borrow.Author.Tests.{eqb-true, eqb-false, eq-eqb, ne_eqb}
 use lib.Dec.{eqb}
-use lib.ListN.{length}
+use Rattle.std.specs.Prelude.{Ok, Err, Some, None}
 use Rattle.rules.specs.declared.State.{State}
-use Rattle.rules.specs.declared.Refusal.TheVariants.{IllFormed as NotFormed}
-use Rattle.rules.specs.declared.ChooseAnswer.TheVariants.{Nothing as NoTask, Runs, Refused}
+use Rattle.rules.specs.declared.Refusal.{Refusal}
+use Rattle.rules.specs.declared.Refusal.TheVariants.{IllFormed}
+use Rattle.rules.specs.declared.Running.{Running}
 use Rattle.rules.specs.Doors.{waits_later}
-use Rattle.rules.specs.States.{task_of, cost_of, well_formed}
-use Rattle.rules.specs.Steps.{place_of, message_at, choose_of, at_last}
-use Rattle.state_formed.proofs.WellFormed.{well_formed_lem}
-use Rattle.state_choosing.specs.declared.Found.{Found}
-use Rattle.state_choosing.specs.declared.ToServe.{ToServe}
-use Rattle.state_choosing.specs.declared.ToServe.TheVariants.{IllFormed, Nothing, At}
+use Rattle.rules.specs.States.{well_formed}
+use Rattle.rules.specs.Steps.{message_at, place_of, choose_of}
+use Rattle.state_formed.specs.declared.Tested.{Tested}
+use Rattle.state_formed.specs.InRange.{whole_of}
+use Rattle.state_formed.proofs.Whole.{whole_none, whole_some}
+use Rattle.state_choosing.specs.declared.Served.{Served}
 use Rattle.state_choosing.specs.declared.Looked.{Looked}
-use Rattle.state_choosing.specs.ToServe.{found_of, looked_of, serve_of}
-use Rattle.state_choosing.proofs.Choice.{place_in}
-
--- i is the place of the choice, in a well formed state with something pending
-pub record Chosen (s : State) (i : ℕ) : Type 0 where
-  pub formed : well_formed s ≡ true
-  pub some : s.count ≡ 0 → ⊥
-  pub place : i ≡ place_of s
-
--- the message at i is found, with its task and its cost c, and whether it is in its last stage
-pub record Serves (s : State) (i t c : ℕ) (l : Bool) : Type 0 where
-  pub chosen : Chosen s i
-  pub task : t ≡ task_of s.set (message_at s i)
-  pub cost : c ≡ cost_of s.set (message_at s i)
-  pub last : l ≡ at_last s.set (message_at s i)
-
-module _ (j t c : ℕ) (l : Bool) where
-  is_at : (w z : Bool) (i task cost : ℕ) (last : Bool) → At i task cost last ≡ cond w (cond z Nothing (At j t c l)) IllFormed → (w ≡ true) × (z ≡ false) × (i ≡ j) × (task ≡ t) × (cost ≡ c) × (last ≡ l)
-  is_at true true i task cost last e = absurd (let q : ◌≡◌ {A = ℕ} 0 1 = cc in omega arith)
-  is_at true false i task cost last e = (refl, refl, cc, cc, cc, cc)
-  is_at false z i task cost last e = absurd (let q : ◌≡◌ {A = ℕ} 0 1 = cc in omega arith)
-
-module _ (s : State) (f : ToServe) (e : f ≡ serve_of s) where
-  abbrev task : ℕ
-  task = task_of s.set (message_at s (place_of s))
-
-  abbrev cost : ℕ
-  cost = cost_of s.set (message_at s (place_of s))
-
-  abbrev last : Bool
-  last = at_last s.set (message_at s (place_of s))
-
-  pub serves : (i t c : ℕ) (l : Bool) → f ≡ At i t c l → Serves s i t c l
-  unfolding serve_of
-  serves i t c l q =
-      let r = is_at (place_of s) task cost last (well_formed s) (eqb s.count 0) i t c l (sym q ∙ e) in
-      record { chosen = record { formed = r.0; some = eqb-false s.count 0 r.1; place = r.2 }; task = rw r.2 r.3; cost = rw r.2 r.4; last = rw r.2 r.5 }
-
--- ---- the message that is served
-
-module _ (s : State) (i : ℕ) (h : Chosen s i) where
-  pub found : (t c : ℕ) (l : Bool) → t ≡ task_of s.set (message_at s i) → c ≡ cost_of s.set (message_at s i) → l ≡ at_last s.set (message_at s i)
-      → ◌≡◌ {A = Found} (record { place = i; task = t; cost = c; last = l }) (found_of s)
-  unfolding found_of
-  found t c l e e' e'' = rw (e, e', e'', h.place)
-
-  module _ (ms : length s.messages ≡ 64) (ss : length s.set.streams ≡ 16) where
-    pub place_count : i < s.count
-    place_count = rw h.place (place_in s h.formed ms ss h.some)
-
-    pub place_lt : i < 64
-    place_lt = omega (arith, place_count, (well_formed_lem s h.formed).few)
-
--- ---- what looking tells a unit
-
-module _ (s : State) (r : Looked) (e : r ≡ looked_of s) where
-  pub looked_found : r.found ≡ serve_of s
-  unfolding looked_of
-  looked_found = ap (λ (y : Looked). y.found) e
-
-  pub looked_later : well_formed s ≡ true → r.later ≡ waits_later s.set.streams s.waits
-  unfolding looked_of
-  looked_later w = rw (e, w)
-
--- ---- what looking and choosing answer, as the code goes
+use Rattle.state_choosing.specs.ToServe.{found_of, serve_at, serve_of, looked_of}
 
 module _ (s : State) where
-  pub look_ill : well_formed s ≡ false → (ws : List ℕ) → ws ≡ s.waits → record { found = IllFormed; later = ws } ≡ looked_of s
-  unfolding serve_of looked_of
-  look_ill e ws f = rw (e, f)
+  pub look_ill : None ≡ whole_of s → Err IllFormed ≡ looked_of s
+  unfolding looked_of
+  look_ill e = rw (whole_none s e)
 
-  pub choose_12 : well_formed s ≡ false → Refused NotFormed ≡ choose_of s
+  pub look_one : (t : Tested) → Some t ≡ whole_of s → (s.count ≡ 0 → ⊥) → (f : Served) → f ≡ found_of s → Ok (let r : Looked = record { served = Some f; later = t.later } in r) ≡ looked_of s
+  unfolding looked_of serve_of found_of
+  look_one t e some f g = rw (g, (whole_some s t e).0, (whole_some s t e).1, ne_eqb _ _ some)
+
+  pub look_none : (t : Tested) → Some t ≡ whole_of s → s.count ≡ 0 → Ok (let r : Looked = record { served = None; later = t.later } in r) ≡ looked_of s
+  unfolding looked_of serve_of
+  look_none t e none = rw ((whole_some s t e).0, (whole_some s t e).1, eq-eqb _ _ none)
+
+  -- ---- what looking tells
+
+  told_ok : (b : Bool) (r v : Looked) (e : Refusal) → Ok r ≡ cond b (Ok v) (Err e) → (b ≡ true) × (r ≡ v)
+  told_ok true r v e q = (refl, cc)
+  told_ok false r v e q = absurd (let z : ⊥ = cc in z)
+
+  told_err : (b : Bool) (v : Looked) (e f : Refusal) → Err f ≡ cond b (Ok v) (Err e) → (b ≡ false) × (f ≡ e)
+  told_err true v e f q = absurd (let z : ⊥ = cc in z)
+  told_err false v e f q = (refl, cc)
+
+  pub looked_err : (f : Refusal) → Err f ≡ looked_of s → (well_formed s ≡ false) × (f ≡ IllFormed)
+  unfolding looked_of
+  looked_err f e = told_err (well_formed s) _ IllFormed f e
+
+  module _ (r : Looked) (e : Ok r ≡ looked_of s) where
+    pub looked_ok : (well_formed s ≡ true) × (r.served ≡ serve_of s) × (r.later ≡ waits_later s.set.streams s.waits)
+    unfolding looked_of
+    looked_ok =
+        let t = told_ok (well_formed s) r _ IllFormed e in
+        (t.0, ap (λ (y : Looked). y.served) t.1, ap (λ (y : Looked). y.later) t.1)
+
+    none_served : (z : Bool) (v : Served) → None ≡ cond z None (Some v) → z ≡ true
+    none_served true v q = refl
+    none_served false v q = absurd (let z : ⊥ = cc in z)
+
+    some_served : (z : Bool) (f v : Served) → Some f ≡ cond z None (Some v) → (z ≡ false) × (f ≡ v)
+    some_served true f v q = absurd (let z : ⊥ = cc in z)
+    some_served false f v q = (refl, cc)
+
+    pub looked_none : r.served ≡ None → s.count ≡ 0
+    unfolding serve_of
+    looked_none q = eqb-true s.count 0 (none_served (eqb s.count 0) _ (sym q ∙ looked_ok.1))
+
+    pub looked_some : (f : Served) → r.served ≡ Some f → (s.count ≡ 0 → ⊥) × (f ≡ serve_at s (place_of s))
+    unfolding serve_of
+    looked_some f q =
+        let t = some_served (eqb s.count 0) f _ (sym q ∙ looked_ok.1) in
+        (eqb-false s.count 0 t.0, t.1)
+
+  -- ---- and what choosing answers
+
+  pub choose_err : (f : Refusal) → Err f ≡ looked_of s → Err f ≡ choose_of s
   unfolding choose_of
-  choose_12 e = rw e
+  choose_err f e = rw ((looked_err f e).1, (looked_err f e).0)
 
-  module _ (w : well_formed s ≡ true) where
-    pub look_none : s.count ≡ 0 → (ws : List ℕ) → ws ≡ waits_later s.set.streams s.waits → record { found = Nothing; later = ws } ≡ looked_of s
-    unfolding serve_of looked_of
-    look_none e ws f = rw (w, eq-eqb _ _ e, f)
+  pub choose_none : (r : Looked) → Ok r ≡ looked_of s → r.served ≡ None → Ok None ≡ choose_of s
+  unfolding choose_of
+  choose_none r e q = rw ((looked_ok r e).0, eq-eqb _ _ (looked_none r e q))
 
-    pub choose_none : s.count ≡ 0 → NoTask ≡ choose_of s
-    unfolding choose_of
-    choose_none e = rw (w, eq-eqb _ _ e)
-
-    module _ (some : s.count ≡ 0 → ⊥) (f : Found) (e : f ≡ found_of s) where
-      pub look_one : (ws : List ℕ) → ws ≡ waits_later s.set.streams s.waits
-          → record { found = At f.place f.task f.cost f.last; later = ws } ≡ looked_of s
-      unfolding serve_of found_of looked_of
-      look_one ws g = rw (e, w, ne_eqb _ _ some, g)
-
-      pub choose_one : Runs f.task (message_at s f.place).stream ≡ choose_of s
-      unfolding choose_of found_of
-      choose_one = rw (e, w, ne_eqb _ _ some)
-
-      pub found_in : length s.messages ≡ 64 → length s.set.streams ≡ 16 → f.place < 64
-      unfolding found_of
-      found_in ms ss = rw e (omega (arith, place_in s w ms ss some, (well_formed_lem s w).few))
+  pub choose_some : (r : Looked) → Ok r ≡ looked_of s → (f : Served) → r.served ≡ Some f → Ok (Some (let y : Running = record { task = f.task; stream = (message_at s f.place).stream } in y)) ≡ choose_of s
+  unfolding choose_of
+  choose_some r e f q = rw ((looked_some r e f q).1, (looked_ok r e).0, ne_eqb _ _ (looked_some r e f q).0)

@@ -1,165 +1,102 @@
 // Which pending message is served.
 #![tactic(auto)]
 
-ghost use Rattle.std.specs.Prelude.{◌≡◌, true, ◌<◌};
+ghost use Rattle.std.specs.Prelude.{◌≡◌, true, ◌<◌, IfOk, IfSome};
 ghost use Rattle.rules.specs.States.{well_formed};
-ghost use Rattle.rules.specs.Steps.{message_at, choose_of};
+ghost use Rattle.rules.specs.Steps.{choose_of};
 ghost use Rattle.state_choosing.specs.First.{goes_first};
-ghost use Rattle.state_choosing.specs.ToServe.{found_of, looked_of};
+ghost use Rattle.state_choosing.specs.ToServe.{serve_by, found_of, looked_of};
 
-use rules::{ChooseAnswer, Refusal, State};
+use rules::{Message, Refusal, Running, Set, State};
 
-// What there is to serve in a state: nothing where it is not well formed, nothing pending, or the message at a place, with the task and the
-// cost c of its stage, and whether that is its last.
+// A message that is served: its place, the task and the cost c of its stage, and whether that is its last.
 #[derive(Clone, Copy)]
-pub enum ToServe {
-    IllFormed,
-    Nothing,
-    At(usize, usize, u32, bool),
+pub struct Served {
+    pub place: usize,
+    pub task: usize,
+    pub cost: u32,
+    pub last: bool,
 }
 
-// What looking tells: what there is to serve, and what a unit that moves the clock leaves of the waits; the waits as they are where the state is not
-// well formed.
+// What looking tells of a well formed state: the message that is served, if one is pending, and what a unit that moves the clock leaves of the waits.
 #[derive(Clone, Copy)]
 pub struct Looked {
-    pub found: ToServe,
+    pub served: Option<Served>,
     pub later: [u32; 16],
 }
 
-// The message that is served, by its place, with the same.
-#[derive(Clone, Copy)]
-struct Found {
-    place: usize,
-    task: usize,
-    cost: u32,
-    last: bool,
-}
-
 // Does a message of deadline d and task t go before one of deadline e and task u that was posted before it?
+#[tactic(auto, unfolding(crate::specs::First::goes_first))]
 fn goes_first(d: u32, t: usize, e: u32, u: usize) -> bool
     ensures { result ≡ goes_first d t e u }
 {
-    (d < e) | (!(e < d) & (t < u))
+    d < e || d == e && t < u
+}
+
+// The message m at a place, with what is told of its stage.
+fn serve(set: &Set, place: usize, m: &Message) -> Served
+    requires { (m.now.stream < 16) × (m.now.stage < 4) }
+    ensures { result ≡ serve_by set.now place m.now }
+{
+    let stream = &set.streams[m.stream];
+    let stage = &stream.stages[m.stage];
+    Served {
+        place,
+        task: stage.task,
+        cost: stage.cost,
+        last: m.stage + 1 == stream.depth,
+    }
 }
 
 // The message that is served, where one is pending. A first pass keeps the best message so far: of the least deadline, on a tie
 // of the lowest task, on a tie the earliest posted. A second looks for the started message of its task, which is served before it.
-// Both stand here, since what is handed to another function is copied.
-fn served(s: State) -> Found
-    requires { (well_formed s ≡ true) × (0 < s.count) }
-    ensures { result ≡ found_of s }
+fn found(s: &State) -> Served
+    requires formed { well_formed s.now ≡ true }
+    requires some { 0 < s.now.count }
+    ensures told { result ≡ found_of s.now }
+    ensures inside { result.place < s.now.count }
 {
-    let messages = s.messages;
-    let streams = s.set.streams;
-    let mut best: usize = 0;
-    // any message goes before these
-    let mut deadline: u32 = 4294967295;
-    let mut task: usize = 16;
-    let mut cost: u32 = 0;
-    let mut last = false;
-    let mut k: usize = 0;
-    while k < s.count {
-        let m = messages[k];
-        let i = m.stream;
-        let x = streams[i];
-        let j = m.stage;
-        // an index reads from a copy: of the stages alone
-        let gs = x.stages;
-        let g = gs[j];
-        if goes_first(m.deadline, g.task, deadline, task) {
-            best = k;
+    let pending = &s.messages[..s.count];
+    let mut best = serve(&s.set, 0, &pending[0]);
+    let mut deadline = pending[0].deadline;
+    for (k, m) in pending.iter().enumerate() {
+        let here = serve(&s.set, k, m);
+        if goes_first(m.deadline, here.task, deadline, best.task) {
+            best = here;
             deadline = m.deadline;
-            task = g.task;
-            cost = g.cost;
-            last = j + 1 == x.depth;
         }
-        k = k + 1;
     }
-    k = 0;
-    while k < s.count {
-        let m = messages[k];
+    for (k, m) in pending.iter().enumerate() {
         if 0 < m.used {
-            let i = m.stream;
-            let x = streams[i];
-            let j = m.stage;
-            let gs = x.stages;
-            let g = gs[j];
-            if g.task == task {
-                let ends = j + 1 == x.depth;
-                return Found {
-                    place: k,
-                    task,
-                    cost: g.cost,
-                    last: ends,
-                };
+            let started = serve(&s.set, k, m);
+            if started.task == best.task {
+                return started;
             }
         }
-        k = k + 1;
     }
-    Found {
-        place: best,
-        task,
-        cost,
-        last,
-    }
+    best
 }
 
 // What there is to serve. The state is tested here, once for a call.
-pub fn look(s: State) -> Looked
-    ensures { result ≡ looked_of s }
+pub fn look(s: &State) -> Result<Looked, Refusal>
+    ensures told { result ≡ looked_of s.now }
+    ensures inside { IfOk result (λ r. IfSome r.served (λ it. it.place < s.now.count)) }
 {
-    let waits = s.waits;
-    if !stream_valid::is_valid(s.set) {
-        return Looked {
-            found: ToServe::IllFormed,
-            later: waits,
-        };
-    }
-    let tested = state_formed::formed(s);
+    let tested = state_formed::inspect(s).ok_or(Refusal::IllFormed)?;
+    let served = if s.count == 0 { None } else { Some(found(s)) };
     let later = tested.later;
-    if !tested.sound {
-        return Looked {
-            found: ToServe::IllFormed,
-            later,
-        };
-    }
-    if s.count == 0 {
-        return Looked {
-            found: ToServe::Nothing,
-            later,
-        };
-    }
-    let best = served(s);
-    Looked {
-        found: ToServe::At(best.place, best.task, best.cost, best.last),
-        later,
-    }
+    Ok(Looked { served, later })
 }
 
-// The stream of the message at i. In a function of its own, so that the copy which an index reads takes no stack while looking.
-fn stream_of(s: State, i: usize) -> usize
-    requires { i < 64 }
-    ensures { result ≡ (message_at s i).stream }
+// The task that runs and the stream of the message that it serves, none, or 12.
+pub fn choose(s: &State) -> Result<Option<Running>, Refusal>
+    ensures { result ≡ choose_of s.now }
 {
-    let messages = s.messages;
-    let m = messages[i];
-    m.stream
-}
-
-// The task that runs and the stream of the message that it serves, none, or 12. It does not call `look`: what is called from one place alone becomes
-// a part of it, and is handed no copy of the state.
-pub fn choose(s: State) -> ChooseAnswer
-    ensures { result ≡ choose_of s }
-{
-    if stream_valid::is_valid(s.set) {
-        let tested = state_formed::formed(s);
-        if tested.sound {
-            if s.count == 0 {
-                return ChooseAnswer::Nothing;
-            }
-            let found = served(s);
-            return ChooseAnswer::Runs(found.task, stream_of(s, found.place));
-        }
+    match look(s)?.served {
+        None => Ok(None),
+        Some(it) => Ok(Some(Running {
+            task: it.task,
+            stream: s.messages[it.place].stream,
+        })),
     }
-    ChooseAnswer::Refused(Refusal::IllFormed)
 }

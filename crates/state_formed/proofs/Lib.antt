@@ -3,3 +3,4 @@ pub mod Standing
 pub mod Counted
 pub mod Pass
 pub mod Waiting
+pub mod Whole

@@ -1,160 +1,78 @@
 -- The pass over the pending messages: what holds before the place k, and what each turn of the loop finds.
 -- Assumes nothing.
-use Prim.Native.Nat.{ℕ, ◌+◌, ◌-◌, ◌≤◌, ◌<◌}
-use mathlib.Core.Bool.{Bool, true, false, ◌&&◌}
-use mathlib.Core.Logic.{inl}
+use Prim.Native.Nat.{ℕ, ◌+◌, ◌≤◌, ◌<◌}
+use native.Mathlib.Numerals.{add-one}
+use mathlib.Core.Bool.{Bool, true, false, cond}
 use mathlib.Core.List.{List}
-use mathlib.Core.Path.{◌≡◌, refl, ap, sym, ◌∙◌}
-use native.Mathlib.Omega.{arith}
-use borrow.Author.Tests.{ltb-true, ltb-false, le-leb}
-use lib.Dec.{ltb, leb}
-use lib.ListN.{length, get_or, drop, set, replicate}
-use Rattle.laws.specs.Lists.{below, all, scan}
-use Rattle.laws.proofs.Sums.{and_parts, by_test, all_at}
-use Rattle.laws.proofs.Parts.{part, part_all, scan_go, scan_no, scan_end, get_d_any}
+use mathlib.Core.Path.{◌≡◌, refl, ap, sym}
+use lib.ListN.{length, get_or, drop, set, replicate, drop_of_length-le}
+use lib.Seq.{drop-cons}
+use Rattle.std.specs.Prelude.{Option, Some, None}
+use Rattle.laws.specs.Lists.{scan}
+use Rattle.laws.proofs.Sums.{and_no}
+use Rattle.rules.specs.declared.Set.{Set}
 use Rattle.rules.specs.declared.Message.{Message}
-use Rattle.rules.specs.declared.Stage.{Stage}
-use Rattle.rules.specs.declared.Stream.{Stream}
-use Rattle.rules.specs.declared.State.{State}
-use Rattle.rules.specs.Streams.{FourPlaces, Placed, no_stream, stream_at, stage_at}
-use Rattle.rules.specs.States.{no_message, pending, task_of, posted_at, message_ok, messages_ok, started_once, message_unused, wait_ok}
-use Rattle.state_parties.specs.Shares.{fits_of}
-use Rattle.state_formed.specs.InRange.{rest_formed}
-use Rattle.state_formed.proofs.Standing.{message_out, message_beyond, message_past, message_by}
+use Rattle.rules.specs.States.{no_message, task_of, posted_at, message_ok, messages_ok}
+use Rattle.state_formed.specs.InRange.{messages_pass}
 use Rattle.state_formed.proofs.Counted.{Counted, counted_start, counted_past, counted_go, counted_no, counted_end}
-use Rattle.state_formed.proofs.WellFormed.{blank, no_test}
-
--- what was tested before the first message: how many messages there are, and the clock; and what the types say
-pub record Opened (s : State) : Type 0 where
-  pub few : s.count ≤ 64
-  pub clock : s.clock ≤ 4000000000
-  pub places : length s.messages ≡ 64
-  pub set : Placed s.set
 
 -- the messages before k have passed: what is left to test comes to the same as the whole
-pub record Pass (s : State) (k before : ℕ) (counts : List ℕ) : Type 0 where
-  pub opened : Opened s
-  pub here : k ≤ s.count
-  pub left : scan (message_ok s.set s.clock) (posted_at s.set) before (part k s.count s.messages) ≡ messages_ok s.set s.clock (pending s)
-  pub counted : Counted s.set s.messages s.count k counts
+pub record Pass (x : Set) (clock : ℕ) (l : List Message) (k before : ℕ) (started : List Bool) : Type 0 where
+  pub left : scan (message_ok x clock) (posted_at x) before (drop k l) ≡ messages_ok x clock l
+  pub counted : Counted x l k started
 
-pub pass_start : (s : State) → Opened s → Pass s 0 0 (replicate 16 0)
+-- what is told as a value where a test passes, and else as none
+pub told_none : {A : Type 0} (b : Bool) (v : A) → None ≡ cond b (Some v) None → b ≡ false
+told_none true v e = absurd (let z : ⊥ = cc in z)
+told_none false v e = refl
+
+pub told_some : {A : Type 0} (b : Bool) (w v : A) → Some w ≡ cond b (Some v) None → (b ≡ true) × (w ≡ v)
+told_some true w v e = (refl, cc)
+told_some false w v e = absurd (let z : ⊥ = cc in z)
+
+pub pass_start : (x : Set) (clock : ℕ) (l : List Message) → Pass x clock l 0 0 (replicate 16 false)
 unfolding messages_ok
-pass_start s o = record { opened = o; here = omega arith; left = rw (part_all s.messages s.count) refl; counted = counted_start s.set s.messages s.count }
+pass_start x clock l = record { left = refl; counted = counted_start x l }
 
-module _ (s : State) (k before : ℕ) (counts : List ℕ) (inv : Pass s k before counts) (h : k < s.count) where
-  -- the message at k
+module _ (x : Set) (clock : ℕ) (l : List Message) (k before : ℕ) (started : List Bool) (inv : Pass x clock l k before started) (h : k < length l) where
+  -- the message at k, and what is told of it
   abbrev m : Message
-  m = get_or s.messages k no_message
+  m = get_or l k no_message
 
-  inside : k < length s.messages
-  inside = omega (arith, inv.opened.few, inv.opened.places)
+  abbrev told : Option (ℕ × ℕ)
+  told = cond (message_ok x clock before m) (Some (posted_at x m, task_of x m)) None
 
-  -- it does not pass
-  not_it : message_ok s.set s.clock before m ≡ false → false ≡ rest_formed s
-  not_it e =
-      no_test s 2
-      (sym (scan_no (message_ok s.set s.clock) (posted_at s.set) s.messages s.count k before _ no_message m inv.left refl e h inside))
+  pub pass_no : None ≡ told → false ≡ messages_pass x clock l
+  unfolding scan messages_pass
+  pass_no e =
+      let f : false ≡ messages_ok x clock l = rw (drop-cons l k no_message h, told_none (message_ok x clock before m) _ e) at inv.left in
+      rw (← f)
 
-  -- the tests that come before its stream and its stage are read
-  abbrev places : Bool
-  places = ltb m.stream 16 && ltb m.stage 4
+  module _ (at t : ℕ) (e : Some (at, t) ≡ told) where
+    yes : (message_ok x clock before m ≡ true) × (◌≡◌ {A = ℕ × ℕ} (at, t) (posted_at x m, task_of x m))
+    yes = told_some (message_ok x clock before m) _ _ e
 
-  -- it is in a stage that has no place
-  stage_out : m.stream < 16 → ltb m.stage 4 ≡ false → false ≡ rest_formed s
-  stage_out q t =
-      let f : FourPlaces (stream_at s.set m.stream) = all_at FourPlaces s.set.streams m.stream no_stream (omega (arith, inv.opened.set.sixteen)) inv.opened.set.four in
-      not_it (message_past s.set s.clock before m (omega (arith, f.stages, ltb-false m.stage 4 t)))
+    task : t ≡ task_of x m
+    task = ap (λ (y : ℕ × ℕ). y.1) yes.1
 
-  -- it names no stream of the set, or one that has no place, or is in a stage that has none
-  pub pass_out : (ltb m.stream s.set.count && places) ≡ false → false ≡ rest_formed s
-  pass_out g =
-      by_test (ltb m.stream s.set.count)
-      (λ t.
-      by_test (ltb m.stream 16)
-      (λ u. stage_out (ltb-true m.stream 16 u) (rw (t, u) at g))
-      (λ u. not_it (message_beyond s.set s.clock before m (omega (arith, inv.opened.set.sixteen, ltb-false m.stream 16 u)))))
-      (λ t. not_it (message_out s.set s.clock before m (ltb-false m.stream s.set.count t)))
+    next : (s : List Bool) → Counted x l (k + 1) s → Pass x clock l (k + 1) at s
+    unfolding scan
+    next s c =
+        let posted : at ≡ posted_at x m = ap (λ (y : ℕ × ℕ). y.0) yes.1 in
+        record { left = rw (posted, add-one) (rw (drop-cons l k no_message h, yes.0) at inv.left); counted = c }
 
-  module _ (g : (ltb m.stream s.set.count && places) ≡ true) where
-    named : m.stream < s.set.count
-    named = ltb-true _ _ (and_parts (ltb m.stream s.set.count) places g).0
+    pub pass_past : (0 < m.used → t < 16 → ⊥) → Pass x clock l (k + 1) at started
+    pass_past q = next started (counted_past x l k started m t inv.counted refl task h q)
 
-    placed : (ltb m.stream 16 ≡ true) × (ltb m.stage 4 ≡ true)
-    placed = and_parts (ltb m.stream 16) (ltb m.stage 4) (and_parts (ltb m.stream s.set.count) places g).1
+    pub pass_go : 0 < m.used → t < 16 → get_or started t false ≡ false → Pass x clock l (k + 1) at (set started t true)
+    pass_go u q f = next (set started t true) (counted_go x l k started m t inv.counted refl task h u q f)
 
-    pub pass_stream : m.stream < 16
-    pass_stream = ltb-true _ _ placed.0
+    pub pass_twice : 0 < m.used → t < 16 → get_or started t false ≡ true → false ≡ messages_pass x clock l
+    unfolding messages_pass
+    pass_twice u q f = sym (and_no (messages_ok x clock l) _ (counted_no x l k started m t inv.counted refl task h u q f))
 
-    pub pass_stage : m.stage < 4
-    pass_stage = ltb-true _ _ placed.1
-
-    -- its stream, as the code reads it within the array, and its stage
-    abbrev y : Stream
-    y = get_or s.set.streams m.stream blank
-
-    abbrev at_stage : Stage
-    at_stage = stage_at y m.stage
-
-    read : y ≡ stream_at s.set m.stream
-    read = get_d_any s.set.streams m.stream blank no_stream (omega (arith, pass_stream, inv.opened.set.sixteen))
-
-    task : at_stage.task ≡ task_of s.set m
-    task = ap (λ (x : Stream). (stage_at x m.stage).task) read
-
-    module _ (at : ℕ) (e₁ : at ≡ m.deadline - y.deadline) where
-      abbrev ok : Bool
-      ok = ltb m.stage y.depth && (ltb m.used at_stage.cost && ((leb y.deadline m.deadline && leb at s.clock) && leb before at))
-
-      same : ok ≡ message_ok s.set s.clock before m
-      same = message_by s.set s.clock before m y at named read e₁
-
-      pub pass_no : ok ≡ false → false ≡ rest_formed s
-      pass_no e = not_it (sym same ∙ e)
-
-      -- it is good: the started ones of its task are counted with it in the end
-      module _ (e : ok ≡ true) where
-        next : (counts' : List ℕ) → Counted s.set s.messages s.count (k + 1) counts' → Pass s (k + 1) at counts'
-        next counts' t = record {
-          opened = inv.opened;
-          here = omega arith;
-          left =
-              scan_go (message_ok s.set s.clock) (posted_at s.set) s.messages s.count k before at _ no_message m inv.left refl
-              (e₁ ∙ ap (λ (x : Stream). m.deadline - x.deadline) read) (sym same ∙ e) h inside;
-          counted = t;
-        }
-
-        pub pass_past : (ltb 0 m.used && ltb at_stage.task 16) ≡ false → Pass s (k + 1) at counts
-        pass_past q = next counts (counted_past s.set s.messages s.count k counts m at_stage.task inv.counted refl task h inside q)
-
-        module _ (q : (ltb 0 m.used && ltb at_stage.task 16) ≡ true) where
-          begun : 0 < m.used
-          begun = ltb-true _ _ (and_parts (ltb 0 m.used) (ltb at_stage.task 16) q).0
-
-          pub pass_task : at_stage.task < 16
-          pass_task = ltb-true _ _ (and_parts (ltb 0 m.used) (ltb at_stage.task 16) q).1
-
-          pub pass_twice : 0 < get_or counts at_stage.task 0 → false ≡ rest_formed s
-          pass_twice f = no_test s 3 (sym (counted_no s.set s.messages s.count k counts m at_stage.task inv.counted refl task h inside begun pass_task f))
-
-          pub pass_go : get_or counts at_stage.task 0 ≤ 0 → Pass s (k + 1) at (set counts at_stage.task 1)
-          pass_go f = next (set counts at_stage.task 1) (counted_go s.set s.messages s.count k counts m at_stage.task inv.counted refl task h inside begun pass_task f)
-
--- all messages have passed: only the places behind them are left, and the waits
-pub record Passed (s : State) : Type 0 where
-  pub opened : Opened s
-  pub each : messages_ok s.set s.clock (pending s) ≡ true
-  pub once : all (started_once s.set (pending s)) (below 16) ≡ true
-
-pub pass_end : (s : State) (k before : ℕ) (counts : List ℕ) → Pass s k before counts → s.count ≤ k → Passed s
-pass_end s k before counts inv h = record {
-  opened = inv.opened;
-  each = sym (scan_end (message_ok s.set s.clock) (posted_at s.set) s.messages s.count k before _ inv.left (inl h));
-  once = sym (counted_end s.set s.messages s.count k counts inv.counted h);
-}
-
-pub last_tests : (s : State) (r q f : Bool) → Passed s → r ≡ all message_unused (drop s.count s.messages) → q ≡ all (wait_ok s.set s.waits) (below 16)
-    → f ≡ fits_of (pending s) s.owners s.set.count s.places → (r && (q && f)) ≡ rest_formed s
-unfolding rest_formed
-last_tests s r q f p u v w =
-    rw (le-leb s.count 64 p.opened.few, le-leb s.clock 4000000000 p.opened.clock, p.each, p.once, ← u, ← v, w)
+pub pass_end : (x : Set) (clock : ℕ) (l : List Message) (k before : ℕ) (started : List Bool) → Pass x clock l k before started → length l ≤ k → true ≡ messages_pass x clock l
+unfolding scan messages_pass
+pass_end x clock l k before started inv h =
+    let f : true ≡ messages_ok x clock l = rw (drop_of_length-le l {i = k} h) at inv.left in
+    rw (← f, counted_end x l k started inv.counted h)

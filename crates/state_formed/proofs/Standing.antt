@@ -1,21 +1,21 @@
 -- What the test of a pending message says, as propositions, and the test as the code makes it.
 -- Assumes nothing.
 use Prim.Native.Nat.{ℕ, ◌+◌, ◌-◌, ◌≤◌, ◌<◌}
-use mathlib.Core.Bool.{true, false, ◌&&◌}
-use mathlib.Core.Path.{◌≡◌, ap}
+use mathlib.Core.Bool.{true, false}
+use mathlib.Core.Path.{◌≡◌, ap, ◌∙◌}
 use native.Mathlib.Omega.{arith}
 use borrow.Author.Tests.{ltb-true, ltb-false, leb-true, lt-ltb, le-ltb, le-leb}
 use lib.Dec.{ltb, leb}
 use lib.ListN.{length, get_or-eq_default}
 use Rattle.laws.specs.Lists.{within}
 use Rattle.laws.proofs.Sums.{and_parts, by_test}
-use Rattle.laws.proofs.Parts.{every_at_lem, leb_less}
+use Rattle.laws.proofs.Parts.{every_at_lem}
 use Rattle.rules.specs.declared.Set.{Set}
 use Rattle.rules.specs.declared.Stage.{Stage}
 use Rattle.rules.specs.declared.Stream.{Stream}
 use Rattle.rules.specs.declared.Message.{Message}
 use Rattle.rules.specs.Streams.{stream_at, stage_at, no_stream, no_stage}
-use Rattle.rules.specs.States.{stages_in, cost_of, span_of, posted_at, message_tests, message_ok}
+use Rattle.rules.specs.States.{stages_in, task_of, cost_of, span_of, posted_at, message_tests, message_ok}
 
 -- the message m stands behind one that was posted at `before`
 pub record Standing (x : Set) (clock before : ℕ) (m : Message) : Type 0 where
@@ -71,8 +71,46 @@ message_past x clock before m h =
     (λ t. absurd (omega (arith, h, stage_room x clock before m (standing x clock before m t))))
     (λ t. t)
 
--- y is its stream, its stage is read of it, and `at` is the clock at which it was posted
-pub message_by : (x : Set) (clock before : ℕ) (m : Message) (y : Stream) (at : ℕ) → m.stream < x.count → y ≡ stream_at x m.stream → at ≡ m.deadline - y.deadline
-    → (ltb m.stage y.depth && (ltb m.used (stage_at y m.stage).cost && ((leb y.deadline m.deadline && leb at clock) && leb before at))) ≡ message_ok x clock before m
-unfolding message_ok
-message_by x clock before m y at h e₁ e₂ = rw (e₂, e₁, lt-ltb m.stream x.count h, leb_less m.deadline (span_of x m) clock)
+-- a message whose deadline is before the d of its stream
+pub message_early : (x : Set) (clock before : ℕ) (m : Message) → m.deadline < span_of x m → message_ok x clock before m ≡ false
+message_early x clock before m h =
+    by_test (message_ok x clock before m)
+    (λ t. absurd (omega (arith, h, (standing x clock before m t).early)))
+    (λ t. t)
+
+-- as the code reads it: y is its stream, g its stage, and `at` the clock at which it was posted
+module _ (x : Set) (clock before : ℕ) (m : Message) (y : Stream) (g : Stage) (at : ℕ) (e : y ≡ stream_at x m.stream) (f : g ≡ stage_at y m.stage)
+    (q : y.deadline ≤ m.deadline) (r : at ≡ m.deadline - y.deadline) where
+  pub posted_is : at ≡ posted_at x m
+  posted_is = r ∙ ap (λ (z : Stream). m.deadline - z.deadline) e
+
+  pub task_is : g.task ≡ task_of x m
+  task_is = ap (λ (h : Stage). h.task) f ∙ ap (λ (z : Stream). (stage_at z m.stage).task) e
+
+  cost_is : g.cost ≡ cost_of x m
+  cost_is = ap (λ (h : Stage). h.cost) f ∙ ap (λ (z : Stream). (stage_at z m.stage).cost) e
+
+  depth_is : y.depth ≡ stages_in x m
+  depth_is = ap (λ (z : Stream). z.depth) e
+
+  span_is : y.deadline ≡ span_of x m
+  span_is = ap (λ (z : Stream). z.deadline) e
+
+  pub message_yes : m.stream < x.count → m.stage < y.depth → m.used < g.cost → at ≤ clock → before ≤ at → message_ok x clock before m ≡ true
+  message_yes a b c d h =
+      standing_ok x clock before m (record {
+        stream = a;
+        stage = omega (arith, b, depth_is);
+        used = omega (arith, c, cost_is);
+        early = omega (arith, q, span_is);
+        late = omega (arith, d, q, r, span_is);
+        order = omega (arith, h, posted_is);
+      })
+
+  pub message_no : (m.stream < x.count → m.stage < y.depth → m.used < g.cost → at ≤ clock → before ≤ at → ⊥) → message_ok x clock before m ≡ false
+  message_no n =
+      by_test (message_ok x clock before m)
+      (λ t.
+      let h = standing x clock before m t in
+      absurd (n h.stream (omega (arith, h.stage, depth_is)) (omega (arith, h.used, cost_is)) (omega (arith, h.late, r, span_is)) (omega (arith, h.order, posted_is))))
+      (λ t. t)

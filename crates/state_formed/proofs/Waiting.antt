@@ -3,57 +3,49 @@
 use Prim.Native.Nat.{ℕ, ◌+◌, ◌≤◌, ◌<◌}
 use native.Mathlib.Omega.{arith}
 use native.Mathlib.Numerals.{add-one}
-use mathlib.Core.Bool.{Bool, true, false, ◌&&◌}
+use mathlib.Core.Bool.{true, false}
 use mathlib.Core.List.{List}
-use mathlib.Core.Path.{◌≡◌, refl, ap, ◌∙◌}
+use mathlib.Core.Path.{◌≡◌, refl, ap, sym, ◌∙◌}
 use lib.Dec.{leb}
 use lib.ListN.{length, get_or, set, length-set}
-use Rattle.laws.specs.Lists.{below, all}
-use Rattle.laws.proofs.Parts.{get_d_any}
-use Rattle.rules.specs.declared.Set.{Set}
+use lib.Seq.{get_or-set_other}
+use Rattle.std.specs.List.{list_all}
+use Rattle.laws.specs.Lists.{below}
+use Rattle.laws.proofs.Parts.{below_no, get_d_any}
 use Rattle.rules.specs.declared.Door.{Door}
-use Rattle.rules.specs.Streams.{no_stream, stream_at}
+use Rattle.rules.specs.declared.Stream.{Stream}
+use Rattle.rules.specs.Streams.{no_stream}
 use Rattle.rules.specs.Doors.{door_of, most_wait, wait_later, waits_later}
-use Rattle.rules.specs.States.{wait_ok}
+use Rattle.std.specs.Prelude.{Some, None}
+use Rattle.state_formed.specs.InRange.{door_allows, waits_left}
 use Rattle.stream_doors.proofs.Walks.{passed, begun, pass_go, pass_end}
-use Rattle.state_formed.proofs.WellFormed.{blank}
 
-and_turn : (a b : Bool) → (a && b) ≡ (b && a)
-and_turn true true = refl
-and_turn true false = refl
-and_turn false true = refl
-and_turn false false = refl
-
-pub record Waiting (x : Set) (ws : List ℕ) (k : ℕ) (later : List ℕ) (kept : Bool) : Type 0 where
-  pub sixteen : length x.streams ≡ 16
-  pub waits : length ws ≡ 16
+pub record Waiting (ss : List Stream) (ws : List ℕ) (k : ℕ) (later : List ℕ) : Type 0 where
   pub long : length later ≡ 16
-  pub here : k ≤ 16
-  pub tested : kept ≡ all (wait_ok x ws) (below k)
-  pub rest : passed k x.streams later ≡ waits_later x.streams ws
+  pub tested : list_all (door_allows ss ws) (below k) ≡ true
+  pub ahead : (j : ℕ) → k ≤ j → get_or later j 0 ≡ get_or ws j 0
+  pub rest : passed k ss later ≡ waits_later ss ws
 
-pub wait_start : (x : Set) (ws : List ℕ) → length x.streams ≡ 16 → length ws ≡ 16 → Waiting x ws 0 ws true
-unfolding all
-wait_start x ws l m = record { sixteen = l; waits = m; long = m; here = omega arith; tested = refl; rest = begun x.streams ws }
+pub wait_start : (ss : List Stream) (ws : List ℕ) → length ws ≡ 16 → Waiting ss ws 0 ws
+wait_start ss ws l = record { long = l; tested = refl; ahead = λ j h. refl; rest = begun ss ws }
 
-pub wait_go : (x : Set) (ws : List ℕ) (k : ℕ) (later : List ℕ) (kept r : Bool) (d : Door) (w : ℕ) → Waiting x ws k later kept → k < 16
-    → d ≡ door_of (get_or x.streams k blank) → r ≡ leb (get_or ws k 0) (most_wait d) → w ≡ wait_later d (get_or later k 0)
-    → Waiting x ws (k + 1) (set later k w) (kept && r)
-unfolding all wait_ok
-wait_go x ws k later kept r d w h q e f g = record {
-  sixteen = h.sixteen;
-  waits = h.waits;
-  long = simp length-set h.long;
-  here = omega arith;
-  tested =
-      rw (add-one k, h.tested, f, e, get_d_any x.streams k blank no_stream (omega (arith, h.sixteen)))
-      (and_turn (all (wait_ok x ws) (below k)) (leb (get_or ws k 0) (most_wait (door_of (stream_at x k)))));
-  rest = pass_go x.streams later k _ h.rest d w h.sixteen h.long q e g;
-}
+-- the door is that of the stream at k, read with any default
+module _ (ss : List Stream) (ws : List ℕ) (k : ℕ) (later : List ℕ) (h : Waiting ss ws k later) (l : length ss ≡ 16) (q : k < 16) (d : Door) (y : Stream) (e : d ≡ door_of (get_or ss k y)) where
+  door : d ≡ door_of (get_or ss k no_stream)
+  door = e ∙ ap door_of (get_d_any ss k y no_stream (omega arith))
 
-module _ (x : Set) (ws : List ℕ) (k : ℕ) (later : List ℕ) (kept : Bool) (h : Waiting x ws k later kept) (q : 16 ≤ k) where
-  pub all_tested : kept ≡ all (wait_ok x ws) (below 16)
-  all_tested = let e : k ≡ 16 = omega (arith, h.here) in h.tested ∙ ap (λ (n : ℕ). all (wait_ok x ws) (below n)) e
+  pub wait_go : true ≡ leb (get_or ws k 0) (most_wait d) → (w : ℕ) → w ≡ wait_later d (get_or ws k 0) → Waiting ss ws (k + 1) (set later k w)
+  wait_go t w f = record {
+    long = simp length-set h.long;
+    tested = rw (add-one k, h.tested, ← door, ← t) refl;
+    ahead = λ j g. get_or-set_other later k j w 0 (omega arith) ∙ h.ahead j (omega arith);
+    rest = pass_go ss later k _ h.rest d w l h.long q door (f ∙ ap (wait_later d) (sym (h.ahead k (omega arith))));
+  }
 
-  pub all_passed : later ≡ waits_later x.streams ws
-  all_passed = pass_end x.streams later k _ h.rest h.sixteen h.long q
+  pub wait_no : false ≡ leb (get_or ws k 0) (most_wait d) → None ≡ waits_left ss ws
+  unfolding waits_left
+  wait_no t = rw (sym (below_no (door_allows ss ws) 16 k q (rw (← door, ← t) refl)))
+
+pub wait_end : (ss : List Stream) (ws : List ℕ) (k : ℕ) (later : List ℕ) → Waiting ss ws k later → length ss ≡ 16 → k ≡ 16 → Some later ≡ waits_left ss ws
+unfolding waits_left
+wait_end ss ws k later h l e = rw (rw e at h.tested, pass_end ss later k _ h.rest l h.long (omega arith))

@@ -2,14 +2,15 @@
 -- Assumes nothing.
 use Prim.Native.Nat.{ℕ, ◌+◌, ◌-◌, ◌≤◌, ◌<◌}
 use mathlib.Core.Bool.{true, false, false≢true}
-use mathlib.Core.List.{List, [], ◌∷◌}
+use mathlib.Core.List.{[], ◌∷◌}
 use mathlib.Core.Path.{◌≡◌, refl, ap, sym, ◌∙◌}
 use native.Mathlib.Omega.{arith}
 use borrow.Author.Tests.{leb-true, le-leb, eqb-true}
 use lib.Dec.{eqb}
 use lib.ListN.{length, get_or, drop}
 use lib.Seq.{get_or-take, get_or-drop, length-take-le}
-use Rattle.laws.specs.Lists.{below, all, every}
+use Rattle.std.specs.List.{list_all}
+use Rattle.laws.specs.Lists.{below}
 use Rattle.laws.proofs.Parts.{every_at_lem, all_any, scan_at, get_d_any}
 use Rattle.laws.proofs.Sums.{all_take_at, by_test}
 use Rattle.rules.specs.declared.Set.{Set}
@@ -20,16 +21,12 @@ use Rattle.rules.specs.Streams.{no_stage, no_stream, stream_at, stage_at, valid}
 use Rattle.rules.specs.declared.Party.{Party}
 use Rattle.rules.specs.declared.Party.TheVariants.{Ours, Theirs}
 use Rattle.rules.specs.Parties.{together, owner_unused, places_of}
-use Rattle.state_parties.specs.declared.Held.{Held}
-use Rattle.state_parties.specs.Shares.{held_in}
 use Rattle.rules.specs.States.{held_by, no_message, pending, stages_in, stage_of, task_of, posted_at, message_ok, messages_ok, started_once, message_unused, wait_ok, state_tests, well_formed}
 use Rattle.rules.specs.Steps.{message_at}
 use Rattle.rules.specs.Valid.{ValidStage, ValidStream}
 use Rattle.rules.proofs.Valid.{valid_set}
 use Rattle.rules.proofs.Parties.{held_both}
-use Rattle.rules.specs.Doors.{waits_later}
-use Rattle.state_formed.specs.declared.Tested.{Tested}
-use Rattle.state_formed.specs.InRange.{InRange, rest_formed, failing, tested_of, whole_of}
+use Rattle.state_formed.specs.InRange.{InRange, rest_formed}
 use Rattle.state_formed.proofs.Standing.{Standing, standing, stage_room}
 
 -- the default of a place that the machine reads within an array
@@ -41,11 +38,11 @@ pub record WellFormed (s : State) : Type 0 where
   pub few : s.count ≤ 64
   pub clock : s.clock ≤ 4000000000
   pub each : messages_ok s.set s.clock (pending s) ≡ true
-  pub once : all (started_once s.set (pending s)) (below 16) ≡ true
-  pub unused : all message_unused (drop s.count s.messages) ≡ true
-  pub waits : all (wait_ok s.set s.waits) (below 16) ≡ true
+  pub once : list_all (started_once s.set (pending s)) (below 16) ≡ true
+  pub unused : list_all message_unused (drop s.count s.messages) ≡ true
+  pub waits : list_all (wait_ok s.set s.waits) (below 16) ≡ true
   pub together_fit : together s.places ≤ 64
-  pub rest_ours : all owner_unused (drop s.set.count s.owners) ≡ true
+  pub rest_ours : list_all owner_unused (drop s.set.count s.owners) ≡ true
   pub ours_fit : held_by s Ours ≤ places_of s.places Ours
   pub theirs_fit : held_by s Theirs ≤ places_of s.places Theirs
 
@@ -135,50 +132,6 @@ module _ (s : State) (h : InRange s) (ms : length s.messages ≡ 64) (k : ℕ) (
     stage_read_lem = ap (λ (y : Stream). stage_at y (message_at s k).stage) stream_read_lem
 
 -- a test that fails, of those behind the set's
-pub no_test : (s : State) (k : ℕ) → get_or (drop 1 (state_tests s)) k true ≡ false → false ≡ rest_formed s
+pub no_test : (s : State) (k : ℕ) → get_or (drop 1 (state_tests s)) k true ≡ false → rest_formed s ≡ false
 unfolding rest_formed
-no_test s k e = by_test (rest_formed s) (λ t. absurd (false≢true (sym e ∙ every_at_lem (drop 1 (state_tests s)) k t))) (λ t. sym t)
-
--- the set's test, and the rest
-pub set_fails : (s : State) → valid s.set ≡ false → false ≡ well_formed s
-unfolding well_formed
-set_fails s e = rw e refl
-
-pub rest_tells : (s : State) (r : Tested) → valid s.set ≡ true → r ≡ tested_of s → r.sound ≡ well_formed s
-unfolding well_formed rest_formed tested_of
-rest_tells s r e f = rw (f, e) (by_test (every (drop 1 (state_tests s))) (λ t. rw t) (λ t. rw t))
-
-pub rest_whole : (s : State) (r : Tested) → valid s.set ≡ true → r ≡ tested_of s → r ≡ whole_of s
-unfolding well_formed rest_formed tested_of whole_of
-rest_whole s r e f = f ∙ rw e
-
-pub set_fails_whole : (s : State) → valid s.set ≡ false → failing s.waits ≡ whole_of s
-unfolding well_formed whole_of
-set_fails_whole s e = rw e
-
--- what all tests say of the state, and what they give
-pub whole_tells : (s : State) (r : Tested) → r ≡ whole_of s → r.sound ≡ well_formed s
-unfolding whole_of
-whole_tells s r f = rw f (by_test (well_formed s) (λ t. rw t) (λ t. rw t))
-
-pub whole_held : (s : State) (r : Tested) → r ≡ whole_of s → r.sound ≡ true → r.held ≡ held_in s.owners (pending s)
-unfolding whole_of
-whole_held s r e f = by_test (well_formed s) (λ t. rw (e, t)) (λ t. absurd (false≢true (let z : false ≡ true = rw (e, t) at f in z)))
-
--- what the tests give
-pub fails_so : (s : State) → false ≡ rest_formed s → failing s.waits ≡ tested_of s
-unfolding tested_of
-fails_so s e = rw (← e)
-
-pub sound_so : (s : State) (ws : List ℕ) (h : Held) → true ≡ rest_formed s → ws ≡ waits_later s.set.streams s.waits → h ≡ held_in s.owners (pending s)
-    → record { sound = true; later = ws; held = h } ≡ tested_of s
-unfolding tested_of
-sound_so s ws h e f g = rw (← e, f, g)
-
-pub sound_later : (s : State) (r : Tested) → r ≡ tested_of s → r.sound ≡ true → r.later ≡ waits_later s.set.streams s.waits
-unfolding tested_of
-sound_later s r e f = by_test (rest_formed s) (λ t. rw (e, t)) (λ t. absurd (false≢true (let z : false ≡ true = rw (e, t) at f in z)))
-
-pub fails_later : (s : State) (r : Tested) → r ≡ tested_of s → r.sound ≡ false → r.later ≡ s.waits
-unfolding tested_of
-fails_later s r e f = by_test (rest_formed s) (λ t. absurd (false≢true (sym (let z : true ≡ false = rw (e, t) at f in z)))) (λ t. rw (e, t))
+no_test s k e = by_test (rest_formed s) (λ t. absurd (false≢true (sym e ∙ every_at_lem (drop 1 (state_tests s)) k t))) (λ t. t)

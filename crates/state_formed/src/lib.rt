@@ -1,11 +1,12 @@
 // Is a state well formed? And the readers that the steps use.
 #![tactic(auto)]
 
-ghost use Rattle.std.specs.Prelude.{◌≡◌};
-ghost use Rattle.rules.specs.States.{no_message, message_unused, well_formed};
-ghost use Rattle.state_formed.specs.InRange.{failing, tested_of, whole_of};
+ghost use Rattle.std.specs.Prelude.{◌≡◌, cond};
+ghost use Rattle.std.specs.List.{list_all};
+ghost use Rattle.rules.specs.States.{no_message, message_ok, message_unused, posted_at, task_of, well_formed};
+ghost use Rattle.state_formed.specs.InRange.{messages_pass, waits_left, tested_of, whole_of};
 
-use rules::{Message, State};
+use rules::{Message, Set, State, Stream};
 use state_parties::Held;
 
 pub fn no_message() -> Message
@@ -19,130 +20,117 @@ pub fn no_message() -> Message
     }
 }
 
-fn message_unused(m: Message) -> bool
-    ensures { result ≡ message_unused m }
+#[tactic(auto, unfolding(rules::specs::States::message_unused))]
+fn message_unused(m: &Message) -> bool
+    ensures { result ≡ message_unused m.now }
 {
-    (m.stream == 0) & ((m.deadline == 0) & ((m.used == 0) & (m.stage == 0)))
+    m.stream == 0 && m.deadline == 0 && m.used == 0 && m.stage == 0
 }
 
-// What the tests of a state but for its set's say, what a unit that moves the clock leaves of the waits, and how many pending messages each party has; the
-// waits as they are, and none, where a test fails.
+fn places_unused(places: &[Message]) -> bool
+    ensures { result ≡ list_all message_unused places.now }
+{
+    places.iter().all(message_unused)
+}
+
+// ---- the pending messages
+
+// The clock at which a message was posted, and the task of its stage, where it keeps the rules of a message behind one that was posted at `before`: it names
+// a stream of the set and one of its stages, has used less than that stage's c, and was posted by now and not before the one in front of it.
+fn stands(set: &Set, clock: u32, before: u32, m: &Message) -> Option<(u32, usize)>
+    ensures { result ≡ cond (message_ok set.now clock before m.now) (Some (posted_at set.now m.now, task_of set.now m.now)) None }
+{
+    let stream = set.streams.get(m.stream)?;
+    let stage = stream.stages.get(m.stage)?;
+    let posted = m.deadline.checked_sub(stream.deadline)?;
+    if set.count <= m.stream
+        || stream.depth <= m.stage
+        || stage.cost <= m.used
+        || clock < posted
+        || posted < before
+    {
+        return None;
+    }
+    Some((posted, stage.task))
+}
+
+// Each message keeps its rules, and is its task's only started one.
+fn messages_pass(set: &Set, clock: u32, pending: &[Message]) -> bool
+    ensures { result ≡ messages_pass set.now clock pending.now }
+{
+    let mut started = [false; 16];
+    let mut before = 0;
+    for m in pending {
+        let Some((posted, task)) = stands(set, clock, before, m) else {
+            return false;
+        };
+        if 0 < m.used && task < 16 {
+            if started[task] {
+                return false;
+            }
+            started[task] = true;
+        }
+        before = posted;
+    }
+    true
+}
+
+// ---- the waits
+
+// What a unit that moves the clock leaves of the waits, where each is at most what its stream's door allows.
+fn waits_left(streams: &[Stream; 16], waits: &[u32; 16]) -> Option<[u32; 16]>
+    ensures { result ≡ waits_left streams.now waits.now }
+{
+    let mut later = *waits;
+    for (k, stream) in streams.iter().enumerate() {
+        let door = stream_doors::door_of(stream);
+        if !stream_doors::may_wait(door, waits[k]) {
+            return None;
+        }
+        later[k] = stream_doors::wait_later(door, waits[k]);
+    }
+    Some(later)
+}
+
+// ---- the whole
+
+// What is told of a state whose tests pass: what a unit that moves the clock leaves of the waits, and how many pending messages each party has.
 #[derive(Clone, Copy)]
 pub struct Tested {
-    pub sound: bool,
     pub later: [u32; 16],
     pub held: Held,
 }
 
-fn fails(waits: [u32; 16]) -> Tested
-    ensures { result ≡ failing waits }
+// The tests of a state but for the first, that its set is valid: of its messages, the places behind them, its waits and its parties.
+pub fn formed(s: &State) -> Option<Tested>
+    ensures { result ≡ tested_of s.now }
 {
-    let held = Held { ours: 0, theirs: 0 };
-    Tested {
-        sound: false,
-        later: waits,
-        held,
+    if 64 < s.count || rules::LAST_CLOCK < s.clock {
+        return None;
     }
-}
-
-// The tests of a state but for the first, that its set is valid. A first pass over the pending messages: each names a stream of the set and one of its
-// stages, has used less than that stage's c, was posted by now and not before the one in front of it, and is that stage's task's only started one. A second
-// over the places behind: they are zero. A third over the waits: each is at most what its stream's door allows; what a unit leaves of it is reckoned in the
-// same pass, where the door is at hand. All passes stand here, since what is handed to another function is copied. Behind them the parties' rules.
-pub fn formed(s: State) -> Tested
-    ensures { result ≡ tested_of s }
-{
-    let waits = s.waits;
-    if 64 < s.count {
-        return fails(waits);
+    let (pending, unused) = s.messages.split_at(s.count);
+    if !messages_pass(&s.set, s.clock, pending) || !places_unused(unused) {
+        return None;
     }
-    if rules::LAST_CLOCK < s.clock {
-        return fails(waits);
-    }
-    let set = s.set;
-    let messages = s.messages;
-    let mut counts = [0u32; 16];
-    let mut before: u32 = 0;
-    let mut k: usize = 0;
-    while k < s.count {
-        let m = messages[k];
-        let i = m.stream;
-        let j = m.stage;
-        if !((i < set.count) & ((i < 16) & (j < 4))) {
-            return fails(waits);
-        }
-        let x = set.streams[i];
-        // an index reads from a copy: of the stages alone
-        let gs = x.stages;
-        let g = gs[j];
-        let t = g.task;
-        let at = stream_valid::less(m.deadline, x.deadline);
-        let ok = (j < x.depth)
-            & ((m.used < g.cost)
-                & (((x.deadline <= m.deadline) & (at <= s.clock)) & (before <= at)));
-        if !ok {
-            return fails(waits);
-        }
-        if (0 < m.used) & (t < 16) {
-            if 0 < counts[t] {
-                return fails(waits);
-            }
-            counts[t] = 1;
-        }
-        before = at;
-        k = k + 1;
-    }
-    let mut unused = true;
-    while k < 64 {
-        let m = messages[k];
-        let zero = message_unused(m);
-        unused = unused & zero;
-        k = k + 1;
-    }
-    let mut later = waits;
-    let mut kept = true;
-    k = 0;
-    while k < 16 {
-        let x = set.streams[k];
-        let d = stream_doors::door_of(x);
-        let ok = stream_doors::may_wait(d, waits[k]);
-        kept = kept & ok;
-        let w = stream_doors::wait_later(d, later[k]);
-        later[k] = w;
-        k = k + 1;
-    }
-    let owners = s.owners;
-    let places = s.places;
-    let shared = state_parties::share(messages, s.count, owners, set.count, places);
-    let held = shared.held;
-    if unused & (kept & shared.fits) {
-        return Tested {
-            sound: true,
-            later,
-            held,
-        };
-    }
-    fails(waits)
+    let later = waits_left(&s.set.streams, &s.waits)?;
+    let held = state_parties::share(pending, &s.owners, s.set.count, s.places)?;
+    Some(Tested { later, held })
 }
 
 // What the tests of a state say, its set's first.
-pub fn inspect(s: State) -> Tested
-    ensures { result ≡ whole_of s }
+pub fn inspect(s: &State) -> Option<Tested>
+    ensures { result ≡ whole_of s.now }
 {
-    if !stream_valid::is_valid(s.set) {
-        let waits = s.waits;
-        return fails(waits);
+    if stream_valid::is_valid(s.set) {
+        formed(s)
+    } else {
+        None
     }
-    formed(s)
 }
 
-// Is the state well formed? A parameter that is not read by an index here is handed on without a copy.
-pub fn well_formed(s: State) -> bool
-    ensures { result ≡ well_formed s }
+// Is the state well formed?
+pub fn well_formed(s: &State) -> bool
+    ensures { result ≡ well_formed s.now }
 {
-    if !stream_valid::is_valid(s.set) {
-        return false;
-    }
-    let tested = formed(s);
-    tested.sound
+    inspect(s).is_some()
 }

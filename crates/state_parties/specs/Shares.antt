@@ -1,18 +1,16 @@
 -- What the parties have of the message table, and their rules.
 -- Assumes nothing.
-use Rattle.std.specs.Prelude.{ℕ, Bool, ◌&&◌, List, leb, ltb, drop, take}
-use Rattle.laws.specs.Lists.{all}
+use Rattle.std.specs.Prelude.{ℕ, Bool, ◌&&◌, cond, List, leb, ltb, drop, Option, Some, None}
+use Rattle.std.specs.List.{list_all}
 use Rattle.rules.specs.declared.Message.{Message}
-use Rattle.rules.specs.declared.Owner.{Owner}
 use Rattle.rules.specs.declared.Party.{Party}
 use Rattle.rules.specs.declared.Party.TheVariants.{Ours, Theirs}
 use Rattle.rules.specs.declared.Places.{Places}
 use Rattle.rules.specs.Parties.{held_of, places_of, together, owner_unused}
 use Rattle.state_parties.specs.declared.Held.{Held}
-use Rattle.state_parties.specs.declared.Shared.{Shared}
 
 -- how many of the messages each party has
-abbrev pub held_in : List Owner → List Message → Held
+abbrev pub held_in : List Party → List Message → Held
 held_in owners ms = record { ours = held_of owners Ours ms; theirs = held_of owners Theirs ms }
 
 abbrev pub held_for : Held → Party → ℕ
@@ -20,16 +18,16 @@ held_for h Ours = h.ours
 held_for h Theirs = h.theirs
 
 -- the parties' four rules, of messages and a set of so many streams
-abbrev pub fits_of : List Message → List Owner → ℕ → Places → Bool
+abbrev pub fits_of : List Message → List Party → ℕ → Places → Bool
 fits_of ms owners streams places =
     leb (together places) 64
-    && (all owner_unused (drop streams owners)
+    && (list_all owner_unused (drop streams owners)
     && (leb (held_of owners Ours ms) (places_of places Ours)
     && leb (held_of owners Theirs ms) (places_of places Theirs)))
 
--- of the first n of an array
-abbrev pub shared_of : List Message → ℕ → List Owner → ℕ → Places → Shared
-shared_of ms n owners streams places = record { fits = fits_of (take n ms) owners streams places; held = held_in owners (take n ms) }
+-- how many each party has, where the rules are kept
+abbrev pub shared_of : List Message → List Party → ℕ → Places → Option Held
+shared_of ms owners streams places = cond (fits_of ms owners streams places) (Some (held_in owners ms)) None
 
 -- is a place left for a party?
 unfoldable pub place_left : Party → Held → Places → Bool

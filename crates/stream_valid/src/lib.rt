@@ -1,9 +1,10 @@
 // Streams and sets: is a set valid, and what is read of it.
 #![tactic(auto)]
 
-ghost use Rattle.std.specs.Prelude.{◌≡◌, true, cond, ◌&&◌, eqb, drop, ◌-◌};
-ghost use Rattle.laws.specs.Lists.{all};
-ghost use Rattle.rules.specs.Streams.{offset, cycle_ok, tuple_ok, tuples_ok, tuple_unused, tuples_of, stage_ok, stage_unused, stages_of, stream_ok, stream_unused, one_stage, streams_of, valid, no_tuple, no_stage, no_stream, empty_set, stream_at};
+ghost use Rattle.std.specs.Prelude.{◌≡◌, ◌≤◌, Bool, ◌&&◌, length, take, drop};
+ghost use Rattle.std.specs.List.{list_all};
+ghost use Rattle.laws.specs.Lists.{within};
+ghost use Rattle.rules.specs.Streams.{offset, cycle_ok, tuple_ok, tuples_ok, tuple_unused, tuples_of, stage_ok, stage_unused, stages_of, stream_ok, stream_unused, one_stage, streams_of, version_ok, valid, no_stream, empty_set, stream_at};
 
 use rules::{Set, Stage, Stream, Tuple, TuplePlace};
 
@@ -23,222 +24,211 @@ fn cycle_ok(t: Tuple) -> bool
 {
     match t {
         Tuple::Once(_) => true,
-        Tuple::Every(z, _) => (1 <= z) & (z <= 1000000),
+        Tuple::Every(z, _) => (1..=1000000).contains(&z),
     }
 }
 
 // A tuple behind one with the offset `before`.
+#[tactic(auto, unfolding(rules::specs::Streams::tuple_ok))]
 fn tuple_ok(before: u32, p: TuplePlace) -> bool
     ensures { result ≡ tuple_ok before p }
 {
-    let t = p.tuple;
-    let a = offset_of(t);
-    let cycle = cycle_ok(t);
-    (before <= a) & ((a <= 100000) & cycle)
+    let a = offset_of(p.tuple);
+    (before <= a) & (a <= 100000) & cycle_ok(p.tuple)
 }
 
+#[tactic(auto, unfolding(rules::specs::Streams::tuple_unused))]
 fn tuple_unused(p: TuplePlace) -> bool
     ensures { result ≡ tuple_unused p }
 {
-    let t = p.tuple;
-    match t {
-        Tuple::Once(a) => a == 0,
-        Tuple::Every(_, _) => false,
-    }
+    matches!(p.tuple, Tuple::Once(0))
 }
 
-// A place for a tuple, in use or not, behind a tuple with the offset `before`.
-fn tuple_fits(used: bool, before: u32, p: TuplePlace) -> bool
-    ensures { result ≡ cond used (tuple_ok before p) (tuple_unused p) }
+fn tuples_unused(ts: &[TuplePlace]) -> bool
+    ensures { result ≡ list_all tuple_unused ts.now }
 {
-    if used {
-        tuple_ok(before, p)
-    } else {
-        tuple_unused(p)
-    }
+    ts.iter().all(|p| tuple_unused(*p))
 }
 
 // The tuples in use are in the rules and their offsets never fall; the other places are unused.
 pub fn tuples_fit(s: Stream) -> bool
-    ensures { result ≡ (tuples_ok (tuples_of s) && all tuple_unused (drop s.count s.tuples)) }
+    ensures { result ≡ (tuples_ok (tuples_of s) && list_all tuple_unused (drop s.count s.tuples)) }
 {
-    let n = s.count;
     let mut ok = true;
-    let mut before: u32 = 0;
-    let mut k: usize = 0;
-    while k < 4 {
-        let p = s.tuples[k];
-        let fits = tuple_fits(k < n, before, p);
-        ok = ok & fits;
-        let t = p.tuple;
-        before = offset_of(t);
-        k = k + 1;
+    let mut before = 0;
+    for (k, p) in s.tuples.iter().enumerate() {
+        ok &= if k < s.count {
+            tuple_ok(before, *p)
+        } else {
+            tuple_unused(*p)
+        };
+        before = offset_of(p.tuple);
     }
     ok
 }
 
-fn tuples_unused(s: Stream) -> bool
-    ensures { result ≡ all tuple_unused s.tuples }
+// What fills the places of an array: in use it has to be in the rules, and zero otherwise.
+trait Part {
+    ghost ok: { Self → Bool };
+
+    ghost unused: { Self → Bool };
+
+    fn ok(&self) -> bool
+        ensures { result ≡ ok self.now };
+
+    fn unused(&self) -> bool
+        ensures { result ≡ unused self.now };
+}
+
+// The first `n` places are in the rules, the others unused. No place ends the loop early: most sets are valid, and their tests run side by side.
+fn parts_fit<T: Part>(parts: &[T], n: usize) -> bool
+    ensures { result ≡ (list_all T.ok (take n parts.now) && list_all T.unused (drop n parts.now)) }
 {
     let mut ok = true;
-    let mut k: usize = 0;
-    while k < 4 {
-        let p = s.tuples[k];
-        let fits = tuple_unused(p);
-        ok = ok & fits;
-        k = k + 1;
+    for (k, part) in parts.iter().enumerate() {
+        ok &= if k < n { part.ok() } else { part.unused() };
     }
     ok
 }
 
-fn stage_ok(g: Stage) -> bool
-    ensures { result ≡ stage_ok g }
-{
-    (g.task <= 15) & ((1 <= g.cost) & (g.cost <= 65535))
-}
+impl Part for Stage {
+    ghost ok = { stage_ok };
 
-fn stage_unused(g: Stage) -> bool
-    ensures { result ≡ stage_unused g }
-{
-    (g.task == 0) & (g.cost == 0)
-}
+    ghost unused = { stage_unused };
 
-// A place for a stage, in use or not.
-fn stage_fits(used: bool, g: Stage) -> bool
-    ensures { result ≡ cond used (stage_ok g) (stage_unused g) }
-{
-    if used { stage_ok(g) } else { stage_unused(g) }
+    #[tactic(auto, unfolding(rules::specs::Streams::stage_ok))]
+    fn ok(&self) -> bool {
+        (self.task <= 15) & (1..=65535).contains(&self.cost)
+    }
+
+    #[tactic(auto, unfolding(rules::specs::Streams::stage_unused))]
+    fn unused(&self) -> bool {
+        (self.task == 0) & (self.cost == 0)
+    }
 }
 
 // The stages in use are in the rules; the other places are unused.
 pub fn stages_fit(s: Stream) -> bool
-    ensures { result ≡ (all stage_ok (stages_of s) && all stage_unused (drop s.depth s.stages)) }
+    ensures { result ≡ (list_all stage_ok (stages_of s) && list_all stage_unused (drop s.depth s.stages)) }
 {
-    let n = s.depth;
-    let mut ok = true;
-    let mut k: usize = 0;
-    while k < 4 {
-        let g = s.stages[k];
-        let fits = stage_fits(k < n, g);
-        ok = ok & fits;
-        k = k + 1;
+    parts_fit(&s.stages, s.depth)
+}
+
+// How many stages or tuples a stream has.
+fn count_ok(n: usize) -> bool
+    ensures { result ≡ within 1 n 4 }
+{
+    (1..=4).contains(&n)
+}
+
+fn deadline_ok(d: u32) -> bool
+    ensures { result ≡ within 1 d 200000 }
+{
+    (1..=200000).contains(&d)
+}
+
+impl Part for Stream {
+    ghost ok = { stream_ok };
+
+    ghost unused = { stream_unused };
+
+    #[tactic(auto, using(laws::proofs::Fits::and_assoc), unfolding(rules::specs::Streams::stream_ok))]
+    fn ok(&self) -> bool {
+        count_ok(self.depth)
+            & stages_fit(*self)
+            & deadline_ok(self.deadline)
+            & count_ok(self.count)
+            & (offset_of(self.tuples[0].tuple) == 0)
+            & tuples_fit(*self)
     }
-    ok
-}
 
-fn stages_unused(s: Stream) -> bool
-    ensures { result ≡ all stage_unused s.stages }
-{
-    let mut ok = true;
-    let mut k: usize = 0;
-    while k < 4 {
-        let g = s.stages[k];
-        let fits = stage_unused(g);
-        ok = ok & fits;
-        k = k + 1;
+    #[tactic(auto, unfolding(rules::specs::Streams::stream_unused))]
+    fn unused(&self) -> bool {
+        (self.depth == 0)
+            & parts_fit(&self.stages, 0)
+            & (self.deadline == 0)
+            & (self.count == 0)
+            & tuples_unused(&self.tuples)
     }
-    ok
 }
 
-fn stream_ok(s: Stream) -> bool
-    ensures { result ≡ stream_ok s }
+fn one_stage_each(x: &Set) -> bool
+    ensures { result ≡ list_all one_stage (streams_of x.now) }
 {
-    let p = s.tuples[0];
-    let t = p.tuple;
-    let a = offset_of(t);
-    let fit = tuples_fit(s);
-    let staged = stages_fit(s);
-    ((1 <= s.depth) & (s.depth <= 4))
-        & (staged
-            & (((1 <= s.deadline) & (s.deadline <= 200000))
-                & (((1 <= s.count) & (s.count <= 4)) & ((a == 0) & fit))))
+    streams_of(x).iter().all(|s| s.depth == 1)
 }
 
-fn stream_unused(s: Stream) -> bool
-    ensures { result ≡ stream_unused s }
+// Is the set's version one of the two? In version 1 every stream has one stage.
+#[tactic(auto, unfolding(rules::specs::Streams::version_ok))]
+fn version_ok(x: &Set) -> bool
+    ensures { result ≡ version_ok x.now }
 {
-    let rest = tuples_unused(s);
-    let unstaged = stages_unused(s);
-    (s.depth == 0) & (unstaged & ((s.deadline == 0) & ((s.count == 0) & rest)))
+    match x.version {
+        1 => one_stage_each(x),
+        version => version == 2,
+    }
 }
 
-// A place for a stream, in use or not.
-fn stream_fits(used: bool, s: Stream) -> bool
-    ensures { result ≡ cond used (stream_ok s) (stream_unused s) }
-{
-    if used { stream_ok(s) } else { stream_unused(s) }
-}
-
-// A place for a stream, in use or not: a stream in use has one stage.
-fn one_stage(used: bool, s: Stream) -> bool
-    ensures { result ≡ cond used (one_stage s) true }
-{
-    if used { s.depth == 1 } else { true }
-}
-
-// Is the set's version one of the two? `single` says whether every stream has one stage.
-fn version_ok(version: u32, single: bool) -> bool
-    ensures { result ≡ cond (eqb version 1) single (eqb version 2) }
-{
-    if version == 1 { single } else { version == 2 }
-}
-
-// Is the set valid? No place ends the loop early: most sets are valid, and their tests run side by side.
+#[tactic(auto, using(laws::proofs::Fits::and_assoc), unfolding(rules::specs::Streams::valid))]
 pub fn is_valid(x: Set) -> bool
     ensures { result ≡ valid x }
 {
-    let n = x.count;
-    let mut ok = n <= 16;
-    let mut single = true;
-    let mut k: usize = 0;
-    while k < 16 {
-        let s = x.streams[k];
-        let fits = stream_fits(k < n, s);
-        ok = ok & fits;
-        let one = one_stage(k < n, s);
-        single = single & one;
-        k = k + 1;
-    }
-    let version = version_ok(x.version, single);
-    ok & version
+    (x.count <= 16) & parts_fit(&x.streams, x.count) & version_ok(&x)
 }
 
 // ---- places
 
-fn no_tuple() -> TuplePlace
-    ensures { result ≡ no_tuple }
+// The first n places, all where there are no n.
+fn first<T>(places: &[T], n: usize) -> &[T]
+    ensures { result.now ≡ take n places.now }
 {
-    let t = Tuple::Once(0);
-    TuplePlace { tuple: t }
+    &places[..n.min(places.len())]
 }
 
-fn no_stage() -> Stage
-    ensures { result ≡ no_stage }
+// The stages of a stream, in order.
+pub fn stages_of(s: &Stream) -> &[Stage]
+    ensures value { result.now ≡ stages_of s.now }
+    ensures bound { length result.now ≤ 4 }
 {
-    Stage { task: 0, cost: 0 }
+    first(&s.stages, s.depth)
 }
 
-fn no_stream() -> Stream
+// The tuples of a stream, in order.
+pub fn tuples_of(s: &Stream) -> &[TuplePlace]
+    ensures value { result.now ≡ tuples_of s.now }
+    ensures bound { length result.now ≤ 4 }
+{
+    first(&s.tuples, s.count)
+}
+
+// The streams of a set, in order.
+pub fn streams_of(x: &Set) -> &[Stream]
+    ensures value { result.now ≡ streams_of x.now }
+    ensures bound { length result.now ≤ 16 }
+{
+    first(&x.streams, x.count)
+}
+
+pub fn no_stream() -> Stream
     ensures { result ≡ no_stream }
 {
-    let gs = [no_stage(); 4];
-    let ts = [no_tuple(); 4];
     Stream {
         depth: 0,
-        stages: gs,
+        stages: [Stage { task: 0, cost: 0 }; 4],
         deadline: 0,
         count: 0,
-        tuples: ts,
+        tuples: [TuplePlace {
+            tuple: Tuple::Once(0),
+        }; 4],
     }
 }
 
 pub fn empty_set() -> Set
     ensures { result ≡ empty_set }
 {
-    let ss = [no_stream(); 16];
     Set {
         count: 0,
-        streams: ss,
+        streams: [no_stream(); 16],
         version: 1,
     }
 }
@@ -247,14 +237,8 @@ pub fn empty_set() -> Set
 pub fn stream_at(x: Set, k: usize) -> Stream
     ensures { result ≡ stream_at x k }
 {
-    if k < 16 { x.streams[k] } else { no_stream() }
-}
-
-// ---- numbers
-
-// The difference, 0 where it would be below.
-pub fn less(a: u32, b: u32) -> u32
-    ensures { result ≡ a - b }
-{
-    if a < b { 0 } else { a - b }
+    match x.streams.get(k) {
+        Some(s) => *s,
+        None => no_stream(),
+    }
 }

@@ -6,7 +6,6 @@ use mathlib.Core.Path.{◌≡◌, ap, ◌∙◌}
 use mathlib.Core.List.{List, [], ◌∷◌, ◌++◌}
 use lib.ListN.{length, length-append}
 use lib.Dec.{eqb}
-use borrow.Author.Tests.{eq-eqb, ne_eqb}
 use Rattle.laws.proofs.Sums.{by_test}
 use Rattle.line.specs.declared.Line.{Line}
 use Rattle.ascii.specs.Decimal.{letters, decimal_of, spaced}
@@ -62,14 +61,6 @@ fault_is b m c f r n why e g h i j =
     ))
 
 -- ---- the line for a sheet that was written
-
-pub one_thing : (l : Line) (n : ℕ) → n ≡ 1 → l ≡ puts l (plural n)
-unfolding puts
-one_thing l n e = rw (eq-eqb n 1 e)
-
-pub more_things : (l r : Line) (n : ℕ) → (n ≡ 1 → ⊥) → r ≡ put_of l 115 → r ≡ puts l (plural n)
-unfolding puts
-more_things l r n h e = rw (ne_eqb n 1 h) e
 
 plural_short : (n : ℕ) → length (plural n) ≤ 1
 plural_short n = by_test (eqb n 1) (λ e. rw e (omega arith)) (λ e. rw e (omega arith))

@@ -9,42 +9,29 @@ use line::Line;
 use text_line::Fault;
 
 // What is wrong with a line.
-fn fault(l: Line, why: Fault) -> Line
-    ensures { result ≡ puts l (fault_words why) }
+fn words(why: Fault) -> &'static [u8]
+    ensures { result.now ≡ fault_words why }
 {
     match why {
-        Fault::NotTask => line::word(l, b"the line does not begin with task and a number"),
-        Fault::Task => line::word(l, b"the task is not from 0 to 15"),
-        Fault::NotCost => line::word(l, b"the task is not followed by cost and a number"),
-        Fault::Cost => line::word(l, b"the cost is not from 1 to 65535"),
-        Fault::TwoStages => line::word(
-            l,
-            b"there is more than one stage, and the first line is not version 2",
-        ),
-        Fault::FiveStages => line::word(l, b"there are more than 4 stages"),
-        Fault::NotDeadline => line::word(l, b"the cost is not followed by deadline and a number"),
-        Fault::Deadline => line::word(l, b"the deadline is not from 1 to 200000"),
-        Fault::NotTuple => line::word(
-            l,
+        Fault::NotTask => b"the line does not begin with task and a number",
+        Fault::Task => b"the task is not from 0 to 15",
+        Fault::NotCost => b"the task is not followed by cost and a number",
+        Fault::Cost => b"the cost is not from 1 to 65535",
+        Fault::TwoStages => b"there is more than one stage, and the first line is not version 2",
+        Fault::FiveStages => b"there are more than 4 stages",
+        Fault::NotDeadline => b"the cost is not followed by deadline and a number",
+        Fault::Deadline => b"the deadline is not from 1 to 200000",
+        Fault::NotTuple =>
             b"the deadline is not followed by tuples alone, such as once@0 or every 20@0",
-        ),
-        Fault::Cycle => line::word(l, b"a cycle is not from 1 to 1000000"),
-        Fault::Offset => line::word(
-            l,
-            b"the first offset is not 0, or an offset falls or is above 100000",
-        ),
-        Fault::FiveTuples => line::word(l, b"there are more than 4 tuples"),
-        Fault::NotJitter => line::word(
-            l,
-            b"jitter is not followed by two numbers alone, such as jitter 20 2",
-        ),
-        Fault::Jitter => line::word(
-            l,
+        Fault::Cycle => b"a cycle is not from 1 to 1000000",
+        Fault::Offset => b"the first offset is not 0, or an offset falls or is above 100000",
+        Fault::FiveTuples => b"there are more than 4 tuples",
+        Fault::NotJitter => b"jitter is not followed by two numbers alone, such as jitter 20 2",
+        Fault::Jitter =>
             b"the jitter Z J is out of rule: Z from 1 to 1000000, 2J at most Z, Z - 2J at most 100000",
-        ),
-        Fault::LongLine => line::word(l, b"the line is too long for a stream"),
-        Fault::LateVersion => line::word(l, b"version 2 is not the first line"),
-        Fault::ManyStreams => line::word(l, b"there are more than 16 streams"),
+        Fault::LongLine => b"the line is too long for a stream",
+        Fault::LateVersion => b"version 2 is not the first line",
+        Fault::ManyStreams => b"there are more than 16 streams",
     }
 }
 
@@ -53,10 +40,11 @@ pub fn fault_line(n: u64, why: Fault) -> Line
     ensures { result ≡ holding (fault_line n why) }
 {
     let at = line::word(line::one(line::blank(), b"line", n), b": ");
-    line::put(fault(at, why), b'\n')
+    line::put(line::word(at, words(why)), b'\n')
 }
 
 // A number of things: one of them has no s at its end.
+#[tactic(auto, unfolding(line::specs::Line::puts))]
 fn things(l: Line, n: u64) -> Line
     ensures { result ≡ puts l (plural n) }
 {

@@ -3,18 +3,19 @@
 use Prim.Native.Nat.{ℕ, ◌+◌, ◌-◌, ◌*◌, ◌≤◌, ◌<◌}
 use native.Mathlib.Omega.{arith}
 use native.Mathlib.Numerals.{add-one}
-use mathlib.Core.Path.{◌≡◌, refl, sym, ap, ◌∙◌}
+use mathlib.Core.Path.{◌≡◌, refl, ap}
 use mathlib.Core.Bool.{Bool, true, false, ◌&&◌}
 use mathlib.Core.List.{List, [], ◌∷◌}
 use lib.ListN.{length, get_or, take, drop, drop_of_length-le}
 use lib.Seq.{drop-cons}
 use lib.Dec.{leb}
-use borrow.Author.Tests.{le-leb, lt-leb, eq-eqb, ne_eqb, leb-true}
+use borrow.Author.Tests.{le-leb, lt-leb, ne_eqb, leb-true}
 use Rattle.ascii.specs.Decimal.{read_on, is_digit}
 use Rattle.ascii.specs.Same.{same}
-use Rattle.text_line.specs.declared.NumberRead.{NumberRead}
-use Rattle.text_line.specs.declared.NumberRead.TheVariants.{Is, Missing, Outside}
-use Rattle.text_line.specs.Lines.{lead, digits, starts_at, ended_at, number_at, field_at}
+use Rattle.std.specs.Prelude.{Result, Ok, Err}
+use Rattle.text_line.specs.declared.NumberFault.{NumberFault}
+use Rattle.text_line.specs.declared.NumberFault.TheVariants.{Outside}
+use Rattle.text_line.specs.Lines.{lead, digits, starts_at, ended_at, number_at}
 
 and_false : (t : Bool) → (t && false) ≡ false
 and_false true = refl
@@ -23,21 +24,6 @@ and_false false = refl
 -- ---- a word
 
 module _ (w l : List ℕ) (at : ℕ) where
-  pub starts_past : length l < at → false ≡ starts_at w l at
-  unfolding starts_at
-  starts_past h = let far : length l < at + length w = omega arith in rw (lt-leb (at + length w) (length l) far)
-
-  pub starts_short : at ≤ length l → length l - at < length w → false ≡ starts_at w l at
-  unfolding starts_at
-  starts_short h g = let far : length l < at + length w = omega arith in rw (lt-leb (at + length w) (length l) far)
-
-  pub starts_same : (r : Bool) → at ≤ length l → length w ≤ length l - at → r ≡ same (take (at + length w - at) (drop at l)) w → r ≡ starts_at w l at
-  unfolding starts_at
-  starts_same r h g e =
-      let near : at + length w ≤ length l = omega arith in
-      let size : at + length w - at ≡ length w = omega arith in
-      rw (le-leb (at + length w) (length l) near) (rw size at e)
-
   -- a word that stands there ends within the line
   pub starts_room : starts_at w l at ≡ true → at + length w ≤ length l
   unfolding starts_at
@@ -50,19 +36,11 @@ module _ (w l : List ℕ) (at : ℕ) where
 -- ---- where a number's digits end
 
 module _ (low high at end n : ℕ) where
-  pub no_digits : end ≡ at → Missing ≡ ended_at low high at end n
-  unfolding ended_at
-  no_digits h = rw (eq-eqb end at h)
-
-  pub too_low : (end ≡ at → ⊥) → n < low → Outside ≡ ended_at low high at end n
-  unfolding ended_at
-  too_low h g = rw (ne_eqb end at h, lt-leb low n g)
-
-  pub fits : (end ≡ at → ⊥) → low ≤ n → n ≤ high → Is n end ≡ ended_at low high at end n
+  pub fits : (end ≡ at → ⊥) → low ≤ n → n ≤ high → Ok (n, end) ≡ ended_at low high at end n
   unfolding ended_at
   fits h g k = rw (ne_eqb end at h, le-leb low n g, le-leb n high k)
 
-  pub too_high : (end ≡ at → ⊥) → high < n → Outside ≡ ended_at low high at end n
+  pub too_high : (end ≡ at → ⊥) → high < n → Err Outside ≡ ended_at low high at end n
   unfolding ended_at
   too_high h g = rw (ne_eqb end at h, lt-leb n high g, and_false (leb low n))
 
@@ -98,17 +76,17 @@ pub begun : (l : List ℕ) (at : ℕ) → Reading l at 0 at
 begun l at = record { small = omega arith; from = omega arith; value = refl; end = refl }
 
 module _ (l : List ℕ) (low high at n i : ℕ) (have : Reading l at n i) where
-  stops : (r : NumberRead) → digits (drop i l) ≡ [] → r ≡ ended_at low high at i n → r ≡ number_at low high l at
+  stops : (r : Result (ℕ × ℕ) NumberFault) → digits (drop i l) ≡ [] → r ≡ ended_at low high at i n → r ≡ number_at low high l at
   unfolding number_at read_on
   stops r e h =
       let a : n ≡ read_on 0 (digits (drop at l)) = rw e at have.value in
       let b : i ≡ at + length (digits (drop at l)) = omega (arith, ap length e, have.end) in
       rw (← b, ← a) h
 
-  pub stop_here : (r : NumberRead) → i < length l → is_digit (get_or l i 0) ≡ false → r ≡ ended_at low high at i n → r ≡ number_at low high l at
+  pub stop_here : (r : Result (ℕ × ℕ) NumberFault) → i < length l → is_digit (get_or l i 0) ≡ false → r ≡ ended_at low high at i n → r ≡ number_at low high l at
   stop_here r h e = stops r (lead_stop is_digit l i h e)
 
-  pub stop_end : (r : NumberRead) → length l ≤ i → r ≡ ended_at low high at i n → r ≡ number_at low high l at
+  pub stop_end : (r : Result (ℕ × ℕ) NumberFault) → length l ≤ i → r ≡ ended_at low high at i n → r ≡ number_at low high l at
   stop_end r h = stops r (lead_end is_digit l i h)
 
   module _ (d : ℕ) (h : i < length l) (t : is_digit (get_or l i 0) ≡ true) (e : d ≡ get_or l i 0 - 48) where
@@ -122,20 +100,9 @@ module _ (l : List ℕ) (low high at n i : ℕ) (have : Reading l at n i) where
     pub read_next : n * 10 + d ≤ 4294967295 → Reading l at (n * 10 + d) (i + 1)
     read_next g = record { small = g; from = omega (arith, have.from); value = next_value; end = next_end }
 
-    pub read_over : high ≤ 4294967295 → 4294967295 < n * 10 + d → Outside ≡ number_at low high l at
+    pub read_over : high ≤ 4294967295 → 4294967295 < n * 10 + d → Err Outside ≡ number_at low high l at
     unfolding number_at
     read_over k g =
         let ne : (at + length (digits (drop at l)) ≡ at → ⊥) = λ (z : at + length (digits (drop at l)) ≡ at). omega (arith, next_end, have.from) in
         let big : high < read_on 0 (digits (drop at l)) = omega (arith, next_value, read_more (n * 10 + d) (digits (drop (i + 1) l))) in
         too_high low high at (at + length (digits (drop at l))) (read_on 0 (digits (drop at l))) ne big
-
--- ---- a word with a number behind it
-
-module _ (w : List ℕ) (low high : ℕ) (l : List ℕ) (at : ℕ) (t : Bool) (s : t ≡ starts_at w l at) where
-  pub field_there : (r : NumberRead) → t ≡ true → r ≡ number_at low high l (at + length w) → r ≡ field_at w low high l at
-  unfolding field_at
-  field_there r e h = rw (sym s ∙ e) h
-
-  pub field_missing : t ≡ false → Missing ≡ field_at w low high l at
-  unfolding field_at
-  field_missing e = rw (sym s ∙ e)

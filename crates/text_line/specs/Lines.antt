@@ -1,31 +1,25 @@
 -- A stream as a line of text: `task 0 cost 2 deadline 5 once@0 every 20@16`, which may also be written `task 0 cost 2 deadline 5 jitter 20 2`;
 -- in a text of version 2 with a task and a cost for each stage: `task 1 cost 2 task 4 cost 3 deadline 40 every 50@0`.
 -- Assumes nothing.
-use Rattle.std.specs.Prelude.{ℕ, zero, suc, ◌+◌, Bool, true, false, cond, ◌&&◌, List, [], ◌∷◌, ◌++◌, length, set, take, drop, leb, ltb, eqb}
-use Prim.Native.Char.{code}
+use Rattle.std.specs.Prelude.{ℕ, zero, suc, ◌+◌, Bool, cond, ◌&&◌, List, [], ◌∷◌, ◌++◌, length, set, take, drop, leb, ltb, eqb}
 use Rattle.laws.specs.Lists.{within, flat}
 use Rattle.rules.specs.declared.Tuple.{Tuple}
 use Rattle.rules.specs.declared.Tuple.TheVariants.{Once, Every}
 use Rattle.rules.specs.declared.TuplePlace.{TuplePlace}
 use Rattle.rules.specs.declared.Stage.{Stage}
 use Rattle.rules.specs.declared.Stream.{Stream as StreamT}
-use Rattle.rules.specs.declared.JitterAnswer.{JitterAnswer}
-use Rattle.rules.specs.declared.JitterAnswer.TheVariants.{Tuples, Refused as NoTuples}
+use Rattle.std.specs.Prelude.{Result, Ok, Err, Option, Some, None}
+use Rattle.rules.specs.declared.Refusal.{Refusal}
 use Rattle.rules.specs.Streams.{no_stream, offset, stages_of, tuples_of, jitter_of}
 use Rattle.ascii.specs.Decimal.{letters, decimal_of, read_on, is_digit}
 use Rattle.ascii.specs.Same.{same}
 use Rattle.text_tidy.specs.declared.Row.{Row}
 use Rattle.text_line.specs.declared.Fault.{Fault}
 use Rattle.text_line.specs.declared.Fault.TheVariants.{NotTask, Task, NotCost, Cost, TwoStages, FiveStages, NotDeadline, Deadline, NotTuple, Cycle, Offset, FiveTuples, NotJitter, Jitter, LongLine}
-use Rattle.text_line.specs.declared.NumberRead.{NumberRead}
-use Rattle.text_line.specs.declared.NumberRead.TheVariants.{Is, Missing, Outside}
-use Rattle.text_line.specs.declared.StageRead.{StageRead}
-use Rattle.text_line.specs.declared.StageRead.TheVariants.{Is as IsStage, Missing as NoStage, Bad as BadStage}
-use Rattle.text_line.specs.declared.TupleRead.{TupleRead}
-use Rattle.text_line.specs.declared.TupleRead.TheVariants.{Is as IsTuple, Bad as BadTuple}
-use Rattle.text_line.specs.declared.Meaning.{Meaning}
-use Rattle.text_line.specs.declared.Meaning.TheVariants.{Stream, Version, Nothing, Bad}
-use Rattle.text_line.specs.declared.LineRead.{LineRead}
+use Rattle.text_line.specs.declared.NumberFault.{NumberFault}
+use Rattle.text_line.specs.declared.NumberFault.TheVariants.{Missing, Outside}
+use Rattle.text_line.specs.declared.Said.{Said}
+use Rattle.text_line.specs.declared.Said.TheVariants.{Stream, Version, Nothing}
 
 -- ---- the line of a stream
 
@@ -65,42 +59,46 @@ unfoldable pub starts_at : List ℕ → List ℕ → ℕ → Bool
 starts_at w l at = leb (at + length w) (length l) && same (take (length w) (drop at l)) w
 
 -- a number whose digits stand from `at` to `end` and say n
-unfoldable pub ended_at : ℕ → ℕ → ℕ → ℕ → ℕ → NumberRead
-ended_at low high at end n = cond (eqb end at) Missing (cond (within low n high) (Is n end) Outside)
+unfoldable pub ended_at : ℕ → ℕ → ℕ → ℕ → ℕ → Result (ℕ × ℕ) NumberFault
+ended_at low high at end n = cond (eqb end at) (Err Missing) (cond (within low n high) (Ok (n, end)) (Err Outside))
 
 -- a number from low to high: as many digits as stand there, and at least one
-unfoldable pub number_at : ℕ → ℕ → List ℕ → ℕ → NumberRead
+unfoldable pub number_at : ℕ → ℕ → List ℕ → ℕ → Result (ℕ × ℕ) NumberFault
 number_at low high l at = ended_at low high at (at + length (digits (drop at l))) (read_on 0 (digits (drop at l)))
 
 -- the word w, and a number from low to high behind it
-unfoldable pub field_at : List ℕ → ℕ → ℕ → List ℕ → ℕ → NumberRead
-field_at w low high l at = cond (starts_at w l at) (number_at low high l (at + length w)) Missing
+unfoldable pub field_at : List ℕ → ℕ → ℕ → List ℕ → ℕ → Result (ℕ × ℕ) NumberFault
+field_at w low high l at = cond (starts_at w l at) (number_at low high l (at + length w)) (Err Missing)
 
 -- what a field leads to: on with its number, or what to answer
 module _ {A : Type 0} where
-  unfoldable pub by_field : NumberRead → A → A → (ℕ → ℕ → A) → A
-  by_field (Is n end) missing outside next = next n end
-  by_field Missing missing outside next = missing
-  by_field Outside missing outside next = outside
+  unfoldable pub by_field : Result (ℕ × ℕ) NumberFault → A → A → (ℕ → ℕ → A) → A
+  by_field (Ok (n, end)) missing outside next = next n end
+  by_field (Err Missing) missing outside next = missing
+  by_field (Err Outside) missing outside next = outside
 
--- a tuple, its offset from low to high: `every Z@A` from the @ on, the whole of it, and either kind
-unfoldable pub offset_at : ℕ → ℕ → ℕ → List ℕ → ℕ → TupleRead
+-- a field that a line needs: its number and where it ends, or what is wrong with the line
+unfoldable pub needed : Result (ℕ × ℕ) NumberFault → Fault → Fault → Result (ℕ × ℕ) Fault
+needed r missing outside = by_field r (Err missing) (Err outside) (λ n end. Ok (n, end))
+
+-- what is found leads on, a fault is the answer
+module _ {A B E : Type 0} where
+  unfoldable pub leads : Result A E → (A → Result B E) → Result B E
+  leads (Ok x) next = next x
+  leads (Err why) next = Err why
+
+-- a tuple, its offset from low to high, and where it ends: `every Z@A` from the @ on, the whole of it, and either kind
+unfoldable pub offset_at : ℕ → ℕ → ℕ → List ℕ → ℕ → Result (Tuple × ℕ) Fault
 offset_at z low high l at =
-    by_field (field_at (letters "@") low high l at) (BadTuple NotTuple) (BadTuple Offset) (λ a end. IsTuple (Every z a) end)
+    leads (needed (field_at (letters "@") low high l at) NotTuple Offset) (λ (a, end). Ok (Every z a, end))
 
-unfoldable pub every_at : ℕ → ℕ → List ℕ → ℕ → TupleRead
+unfoldable pub every_at : ℕ → ℕ → List ℕ → ℕ → Result (Tuple × ℕ) Fault
 every_at low high l at =
-    by_field (field_at (letters " every ") 1 1000000 l at) (BadTuple NotTuple) (BadTuple Cycle) (λ z end. offset_at z low high l end)
+    leads (needed (field_at (letters " every ") 1 1000000 l at) NotTuple Cycle) (λ (z, end). offset_at z low high l end)
 
-unfoldable pub tuple_at : ℕ → ℕ → List ℕ → ℕ → TupleRead
+unfoldable pub tuple_at : ℕ → ℕ → List ℕ → ℕ → Result (Tuple × ℕ) Fault
 tuple_at low high l at =
-    by_field (field_at (letters " once@") low high l at) (every_at low high l at) (BadTuple Offset) (λ a end. IsTuple (Once a) end)
-
-abbrev pub is_stream : StreamT → LineRead
-is_stream s = record { said = Stream; stream = s }
-
-abbrev pub bad : Fault → LineRead
-bad why = record { said = Bad why; stream = no_stream }
+    by_field (field_at (letters " once@") low high l at) (every_at low high l at) (Err Offset) (λ a end. Ok (Once a, end))
 
 -- one tuple more
 unfoldable pub added : StreamT → Tuple → StreamT
@@ -110,66 +108,63 @@ added s t =
     s
 
 -- where the line ends: "1 to 4 tuples"
-abbrev pub finished : StreamT → LineRead
-finished s = cond (eqb s.count 0) (bad NotTuple) (is_stream s)
+abbrev pub finished : StreamT → Result StreamT Fault
+finished s = cond (eqb s.count 0) (Err NotTuple) (Ok s)
 
 -- at most n tuples more; "the first is 0 and they never fall"
-unfoldable pub by_tuple : TupleRead → (Tuple → ℕ → LineRead) → LineRead
-by_tuple (IsTuple t end) next = next t end
-by_tuple (BadTuple why) next = bad why
-
-unfoldable pub tuples_at : ℕ → StreamT → ℕ → ℕ → List ℕ → ℕ → LineRead
-tuples_at zero s low high l at = cond (leb (length l) at) (finished s) (bad FiveTuples)
+unfoldable pub tuples_at : ℕ → StreamT → ℕ → ℕ → List ℕ → ℕ → Result StreamT Fault
+tuples_at zero s low high l at = cond (leb (length l) at) (finished s) (Err FiveTuples)
 tuples_at (suc n) s low high l at =
     cond (leb (length l) at) (finished s)
-    (by_tuple (tuple_at low high l at) (λ t end. tuples_at n (added s t) (offset t) 100000 l end))
+    (leads (tuple_at low high l at) (λ (t, end). tuples_at n (added s t) (offset t) 100000 l end))
 
 -- the tuples of a jittered cycle, or that it is out of rule
-unfoldable pub by_jitter : JitterAnswer → (Tuple → Tuple → LineRead) → LineRead
-by_jitter (Tuples t u) next = next t u
-by_jitter (NoTuples why) next = bad Jitter
+unfoldable pub by_jitter : Result (Tuple × Tuple) Refusal → (Tuple → Tuple → Result StreamT Fault) → Result StreamT Fault
+by_jitter (Ok (t, u)) next = next t u
+by_jitter (Err why) next = Err Jitter
 
 -- the line ends behind a jitter
-abbrev pub alone : StreamT → List ℕ → ℕ → LineRead
-alone s l at = cond (leb (length l) at) (is_stream s) (bad NotJitter)
+abbrev pub alone : StreamT → List ℕ → ℕ → Result StreamT Fault
+alone s l at = cond (leb (length l) at) (Ok s) (Err NotJitter)
 
 -- `jitter Z J`, alone: what Z and J say, from J on, and the whole of it
-unfoldable pub jitter_said : StreamT → ℕ → ℕ → List ℕ → ℕ → LineRead
+unfoldable pub jitter_said : StreamT → ℕ → ℕ → List ℕ → ℕ → Result StreamT Fault
 jitter_said s z j l at = by_jitter (jitter_of z j) (λ t u. alone (added (added s t) u) l at)
 
-unfoldable pub each_way_at : StreamT → ℕ → List ℕ → ℕ → LineRead
+unfoldable pub each_way_at : StreamT → ℕ → List ℕ → ℕ → Result StreamT Fault
 each_way_at s z l at =
-    by_field (field_at (letters " ") 0 4294967295 l at) (bad NotJitter) (bad Jitter) (λ j end. jitter_said s z j l end)
+    leads (needed (field_at (letters " ") 0 4294967295 l at) NotJitter Jitter) (λ (j, end). jitter_said s z j l end)
 
-unfoldable pub jitter_at : StreamT → List ℕ → ℕ → LineRead
+unfoldable pub jitter_at : StreamT → List ℕ → ℕ → Result StreamT Fault
 jitter_at s l at =
-    by_field (field_at (letters " jitter ") 0 4294967295 l at) (bad NotJitter) (bad Jitter) (λ z end. each_way_at s z l end)
+    leads (needed (field_at (letters " jitter ") 0 4294967295 l at) NotJitter Jitter) (λ (z, end). each_way_at s z l end)
 
 -- a stream's event limit: a jitter, or tuples
-unfoldable pub limit_at : StreamT → List ℕ → ℕ → LineRead
+unfoldable pub limit_at : StreamT → List ℕ → ℕ → Result StreamT Fault
 limit_at s l at = cond (starts_at (letters " jitter") l at) (jitter_at s l at) (tuples_at 4 s 0 0 l at)
 
 -- the deadline, behind the stages: "1 to 4 stages"
 abbrev pub with_deadline : StreamT → ℕ → StreamT
 with_deadline s d = record { depth = s.depth; stages = s.stages; deadline = d; count = s.count; tuples = s.tuples }
 
-unfoldable pub deadline_at : StreamT → List ℕ → ℕ → LineRead
+unfoldable pub deadline_at : StreamT → List ℕ → ℕ → Result StreamT Fault
 deadline_at s l at =
-    by_field (field_at (letters "deadline ") 1 200000 l at) (bad NotDeadline) (bad Deadline) (λ d end. limit_at (with_deadline s d) l end)
+    leads (needed (field_at (letters "deadline ") 1 200000 l at) NotDeadline Deadline) (λ (d, end). limit_at (with_deadline s d) l end)
 
-abbrev pub stages_end : StreamT → List ℕ → ℕ → LineRead
-stages_end s l at = cond (eqb s.depth 0) (bad NotTask) (deadline_at s l at)
+abbrev pub stages_end : StreamT → List ℕ → ℕ → Result StreamT Fault
+stages_end s l at = cond (eqb s.depth 0) (Err NotTask) (deadline_at s l at)
 
--- a stage, and the space behind it: from the space on, from the cost on, and the whole of it
-unfoldable pub space_at : ℕ → ℕ → List ℕ → ℕ → StageRead
-space_at task cost l at = cond (starts_at (letters " ") l at) (IsStage (record { task = task; cost = cost }) (at + 1)) (BadStage NotDeadline)
+-- a stage, the space behind it, and where what stands behind them begins: from the space on, from the cost on, and the whole of it, nothing where no task stands
+unfoldable pub space_at : ℕ → ℕ → List ℕ → ℕ → Result (Stage × ℕ) Fault
+space_at task cost l at = cond (starts_at (letters " ") l at) (Ok (record { task = task; cost = cost }, at + 1)) (Err NotDeadline)
 
-unfoldable pub cost_at : ℕ → List ℕ → ℕ → StageRead
+unfoldable pub cost_at : ℕ → List ℕ → ℕ → Result (Stage × ℕ) Fault
 cost_at task l at =
-    by_field (field_at (letters " cost ") 1 65535 l at) (BadStage NotCost) (BadStage Cost) (λ cost end. space_at task cost l end)
+    leads (needed (field_at (letters " cost ") 1 65535 l at) NotCost Cost) (λ (cost, end). space_at task cost l end)
 
-unfoldable pub pair_at : List ℕ → ℕ → StageRead
-pair_at l at = by_field (field_at (letters "task ") 0 15 l at) NoStage (BadStage Task) (λ task end. cost_at task l end)
+unfoldable pub pair_at : List ℕ → ℕ → Result (Option (Stage × ℕ)) Fault
+pair_at l at =
+    by_field (field_at (letters "task ") 0 15 l at) (Ok None) (Err Task) (λ task end. leads (cost_at task l end) (λ g. Ok (Some g)))
 
 -- one stage more
 unfoldable pub staged : StreamT → Stage → StreamT
@@ -186,13 +181,13 @@ abbrev pub too_many : ℕ → Fault
 too_many version = cond (eqb version 1) TwoStages FiveStages
 
 -- at most n stages more
-unfoldable pub by_stage : StageRead → LineRead → (Stage → ℕ → LineRead) → LineRead
-by_stage (IsStage g end) missing next = next g end
-by_stage NoStage missing next = missing
-by_stage (BadStage why) missing next = bad why
+unfoldable pub by_stage : Result (Option (Stage × ℕ)) Fault → Result StreamT Fault → (Stage → ℕ → Result StreamT Fault) → Result StreamT Fault
+by_stage (Ok (Some (g, end))) missing next = next g end
+by_stage (Ok None) missing next = missing
+by_stage (Err why) missing next = Err why
 
-unfoldable pub stages_at : ℕ → ℕ → StreamT → List ℕ → ℕ → LineRead
-stages_at version zero s l at = cond (starts_at (letters "task ") l at) (bad (too_many version)) (stages_end s l at)
+unfoldable pub stages_at : ℕ → ℕ → StreamT → List ℕ → ℕ → Result StreamT Fault
+stages_at version zero s l at = cond (starts_at (letters "task ") l at) (Err (too_many version)) (stages_end s l at)
 stages_at version (suc n) s l at =
     by_stage (pair_at l at) (stages_end s l at) (λ g end. stages_at version n (staged s g) l end)
 
@@ -202,19 +197,16 @@ stages_at version (suc n) s l at =
 abbrev pub version_text : List ℕ
 version_text = letters "version 2"
 
-abbrev pub saying : Meaning → LineRead
-saying m = record { said = m; stream = no_stream }
-
 -- an empty line says nothing
-unfoldable pub line_read : ℕ → List ℕ → LineRead
+unfoldable pub line_read : ℕ → List ℕ → Result Said Fault
 line_read version l =
-    cond (eqb (length l) 0) (saying Nothing)
-    (cond (same l version_text) (saying Version)
-    (stages_at version (most_stages version) no_stream l 0))
+    cond (eqb (length l) 0) (Ok Nothing)
+    (cond (same l version_text) (Ok Version)
+    (leads (stages_at version (most_stages version) no_stream l 0) (λ s. Ok (Stream s))))
 
 -- how many bytes a line has at most: no stream's has more than 175, and in a text of version 1 none has more than 118
 abbrev pub longest : ℕ → ℕ
 longest version = cond (eqb version 1) 127 191
 
-unfoldable pub judged : ℕ → Row → LineRead
-judged version r = cond (leb r.len (longest version)) (line_read version (take r.len r.bytes)) (bad LongLine)
+unfoldable pub judged : ℕ → Row → Result Said Fault
+judged version r = cond (leb r.len (longest version)) (line_read version (take r.len r.bytes)) (Err LongLine)

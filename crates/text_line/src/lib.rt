@@ -2,14 +2,14 @@
 // in a text of version 2 with its stages: `task 1 cost 2 task 4 cost 3 deadline 40 every 50@0`.
 #![tactic(auto)]
 
-ghost use Rattle.std.specs.Prelude.{◌≡◌, ◌++◌, [], ◌-◌, ◌≤◌, drop, take};
-ghost use Rattle.laws.specs.Lists.{flat};
-ghost use Rattle.rules.specs.Streams.{stages_of, tuples_of, no_stage, no_tuple, no_stream};
+ghost use Rattle.std.specs.Prelude.{◌≡◌, ◌≤◌, ◌++◌, [], length};
+ghost use Rattle.std.specs.List.{fold};
+ghost use Rattle.rules.specs.Streams.{stages_of, tuples_of};
 ghost use Rattle.line.specs.Line.{holding, puts};
-ghost use Rattle.text_line.specs.Lines.{starts_at, ended_at, number_at, field_at, offset_at, every_at, tuple_at, added, is_stream, bad, finished, tuples_at, alone, jitter_said, each_way_at, jitter_at, limit_at, with_deadline, deadline_at, stages_end, space_at, cost_at, pair_at, staged, most_stages, too_many, stages_at, saying, line_read, longest, judged, stage_text, place_text, stages_text, limit_text};
+ghost use Rattle.text_line.specs.Lines.{starts_at, ended_at, number_at, field_at, needed, offset_at, every_at, tuple_at, added, finished, tuples_at, alone, jitter_said, each_way_at, jitter_at, limit_at, with_deadline, deadline_at, stages_end, space_at, cost_at, pair_at, staged, most_stages, too_many, stages_at, line_read, longest, judged, stage_text, place_text, stages_text, limit_text};
 
 use line::Line;
-use rules::{JitterAnswer, Stage, Stream, Tuple, TuplePlace};
+use rules::{Stage, Stream, Tuple, TuplePlace};
 use text_tidy::Row;
 
 // Why a line is no stream.
@@ -34,189 +34,133 @@ pub enum Fault {
     ManyStreams,
 }
 
-// A word with a number behind it: the number and where it ends.
+// Why no number is read: none stands there, or it is out of range.
 #[derive(Clone, Copy)]
-pub enum NumberRead {
-    Is(u32, usize),
+pub enum NumberFault {
     Missing,
     Outside,
 }
 
-// A stage, and where what stands behind it begins.
+// What a line says.
 #[derive(Clone, Copy)]
-pub enum StageRead {
-    Is(Stage, usize),
-    Missing,
-    Bad(Fault),
-}
-
-// A tuple, and where it ends.
-#[derive(Clone, Copy)]
-pub enum TupleRead {
-    Is(Tuple, usize),
-    Bad(Fault),
-}
-
-// What a line says. The stream stands beside it, none where the line says another thing.
-#[derive(Clone, Copy)]
-pub enum Meaning {
-    Stream,
+pub enum Said {
+    Stream(Stream),
     Version,
     Nothing,
-    Bad(Fault),
-}
-
-#[derive(Clone, Copy)]
-pub struct LineRead {
-    pub said: Meaning,
-    pub stream: Stream,
 }
 
 // ---- reading
 
+// kept: a line and a place in it stand as two parameters, for a struct of them is no plainer: every contract would name its two fields
+
 // The bytes of w stand in the line from `at` on.
+#[tactic(auto, unfolding(crate::specs::Lines::starts_at))]
 fn starts(line: &[u8], at: usize, w: &[u8]) -> bool
     ensures { result ≡ starts_at w.now line.now at }
 {
-    if line.len() < at {
+    if line.len() < at || line.len() - at < w.len() {
         return false;
     }
-    if line.len() - at < w.len() {
-        return false;
-    }
-    let end = at + w.len();
-    ascii::same(&line[at..end], w)
+    ascii::same(&line[at..at + w.len()], w)
 }
 
-// A number whose digits stand from `at` to `end`.
-fn ended(at: usize, end: usize, n: u64, low: u32, high: u32) -> NumberRead
+// A number whose digits stand from `at` to `end`, and where it ends.
+#[tactic(auto, unfolding(crate::specs::Lines::ended_at))]
+fn ended(at: usize, end: usize, n: u64, low: u32, high: u32) -> Result<(u32, usize), NumberFault>
     ensures { result ≡ ended_at low high at end n }
 {
     if end == at {
-        return NumberRead::Missing;
+        return Err(NumberFault::Missing);
     }
-    if n < low as u64 {
-        return NumberRead::Outside;
+    if n < u64::from(low) || u64::from(high) < n {
+        return Err(NumberFault::Outside);
     }
-    if n <= high as u64 {
-        NumberRead::Is(n as u32, end)
-    } else {
-        NumberRead::Outside
-    }
+    Ok((n as u32, end))
 }
 
-fn number_at(line: &[u8], at: usize, low: u32, high: u32) -> NumberRead
+fn number_at(line: &[u8], at: usize, low: u32, high: u32) -> Result<(u32, usize), NumberFault>
+    requires { at ≤ length line.now }
     ensures { result ≡ number_at low high line.now at }
 {
     let mut n: u64 = 0;
-    let mut i = at;
-    while i < line.len() {
+    for i in at..line.len() {
         let b = line[i];
         if !ascii::is_digit(b) {
             return ended(at, i, n, low, high);
         }
         n = n * 10 + ascii::digit_of(b);
-        if 4294967295 < n {
-            return NumberRead::Outside;
+        if u64::from(u32::MAX) < n {
+            return Err(NumberFault::Outside);
         }
-        i += 1;
     }
-    ended(at, i, n, low, high)
+    ended(at, line.len(), n, low, high)
 }
 
 // The word w, and behind it a number from low to high.
-fn field_at(line: &[u8], at: usize, w: &[u8], low: u32, high: u32) -> NumberRead
+#[tactic(auto, using(crate::proofs::Numbers::starts_room), unfolding(crate::specs::Lines::field_at))]
+fn field_at(
+    line: &[u8],
+    at: usize,
+    w: &[u8],
+    low: u32,
+    high: u32,
+) -> Result<(u32, usize), NumberFault>
     ensures { result ≡ field_at w.now low high line.now at }
 {
     if starts(line, at, w) {
         number_at(line, at + w.len(), low, high)
     } else {
-        NumberRead::Missing
+        Err(NumberFault::Missing)
     }
 }
 
-fn offset_at(line: &[u8], at: usize, z: u32, low: u32, high: u32) -> TupleRead
+// A field that a line needs: what is wrong with the line where it is missing or out of range.
+#[tactic(auto, unfolding(crate::specs::Lines::needed, crate::specs::Lines::by_field))]
+fn needed(
+    field: Result<(u32, usize), NumberFault>,
+    missing: Fault,
+    outside: Fault,
+) -> Result<(u32, usize), Fault>
+    ensures { result ≡ needed field missing outside }
+{
+    field.map_err(|why| match why {
+        NumberFault::Missing => missing,
+        NumberFault::Outside => outside,
+    })
+}
+
+#[tactic(auto, unfolding(crate::specs::Lines::offset_at, crate::specs::Lines::leads))]
+fn offset_at(line: &[u8], at: usize, z: u32, low: u32, high: u32) -> Result<(Tuple, usize), Fault>
     ensures { result ≡ offset_at z low high line.now at }
 {
-    match field_at(line, at, b"@", low, high) {
-        NumberRead::Is(a, end) => TupleRead::Is(Tuple::Every(z, a), end),
-        NumberRead::Missing => TupleRead::Bad(Fault::NotTuple),
-        NumberRead::Outside => TupleRead::Bad(Fault::Offset),
-    }
+    let field = field_at(line, at, b"@", low, high);
+    let (a, end) = needed(field, Fault::NotTuple, Fault::Offset)?;
+    Ok((Tuple::Every(z, a), end))
 }
 
-fn every_at(line: &[u8], at: usize, low: u32, high: u32) -> TupleRead
+#[tactic(auto, unfolding(crate::specs::Lines::every_at, crate::specs::Lines::leads))]
+fn every_at(line: &[u8], at: usize, low: u32, high: u32) -> Result<(Tuple, usize), Fault>
     ensures { result ≡ every_at low high line.now at }
 {
-    match field_at(line, at, b" every ", 1, 1000000) {
-        NumberRead::Is(z, end) => offset_at(line, end, z, low, high),
-        NumberRead::Missing => TupleRead::Bad(Fault::NotTuple),
-        NumberRead::Outside => TupleRead::Bad(Fault::Cycle),
-    }
+    let field = field_at(line, at, b" every ", 1, 1000000);
+    let (z, end) = needed(field, Fault::NotTuple, Fault::Cycle)?;
+    offset_at(line, end, z, low, high)
 }
 
-// A tuple whose offset is from low to high.
-fn tuple_at(line: &[u8], at: usize, low: u32, high: u32) -> TupleRead
+// A tuple whose offset is from low to high, and where it ends.
+#[tactic(auto, unfolding(crate::specs::Lines::tuple_at, crate::specs::Lines::by_field))]
+fn tuple_at(line: &[u8], at: usize, low: u32, high: u32) -> Result<(Tuple, usize), Fault>
     ensures { result ≡ tuple_at low high line.now at }
 {
     match field_at(line, at, b" once@", low, high) {
-        NumberRead::Is(a, end) => TupleRead::Is(Tuple::Once(a), end),
-        NumberRead::Missing => every_at(line, at, low, high),
-        NumberRead::Outside => TupleRead::Bad(Fault::Offset),
+        Ok((a, end)) => Ok((Tuple::Once(a), end)),
+        Err(NumberFault::Missing) => every_at(line, at, low, high),
+        Err(NumberFault::Outside) => Err(Fault::Offset),
     }
-}
-
-fn no_tuple() -> TuplePlace
-    ensures { result ≡ no_tuple }
-{
-    let t = Tuple::Once(0);
-    TuplePlace { tuple: t }
-}
-
-fn no_stage() -> Stage
-    ensures { result ≡ no_stage }
-{
-    Stage { task: 0, cost: 0 }
-}
-
-fn no_stream() -> Stream
-    ensures { result ≡ no_stream }
-{
-    let gs = [no_stage(); 4];
-    let ts = [no_tuple(); 4];
-    Stream {
-        depth: 0,
-        stages: gs,
-        deadline: 0,
-        count: 0,
-        tuples: ts,
-    }
-}
-
-fn stream_read(s: Stream) -> LineRead
-    ensures { result ≡ is_stream s }
-{
-    LineRead {
-        said: Meaning::Stream,
-        stream: s,
-    }
-}
-
-// A line that says no stream.
-fn no_stream_read(m: Meaning) -> LineRead
-    ensures { result ≡ saying m }
-{
-    let s = no_stream();
-    LineRead { said: m, stream: s }
-}
-
-fn bad_line(why: Fault) -> LineRead
-    ensures { result ≡ bad why }
-{
-    no_stream_read(Meaning::Bad(why))
 }
 
 // One tuple more. A stream that has four stays as it is.
+#[tactic(auto, unfolding(crate::specs::Lines::added))]
 fn add(s: Stream, t: Tuple) -> Stream
     ensures { result ≡ added s t }
 {
@@ -232,83 +176,88 @@ fn add(s: Stream, t: Tuple) -> Stream
 }
 
 // The line ends here.
-fn finish(s: Stream) -> LineRead
+fn finish(s: Stream) -> Result<Stream, Fault>
     ensures { result ≡ finished s }
 {
-    let n = s.count;
-    if n == 0 {
-        bad_line(Fault::NotTuple)
+    if s.count == 0 {
+        Err(Fault::NotTuple)
     } else {
-        stream_read(s)
+        Ok(s)
     }
 }
 
 // At most `left` tuples more, the offset of the next from low to high.
-fn tuples(line: &[u8], at: usize, s: Stream, low: u32, high: u32, left: usize) -> LineRead
+#[tactic(auto, unfolding(crate::specs::Lines::tuples_at, crate::specs::Lines::leads))]
+fn tuples(
+    line: &[u8],
+    at: usize,
+    s: Stream,
+    low: u32,
+    high: u32,
+    left: usize,
+) -> Result<Stream, Fault>
     ensures { result ≡ tuples_at left s low high line.now at }
 {
     if line.len() <= at {
         return finish(s);
     }
     if left == 0 {
-        return bad_line(Fault::FiveTuples);
+        return Err(Fault::FiveTuples);
     }
-    match tuple_at(line, at, low, high) {
-        TupleRead::Is(t, end) => tuples(
-            line,
-            end,
-            add(s, t),
-            stream_valid::offset_of(t),
-            100000,
-            left - 1,
-        ),
-        TupleRead::Bad(why) => bad_line(why),
-    }
+    let (t, end) = tuple_at(line, at, low, high)?;
+    tuples(
+        line,
+        end,
+        add(s, t),
+        stream_valid::offset_of(t),
+        100000,
+        left - 1,
+    )
 }
 
 // The line ends behind a jitter.
-fn end_alone(line: &[u8], at: usize, s: Stream) -> LineRead
+fn end_alone(line: &[u8], at: usize, s: Stream) -> Result<Stream, Fault>
     ensures { result ≡ alone s line.now at }
 {
     if line.len() <= at {
-        stream_read(s)
+        Ok(s)
     } else {
-        bad_line(Fault::NotJitter)
+        Err(Fault::NotJitter)
     }
 }
 
 // The stream with the tuples of the jittered cycle (z, j).
-fn jitter_said(line: &[u8], at: usize, s: Stream, z: u32, j: u32) -> LineRead
+#[tactic(auto, unfolding(crate::specs::Lines::jitter_said, crate::specs::Lines::by_jitter))]
+fn jitter_said(line: &[u8], at: usize, s: Stream, z: u32, j: u32) -> Result<Stream, Fault>
     ensures { result ≡ jitter_said s z j line.now at }
 {
     match stream_limits::jittered(z, j) {
-        JitterAnswer::Tuples(t, u) => end_alone(line, at, add(add(s, t), u)),
-        JitterAnswer::Refused(_) => bad_line(Fault::Jitter),
+        Ok((t, u)) => end_alone(line, at, add(add(s, t), u)),
+        Err(_) => Err(Fault::Jitter),
     }
 }
 
-fn each_way_at(line: &[u8], at: usize, s: Stream, z: u32) -> LineRead
+#[tactic(auto, unfolding(crate::specs::Lines::each_way_at, crate::specs::Lines::leads))]
+fn each_way_at(line: &[u8], at: usize, s: Stream, z: u32) -> Result<Stream, Fault>
     ensures { result ≡ each_way_at s z line.now at }
 {
-    match field_at(line, at, b" ", 0, 4294967295) {
-        NumberRead::Is(j, end) => jitter_said(line, end, s, z, j),
-        NumberRead::Missing => bad_line(Fault::NotJitter),
-        NumberRead::Outside => bad_line(Fault::Jitter),
-    }
+    let field = field_at(line, at, b" ", 0, u32::MAX);
+    let (j, end) = needed(field, Fault::NotJitter, Fault::Jitter)?;
+    jitter_said(line, end, s, z, j)
 }
 
-fn jitter_at(line: &[u8], at: usize, s: Stream) -> LineRead
+#[tactic(auto, unfolding(crate::specs::Lines::jitter_at, crate::specs::Lines::leads))]
+fn jitter_at(line: &[u8], at: usize, s: Stream) -> Result<Stream, Fault>
     ensures { result ≡ jitter_at s line.now at }
 {
-    match field_at(line, at, b" jitter ", 0, 4294967295) {
-        NumberRead::Is(z, end) => each_way_at(line, end, s, z),
-        NumberRead::Missing => bad_line(Fault::NotJitter),
-        NumberRead::Outside => bad_line(Fault::Jitter),
-    }
+    let field = field_at(line, at, b" jitter ", 0, u32::MAX);
+    let (z, end) = needed(field, Fault::NotJitter, Fault::Jitter)?;
+    each_way_at(line, end, s, z)
 }
 
 // A stream's event limit: a jitter, or tuples.
-fn limit_at(line: &[u8], at: usize, s: Stream) -> LineRead
+#[tactic(auto, unfolding(crate::specs::Lines::limit_at))]
+fn limit_at(line: &[u8], at: usize, s: Stream) -> Result<Stream, Fault>
     ensures { result ≡ limit_at s line.now at }
 {
     if starts(line, at, b" jitter") {
@@ -321,34 +270,31 @@ fn limit_at(line: &[u8], at: usize, s: Stream) -> LineRead
 fn with_deadline(s: Stream, d: u32) -> Stream
     ensures { result ≡ with_deadline s d }
 {
-    let mut next = s;
-    next.deadline = d;
-    next
+    Stream { deadline: d, ..s }
 }
 
-fn deadline_at(line: &[u8], at: usize, s: Stream) -> LineRead
+#[tactic(auto, unfolding(crate::specs::Lines::deadline_at, crate::specs::Lines::leads))]
+fn deadline_at(line: &[u8], at: usize, s: Stream) -> Result<Stream, Fault>
     ensures { result ≡ deadline_at s line.now at }
 {
-    match field_at(line, at, b"deadline ", 1, 200000) {
-        NumberRead::Is(d, end) => limit_at(line, end, with_deadline(s, d)),
-        NumberRead::Missing => bad_line(Fault::NotDeadline),
-        NumberRead::Outside => bad_line(Fault::Deadline),
-    }
+    let field = field_at(line, at, b"deadline ", 1, 200000);
+    let (d, end) = needed(field, Fault::NotDeadline, Fault::Deadline)?;
+    limit_at(line, end, with_deadline(s, d))
 }
 
 // No stage stands here: the deadline does, behind a stage.
-fn stages_end(line: &[u8], at: usize, s: Stream) -> LineRead
+fn stages_end(line: &[u8], at: usize, s: Stream) -> Result<Stream, Fault>
     ensures { result ≡ stages_end s line.now at }
 {
-    let n = s.depth;
-    if n == 0 {
-        bad_line(Fault::NotTask)
+    if s.depth == 0 {
+        Err(Fault::NotTask)
     } else {
         deadline_at(line, at, s)
     }
 }
 
-fn space_at(line: &[u8], at: usize, task: u32, cost: u32) -> StageRead
+#[tactic(auto, using(crate::proofs::Numbers::starts_room), unfolding(crate::specs::Lines::space_at))]
+fn space_at(line: &[u8], at: usize, task: u32, cost: u32) -> Result<(Stage, usize), Fault>
     ensures { result ≡ space_at task cost line.now at }
 {
     if starts(line, at, b" ") {
@@ -356,34 +302,38 @@ fn space_at(line: &[u8], at: usize, task: u32, cost: u32) -> StageRead
             task: task as usize,
             cost,
         };
-        StageRead::Is(g, at + 1)
+        Ok((g, at + 1))
     } else {
-        StageRead::Bad(Fault::NotDeadline)
+        Err(Fault::NotDeadline)
     }
 }
 
-fn cost_at(line: &[u8], at: usize, task: u32) -> StageRead
+#[tactic(auto, unfolding(crate::specs::Lines::cost_at, crate::specs::Lines::leads))]
+fn cost_at(line: &[u8], at: usize, task: u32) -> Result<(Stage, usize), Fault>
     ensures { result ≡ cost_at task line.now at }
 {
-    match field_at(line, at, b" cost ", 1, 65535) {
-        NumberRead::Is(c, end) => space_at(line, end, task, c),
-        NumberRead::Missing => StageRead::Bad(Fault::NotCost),
-        NumberRead::Outside => StageRead::Bad(Fault::Cost),
-    }
+    let field = field_at(line, at, b" cost ", 1, 65535);
+    let (cost, end) = needed(field, Fault::NotCost, Fault::Cost)?;
+    space_at(line, end, task, cost)
 }
 
-// A task, a cost and the space behind them.
-fn pair_at(line: &[u8], at: usize) -> StageRead
+// A task, a cost and the space behind them, and where that ends; nothing where no task stands.
+#[tactic(auto, unfolding(crate::specs::Lines::pair_at, crate::specs::Lines::by_field, crate::specs::Lines::leads))]
+fn pair_at(line: &[u8], at: usize) -> Result<Option<(Stage, usize)>, Fault>
     ensures { result ≡ pair_at line.now at }
 {
     match field_at(line, at, b"task ", 0, 15) {
-        NumberRead::Is(task, end) => cost_at(line, end, task),
-        NumberRead::Missing => StageRead::Missing,
-        NumberRead::Outside => StageRead::Bad(Fault::Task),
+        Ok((task, end)) => {
+            let g = cost_at(line, end, task)?;
+            Ok(Some(g))
+        }
+        Err(NumberFault::Missing) => Ok(None),
+        Err(NumberFault::Outside) => Err(Fault::Task),
     }
 }
 
 // One stage more. A stream that has four stays as it is.
+#[tactic(auto, unfolding(crate::specs::Lines::staged))]
 fn add_stage(s: Stream, g: Stage) -> Stream
     ensures { result ≡ staged s g }
 {
@@ -416,41 +366,50 @@ fn too_many(version: u32) -> Fault
 }
 
 // No stage more: the deadline stands here.
-fn last_stage(line: &[u8], at: usize, s: Stream, version: u32) -> LineRead
+#[tactic(auto, unfolding(crate::specs::Lines::stages_at))]
+fn last_stage(line: &[u8], at: usize, s: Stream, version: u32) -> Result<Stream, Fault>
     ensures { result ≡ stages_at version 0 s line.now at }
 {
     if starts(line, at, b"task ") {
-        bad_line(too_many(version))
+        Err(too_many(version))
     } else {
         stages_end(line, at, s)
     }
 }
 
 // At most `left` stages more.
-fn stages(line: &[u8], at: usize, s: Stream, version: u32, left: usize) -> LineRead
+#[tactic(auto, unfolding(crate::specs::Lines::stages_at, crate::specs::Lines::by_stage))]
+fn stages(line: &[u8], at: usize, s: Stream, version: u32, left: usize) -> Result<Stream, Fault>
     ensures { result ≡ stages_at version left s line.now at }
 {
     if left == 0 {
         return last_stage(line, at, s, version);
     }
-    match pair_at(line, at) {
-        StageRead::Is(g, end) => stages(line, end, add_stage(s, g), version, left - 1),
-        StageRead::Missing => stages_end(line, at, s),
-        StageRead::Bad(why) => bad_line(why),
+    match pair_at(line, at)? {
+        Some((g, end)) => stages(line, end, add_stage(s, g), version, left - 1),
+        None => stages_end(line, at, s),
     }
 }
 
 // What a line says in a text of this version.
-pub fn read_line(line: &[u8], version: u32) -> LineRead
+#[tactic(auto, unfolding(crate::specs::Lines::line_read, crate::specs::Lines::leads))]
+pub fn read_line(line: &[u8], version: u32) -> Result<Said, Fault>
     ensures { result ≡ line_read version line.now }
 {
-    if line.len() == 0 {
-        return no_stream_read(Meaning::Nothing);
+    if line.is_empty() {
+        return Ok(Said::Nothing);
     }
     if ascii::same(line, b"version 2") {
-        return no_stream_read(Meaning::Version);
+        return Ok(Said::Version);
     }
-    stages(line, 0, no_stream(), version, most_stages(version))
+    let s = stages(
+        line,
+        0,
+        stream_valid::no_stream(),
+        version,
+        most_stages(version),
+    )?;
+    Ok(Said::Stream(s))
 }
 
 // How many bytes a line has at most in a text of this version.
@@ -461,15 +420,14 @@ fn longest_line(version: u32) -> usize
 }
 
 // What the tidy bytes of a line say in a text of this version.
-pub fn judge(row: Row, version: u32) -> LineRead
+#[tactic(auto, unfolding(crate::specs::Lines::judged))]
+pub fn judge(row: Row, version: u32) -> Result<Said, Fault>
     ensures { result ≡ judged version row }
 {
-    let n = row.len;
-    let bytes = row.bytes;
-    if n <= longest_line(version) {
-        read_line(&bytes[..n], version)
+    if row.len <= longest_line(version) {
+        read_line(&row.bytes[..row.len], version)
     } else {
-        bad_line(Fault::LongLine)
+        Err(Fault::LongLine)
     }
 }
 
@@ -480,62 +438,49 @@ fn stage_text(l: Line, g: Stage) -> Line
     ensures { result ≡ puts l (stage_text g) }
 {
     let task = line::one(l, b"task", g.task as u64);
-    let cost = line::one(task, b" cost", g.cost as u64);
+    let cost = line::one(task, b" cost", u64::from(g.cost));
     line::put(cost, b' ')
 }
 
 fn tuple_text(l: Line, p: TuplePlace) -> Line
     ensures { result ≡ puts l (place_text p) }
 {
-    let t = p.tuple;
-    match t {
-        Tuple::Once(a) => line::decimal(line::word(l, b" once@"), a as u64),
+    match p.tuple {
+        Tuple::Once(a) => line::decimal(line::word(l, b" once@"), u64::from(a)),
         Tuple::Every(z, a) => line::decimal(
-            line::word(line::one(l, b" every", z as u64), b"@"),
-            a as u64,
+            line::word(line::one(l, b" every", u64::from(z)), b"@"),
+            u64::from(a),
         ),
     }
 }
 
+// The tuples in use, one behind the other.
 fn tuples_text(l: Line, s: Stream) -> Line
-    ensures { result ≡ puts l (flat place_text (tuples_of s)) }
+    ensures { result ≡ fold (λ l p. puts l (place_text p)) l (tuples_of s) }
 {
-    let n = s.count;
-    let mut next = l;
-    let mut k: usize = 0;
-    while k < 4 {
-        if n <= k {
-            return next;
-        }
-        let p = s.tuples[k];
-        next = tuple_text(next, p);
-        k += 1;
-    }
-    next
+    let tuples = stream_valid::tuples_of(&s);
+    tuples.iter().copied().fold(l, tuple_text)
+}
+
+// The stages in use, one behind the other.
+fn stages_text(l: Line, s: Stream) -> Line
+    ensures { result ≡ fold (λ l g. puts l (stage_text g)) l (stages_of s) }
+{
+    let stages = stream_valid::stages_of(&s);
+    stages.iter().copied().fold(l, stage_text)
 }
 
 // The front of a stream's own line: its stages, a space behind each.
 pub fn stages_line(s: Stream) -> Line
     ensures { result ≡ puts (holding []) (stages_text s) }
 {
-    let n = s.depth;
-    let mut next = line::blank();
-    let mut j: usize = 0;
-    while j < 4 {
-        if n <= j {
-            return next;
-        }
-        let g = s.stages[j];
-        next = stage_text(next, g);
-        j += 1;
-    }
-    next
+    stages_text(line::blank(), s)
 }
 
 // The rest of it, without the newline: the deadline and the event limit.
 pub fn limit_line(s: Stream) -> Line
     ensures { result ≡ puts (holding []) (limit_text s) }
 {
-    let deadline = line::one(line::blank(), b"deadline", s.deadline as u64);
+    let deadline = line::one(line::blank(), b"deadline", u64::from(s.deadline));
     tuples_text(deadline, s)
 }

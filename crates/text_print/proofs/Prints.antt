@@ -3,21 +3,20 @@
 use Prim.Native.Nat.{ℕ, ◌+◌, ◌-◌, ◌*◌, ◌≤◌, ◌<◌}
 use native.Mathlib.Omega.{arith}
 use mathlib.Core.Path.{◌≡◌, refl, sym, ap, ◌∙◌}
-use mathlib.Core.Logic.{◌⊎◌}
-use mathlib.Core.Bool.{Bool, true, false}
+use mathlib.Core.Bool.{true, false≢true}
 use mathlib.Core.List.{List, [], ◌∷◌, ◌++◌, append_assoc, append-nil}
-use lib.ListN.{length, get_or, take, drop, length-append, take-append-drop}
-use lib.Seq.{drop-drop, length-take-le}
+use lib.ListN.{length, get_or, take, drop, length-append, take-append-drop, drop_of_length-le}
+use lib.Seq.{drop-drop, drop-cons, length-take-le}
+use native.Mathlib.Numerals.{add-one}
+use Rattle.std.proofs.lemmas.List.Folds.{list_all_at}
 use lib.Dec.{leb, eqb}
-use borrow.Author.Tests.{le-leb, lt-leb, eq-eqb, ne_eqb}
-use Rattle.laws.specs.Lists.{all, flat}
-use Rattle.laws.proofs.Parts.{part, part_cons, part_nil, get_d_any, all_within}
+use borrow.Author.Tests.{eq-eqb, ne_eqb}
+use Rattle.std.specs.List.{list_all}
+use Rattle.laws.specs.Lists.{flat}
 use Rattle.laws.proofs.Sums.{by_test, and_parts}
 use Rattle.rules.specs.declared.Stream.{Stream}
 use Rattle.rules.specs.declared.Set.{Set}
-use Rattle.rules.specs.declared.Refusal.TheVariants.{OutOfRule, ShortBuffer}
-use Rattle.rules.specs.declared.WriteAnswer.TheVariants.{Wrote, Refused}
-use Rattle.rules.specs.Streams.{no_stream, streams_of, stream_ok, valid}
+use Rattle.rules.specs.Streams.{streams_of, stream_ok, valid}
 use Rattle.rules.proofs.Valid.{valid_stream}
 use Rattle.line.specs.declared.Line.{Line}
 use Rattle.line.specs.Line.{holding, put_of, puts}
@@ -26,7 +25,7 @@ use Rattle.text_line.specs.Lines.{stages_text, limit_text, version_text}
 use Rattle.text_line.proofs.Short.{stages_short, limit_short}
 use Rattle.page.specs.Pages.{appended, end_of}
 use Rattle.page.proofs.Rooms.{end_at, holds_then, same_size, rest_stays}
-use Rattle.text_print.specs.Listed.{first_text, line_text, text_of, list_of, page_of}
+use Rattle.text_print.specs.Listed.{first_text, line_text, text_of}
 
 -- the line for the version
 module _ (version : ℕ) (b : Line) (e : b ≡ holding []) where
@@ -40,10 +39,13 @@ module _ (version : ℕ) (b : Line) (e : b ≡ holding []) where
 pub end_is : (l r : Line) (s : Stream) → l ≡ puts (holding []) (limit_text s) → r ≡ put_of l 10 → r ≡ puts (holding []) (limit_text s ++ (10 ∷ []))
 end_is l r s e f = last (holding []) l r (limit_text s) 10 e f
 
-stream_ok_lem : (x : Set) (k : ℕ) → valid x ≡ true → k < x.count → k < length x.streams → stream_ok (get_or x.streams k no_stream) ≡ true
+streams_ok : (x : Set) → valid x ≡ true → list_all stream_ok (streams_of x) ≡ true
 unfolding valid
-stream_ok_lem x k ok h g =
-    all_within stream_ok x.streams x.count k no_stream (and_parts (all stream_ok (streams_of x)) _ (and_parts (leb x.count 16) _ ok).1).0 h g
+streams_ok x ok = (and_parts (list_all stream_ok (streams_of x)) _ (and_parts (leb x.count 16) _ ok).1).0
+
+stream_ok_lem : (ss : List Stream) (k : ℕ) (d : Stream) → list_all stream_ok ss ≡ true → k < length ss → stream_ok (get_or ss k d) ≡ true
+stream_ok_lem ss k d ok h =
+    by_test (stream_ok (get_or ss k d)) (λ e. e) (λ e. absurd (false≢true (sym (list_all_at stream_ok ss k d h e) ∙ ok)))
 
 first_short : (version : ℕ) → length (first_text version) ≤ 10
 first_short version = by_test (eqb version 2) (λ e. rw e (omega arith)) (λ e. rw e (omega arith))
@@ -97,53 +99,52 @@ print_first x out l o a room f i j =
       page = part_put (v ++ more) out out 0 v more p l f (omega arith) (omega arith) o a i j;
     }
 
--- behind it the lines of the streams so far; out₀ and at₀ are what the loop began with
-pub record Listing (x : Set) (out₀ : List ℕ) (at₀ : ℕ) (out : List ℕ) (k at : ℕ) : Type 0 where
-  pub sixteen : length x.streams ≡ 16
+-- behind it the lines of the first k streams of ss; out₀ and at₀ are what the loop began with
+pub record Listing (x : Set) (ss : List Stream) (out₀ : List ℕ) (at₀ : ℕ) (out : List ℕ) (k at : ℕ) : Type 0 where
+  pub streams : ss ≡ streams_of x
+  pub few : length ss ≤ 16
   pub room : at₀ + 3072 ≤ length out₀
-  pub few : k ≤ 16
   pub low : at ≤ at₀ + k * 192
-  pub page : Printing (take at₀ out₀ ++ flat line_text (streams_of x)) out₀ out at (flat line_text (part k x.count x.streams))
+  pub page : Printing (take at₀ out₀ ++ flat line_text (streams_of x)) out₀ out at (flat line_text (drop k ss))
 
-pub print_start : (x : Set) (out o : List ℕ) (a : ℕ) → length x.streams ≡ 16 → 3264 ≤ length out → Begun x out o a → Listing x o a o 0 a
-unfolding part
-print_start x out o a sixteen room p =
+pub print_start : (x : Set) (ss : List Stream) (out o : List ℕ) (a : ℕ) → ss ≡ streams_of x → length ss ≤ 16 → 3264 ≤ length out → Begun x out o a → Listing x ss o a o 0 a
+print_start x ss out o a e few room p =
     record {
-      sixteen = sixteen;
+      streams = e;
+      few = few;
       room = omega (arith, p.low, p.page.size);
-      few = omega arith;
       low = omega arith;
-      page = record { size = refl; text = refl; rest = refl };
+      page = record { size = refl; text = ap (λ (rs : List Stream). take a o ++ flat line_text rs) e; rest = refl };
     }
 
-module _ (x : Set) (out₀ : List ℕ) (at₀ : ℕ) (out : List ℕ) (k at : ℕ) (q : Listing x out₀ at₀ out k at) where
-  pub print_turn : (d s : Stream) (l m : Line) (o₁ o : List ℕ) (b a : ℕ) → valid x ≡ true → k < 16 → k < x.count
-      → s ≡ get_or x.streams k d → l ≡ puts (holding []) (stages_text s) → b ≡ end_of out at l → o₁ ≡ appended out at l
-      → m ≡ puts (holding []) (limit_text s ++ (10 ∷ [])) → a ≡ end_of o₁ b m → o ≡ appended o₁ b m → Listing x out₀ at₀ o (k + 1) a
+module _ (x : Set) (ss : List Stream) (out₀ : List ℕ) (at₀ : ℕ) (out : List ℕ) (k at : ℕ) (q : Listing x ss out₀ at₀ out k at) where
+  pub print_turn : (d s : Stream) (l m : Line) (o₁ o : List ℕ) (b a : ℕ) → valid x ≡ true → k < length ss
+      → s ≡ get_or ss k d → l ≡ puts (holding []) (stages_text s) → b ≡ end_of out at l → o₁ ≡ appended out at l
+      → m ≡ puts (holding []) (limit_text s ++ (10 ∷ [])) → a ≡ end_of o₁ b m → o ≡ appended o₁ b m → Listing x ss out₀ at₀ o (k + 1) a
   unfolding flat
-  print_turn d s l m o₁ o b a ok h g e₀ f i j f₂ i₂ j₂ =
-      let sixteen : length x.streams ≡ 16 = q.sixteen in
-      let e : s ≡ get_or x.streams k no_stream = e₀ ∙ get_d_any x.streams k d no_stream (omega arith) in
-      let fine : stream_ok s ≡ true = ap stream_ok e ∙ stream_ok_lem x k ok g (omega arith) in
+  print_turn d s l m o₁ o b a ok h e f i j f₂ i₂ j₂ =
+      let all : list_all stream_ok ss ≡ true = ap (list_all stream_ok) q.streams ∙ streams_ok x ok in
+      let fine : stream_ok s ≡ true = ap stream_ok e ∙ stream_ok_lem ss k d all h in
       let deep : s.depth ≤ 4 = (valid_stream s fine).depth.high in
       let front : length (stages_text s) ≤ 76 = omega (arith, stages_short s fine) in
       let back : length (limit_text s ++ (10 ∷ [])) ≤ 100 = omega (arith, length-append (limit_text s) (10 ∷ []), limit_short s fine) in
       let whole : List ℕ = take at₀ out₀ ++ flat line_text (streams_of x) in
-      let more : List ℕ = flat line_text (part (k + 1) x.count x.streams) in
-      let left : flat line_text (part k x.count x.streams) ≡ stages_text s ++ ((limit_text s ++ (10 ∷ [])) ++ more) =
-      ap (flat line_text) (part_cons x.streams x.count k no_stream g (omega arith))
+      let more : List ℕ = flat line_text (drop (k + 1) ss) in
+      let cons : drop k ss ≡ get_or ss k d ∷ drop (k + 1) ss = rw add-one (drop-cons ss k d h) in
+      let left : flat line_text (drop k ss) ≡ stages_text s ++ ((limit_text s ++ (10 ∷ [])) ++ more) =
+      ap (flat line_text) cons
       ∙ ap (λ (y : Stream). line_text y ++ more) (sym e)
       ∙ ap (λ (w : List ℕ). w ++ more) (append_assoc (stages_text s) (limit_text s) (10 ∷ []))
       ∙ append_assoc (stages_text s) (limit_text s ++ (10 ∷ [])) more in
       let p : Printing whole out₀ out at (stages_text s ++ ((limit_text s ++ (10 ∷ [])) ++ more)) = rw left at q.page in
-      let fits : at + 176 ≤ length out = omega (arith, q.low, q.room, p.size) in
+      let fits : at + 176 ≤ length out = omega (arith, q.low, q.few, q.room, p.size) in
       let one : b ≡ at + length (stages_text s) = part_end whole out₀ out at (stages_text s) _ p l f (omega arith) (omega arith) b i in
       let p₂ : Printing whole out₀ o₁ b ((limit_text s ++ (10 ∷ [])) ++ more) = part_put whole out₀ out at (stages_text s) _ p l f (omega arith) (omega arith) o₁ b i j in
       let fits₂ : b + 100 ≤ length o₁ = omega (arith, p.size, p₂.size) in
       record {
-        sixteen = sixteen;
+        streams = q.streams;
+        few = q.few;
         room = q.room;
-        few = omega arith;
         low = omega (arith, q.low, part_end whole out₀ o₁ b (limit_text s ++ (10 ∷ [])) more p₂ m f₂ (omega arith) (omega arith) a i₂);
         page = part_put whole out₀ o₁ b (limit_text s ++ (10 ∷ [])) more p₂ m f₂ (omega arith) (omega arith) o a i₂ j₂;
       }
@@ -152,10 +153,10 @@ module _ (x : Set) (out₀ : List ℕ) (at₀ : ℕ) (out : List ℕ) (k at : �
     pub print_size : length out ≡ length out₁
     print_size = q.page.size ∙ r.page.size
 
-    pub print_end : (x.count ≤ k) ⊎ (length x.streams ≤ k) → (at ≡ length (text_of x)) × (out ≡ text_of x ++ drop (length (text_of x)) out₁)
+    pub print_end : k ≤ length ss → length ss ≤ k → (at ≡ length (text_of x)) × (out ≡ text_of x ++ drop (length (text_of x)) out₁)
     unfolding flat
-    print_end h =
-        let p : Printing (take at₀ out₀ ++ flat line_text (streams_of x)) out₀ out at [] = rw (part_nil x.streams x.count k h) at q.page in
+    print_end g h =
+        let p : Printing (take at₀ out₀ ++ flat line_text (streams_of x)) out₀ out at [] = rw (drop_of_length-le ss h) at q.page in
         let printed : take at out ≡ text_of x = sym (append-nil (take at out)) ∙ p.text ∙ r.page.text in
         let inside : at ≤ length out = omega (arith, q.low, q.few, q.room, p.size) in
         let end : at ≡ length (text_of x) = sym (length-take-le at out inside) ∙ ap length printed in
@@ -175,19 +176,3 @@ module _ (x : Set) (out₀ : List ℕ) (at₀ : ℕ) (out : List ℕ) (k at : �
             ∙ ap (λ (w : List ℕ). drop (n - at₀) w) r.page.rest
             ∙ drop-drop (n - at₀) at₀ out₁
             ∙ ap (λ (m : ℕ). drop m out₁) (sym sum)
-
--- ---- the answer
-
-module _ (x : Set) (out : List ℕ) (t : Bool) (q : t ≡ valid x) where
-  pub listed : (n : ℕ) (o : List ℕ) → t ≡ true → 3264 ≤ length out → n ≡ length (text_of x) → o ≡ text_of x ++ drop (length (text_of x)) out
-      → (Wrote n ≡ list_of x (length out)) × (o ≡ page_of x out)
-  unfolding list_of page_of
-  listed n o e h f g = rw (sym q ∙ e, le-leb 3264 (length out) h) (ap Wrote f, g)
-
-  pub short_page : t ≡ true → length out < 3264 → (Refused ShortBuffer ≡ list_of x (length out)) × (out ≡ page_of x out)
-  unfolding list_of page_of
-  short_page e h = rw (sym q ∙ e, lt-leb 3264 (length out) h) (refl, refl)
-
-  pub invalid : t ≡ false → (Refused OutOfRule ≡ list_of x (length out)) × (out ≡ page_of x out)
-  unfolding list_of page_of
-  invalid e = rw (sym q ∙ e) (refl, refl)

@@ -5,8 +5,8 @@ use Rattle.laws.specs.Lists.{flat}
 use Rattle.rules.specs.declared.Stream.{Stream}
 use Rattle.rules.specs.declared.Set.{Set}
 use Rattle.rules.specs.declared.Refusal.TheVariants.{OutOfRule, ShortBuffer}
-use Rattle.rules.specs.declared.WriteAnswer.{WriteAnswer}
-use Rattle.rules.specs.declared.WriteAnswer.TheVariants.{Wrote, Refused}
+use Rattle.std.specs.Prelude.{Result, Ok, Err}
+use Rattle.rules.specs.declared.Refusal.{Refusal}
 use Rattle.rules.specs.Streams.{streams_of, valid}
 use Rattle.ascii.specs.Decimal.{newline}
 use Rattle.text_tidy.specs.Tidied.{row_room}
@@ -28,8 +28,8 @@ abbrev pub text_room : ℕ
 text_room = 17 * row_room
 
 -- 7 for an invalid set, then 11 for a page with less than that
-unfoldable pub list_of : Set → ℕ → WriteAnswer
-list_of x room = cond (valid x) (cond (leb text_room room) (Wrote (length (text_of x))) (Refused ShortBuffer)) (Refused OutOfRule)
+unfoldable pub list_of : Set → ℕ → Result ℕ Refusal
+list_of x room = cond (valid x) (cond (leb text_room room) (Ok (length (text_of x))) (Err ShortBuffer)) (Err OutOfRule)
 
 -- the text at the front of the page, and the rest as it was; a refused one changes nothing
 unfoldable pub page_of : Set → List ℕ → List ℕ

@@ -3,7 +3,7 @@
 use Prim.Native.Nat.{ℕ, suc, ◌+◌, ◌-◌, ◌<◌}
 use native.Mathlib.Omega.{arith}
 use mathlib.Core.Path.{◌≡◌, refl, sym, ap, ◌∙◌}
-use mathlib.Core.Bool.{Bool, true, false, cond}
+use mathlib.Core.Bool.{true, false, cond}
 use mathlib.Core.List.{List, [], ◌∷◌, ◌++◌}
 use lib.ListN.{length, set, length-append}
 use lib.Seq.{set-append_seam, append_snoc}
@@ -14,24 +14,37 @@ use Rattle.rules.specs.declared.Stream.{Stream}
 use Rattle.rules.specs.Sheet.{set_of}
 use Rattle.text_line.specs.declared.Fault.{Fault}
 use Rattle.text_line.specs.declared.Fault.TheVariants.{LateVersion, ManyStreams}
-use Rattle.text_line.specs.declared.Meaning.{Meaning}
-use Rattle.text_line.specs.declared.Meaning.TheVariants.{Stream as IsStream, Version, Nothing, Bad as BadLine}
-use Rattle.text_line.specs.declared.LineRead.{LineRead}
-use Rattle.text_line.specs.Lines.{judged, longest}
+use Rattle.std.specs.Prelude.{Result, Ok, Err}
+use Rattle.rules.specs.declared.Set.{Set}
+use Rattle.text_line.specs.declared.Said.{Said}
+use Rattle.text_line.specs.declared.Said.TheVariants.{Stream as IsStream, Version, Nothing}
+use Rattle.text_line.specs.Lines.{leads, judged, longest}
 use Rattle.text_line.proofs.Judged.{judged_short, judged_long}
+use Rattle.text_tidy.specs.declared.Spot.{Spot}
+use Rattle.text_tidy.specs.declared.Spot.TheVariants.{Word}
 use Rattle.text_tidy.specs.declared.Tidy.{Tidy}
 use Rattle.text_tidy.specs.Tidied.{row_of, fresh, kept_of}
 use Rattle.text_tidy.proofs.Whole.{kept, with, with_none, with_all, Next, next}
-use Rattle.text_read.specs.declared.Finding.TheVariants.{Fine}
+use Rattle.text_read.specs.declared.BadLine.{BadLine}
 use Rattle.text_read.specs.declared.Draft.{Draft}
-use Rattle.text_read.specs.declared.TextRead.{TextRead}
-use Rattle.text_read.specs.Texts.{is_newline, first_line, more_lines, line_says, by_said, untold, following, is_bad, lines_read, text_read, faulty, onward, with_stream, with_version, line_ended, start_of, step_of, feed_of, close_of}
+use Rattle.text_read.specs.Texts.{is_newline, first_line, more_lines, line_says, by_said, untold, following, is_bad, lines_read, text_read, onward, with_stream, with_version, line_ended, start_of, step_of, feed_of, close_of}
+
+-- what leads on twice
+pub leads_twice : {A B C E : Type 0} (r : Result A E) (f : A → Result B E) (g : B → Result C E) → leads (leads r f) g ≡ leads r (λ x. leads (f x) g)
+unfolding leads
+leads_twice (Ok x) f g = refl
+leads_twice (Err why) f g = refl
 
 -- pieces: a text may be cut anywhere
-pub cut_anywhere : (d : Draft) (v w : List ℕ) → feed_of d (v ++ w) ≡ feed_of (feed_of d v) w
-unfolding feed_of
+pub cut_anywhere : (d : Draft) (v w : List ℕ) → feed_of d (v ++ w) ≡ leads (feed_of d v) (λ e. feed_of e w)
+unfolding feed_of leads
 cut_anywhere d [] w = refl
-cut_anywhere d (b ∷ v) w = cut_anywhere (step_of d b) v w
+cut_anywhere d (b ∷ v) w = on (step_of d b) (λ e. cut_anywhere e v w)
+  where
+    on : (r : Result Draft BadLine) → ((e : Draft) → feed_of e (v ++ w) ≡ leads (feed_of e v) (λ x. feed_of x w))
+        → leads r (λ e. feed_of e (v ++ w)) ≡ leads (leads r (λ e. feed_of e v)) (λ e. feed_of e w)
+    on (Ok e) f = f e
+    on (Err why) f = refl
 
 -- what a line says, from the row that keeps its bytes
 says : (version : ℕ) (v : List ℕ) → judged version (row_of v) ≡ line_says version v
@@ -49,115 +62,110 @@ set_more version ss s h =
     let size : length (ss ++ (s ∷ [])) ≡ length ss + 1 = length-append ss (s ∷ []) in
     rw (rest, size, room, set-append_seam, append_snoc)
 
--- a text that is fine so far: the version, the line number n, the streams ss, and the line
+-- a text so far: the version, the line number n, the streams ss, and the line
 abbrev drafted : ℕ → ℕ → List Stream → Tidy → Draft
-drafted version n ss t = record { set = set_of version ss; number = n; tidy = t; found = Fine }
-
--- behind a bad line nothing counts
-stuck : (n : ℕ) (why : Fault) (l : List ℕ) → close_of (feed_of (faulty n why) l) ≡ is_bad n why
-unfolding faulty feed_of step_of close_of
-stuck n why [] = refl
-stuck n why (b ∷ l) = stuck n why l
+drafted version n ss t = record { set = set_of version ss; number = n; tidy = t }
 
 -- a line that ends: what comes after it decides
-told : ℕ → ℕ → List Stream → LineRead → List (List ℕ) → TextRead
+told : ℕ → ℕ → List Stream → Result Said Fault → List (List ℕ) → Result Set BadLine
 told version n ss r ls =
-    by_said r.said (cond (ltb (length ss) 16) (lines_read version (following n) (ss ++ (r.stream ∷ [])) ls) (is_bad n ManyStreams))
+    by_said r (λ s. cond (ltb (length ss) 16) (lines_read version (following n) (ss ++ (s ∷ [])) ls) (is_bad n ManyStreams))
     (cond (untold version (length ss)) (lines_read 2 (following n) ss ls) (is_bad n LateVersion)) (lines_read version (following n) ss ls)
     (λ why. is_bad n why)
 
-module _ (f : Draft → TextRead) (ls : List (List ℕ)) (version n : ℕ) (ss : List Stream) (t : Tidy)
-    (on : (u m : ℕ) (rs : List Stream) → f (drafted u m rs fresh) ≡ lines_read u m rs ls)
-    (off : (m : ℕ) (why : Fault) → f (faulty m why) ≡ is_bad m why) where
-  ends_as : (w : Meaning) (s : Stream)
-      → f (by_said w (with_stream (set_of version ss) n s) (with_version (set_of version ss) n) (onward (set_of version ss) n) (λ why. faulty n why))
-      ≡ by_said w (cond (ltb (length ss) 16) (lines_read version (following n) (ss ++ (s ∷ [])) ls) (is_bad n ManyStreams))
-      (cond (untold version (length ss)) (lines_read 2 (following n) ss ls) (is_bad n LateVersion)) (lines_read version (following n) ss ls) (λ why. is_bad n why)
-  unfolding with_stream with_version onward
-  ends_as IsStream s =
+module _ (f : Draft → Result Set BadLine) (ls : List (List ℕ)) (version n : ℕ) (ss : List Stream) (t : Tidy)
+    (on : (u m : ℕ) (rs : List Stream) → f (drafted u m rs fresh) ≡ lines_read u m rs ls) where
+  ends_as : (w : Result Said Fault)
+      → leads (by_said w (λ s. with_stream (set_of version ss) n s) (with_version (set_of version ss) n) (Ok (onward (set_of version ss) n)) (λ why. is_bad n why)) f
+      ≡ told version n ss w ls
+  unfolding with_stream with_version onward leads told
+  ends_as (Ok (IsStream s)) =
       by_test (ltb (length ss) 16)
       (λ e. rw (e, set_more version ss s (ltb-true (length ss) 16 e)) (on version (following n) (ss ++ (s ∷ []))))
-      (λ e. rw e (off n ManyStreams))
-  ends_as Version s =
-      by_test (untold version (length ss)) (λ e. rw e (on 2 (following n) ss)) (λ e. rw e (off n LateVersion))
-  ends_as Nothing s = on version (following n) ss
-  ends_as (BadLine why) s = off n why
+      (λ e. rw e)
+  ends_as (Ok Version) = by_test (untold version (length ss)) (λ e. rw e (on 2 (following n) ss)) (λ e. rw e)
+  ends_as (Ok Nothing) = on version (following n) ss
+  ends_as (Err why) = refl
 
-  ends : (v : List ℕ) → t.row ≡ row_of v → f (line_ended (drafted version n ss t)) ≡ told version n ss (line_says version v) ls
-  unfolding line_ended told
-  ends v e = rw (e, says version v) (ends_as (line_says version v).said (line_says version v).stream)
+  ends : (v : List ℕ) → t.row ≡ row_of v → leads (line_ended (drafted version n ss t)) f ≡ told version n ss (line_says version v) ls
+  unfolding line_ended
+  ends v e = rw (e, says version v) (ends_as (line_says version v))
 
-finish : Draft → TextRead
-finish d = record { found = d.found; set = d.set }
+-- what a text that goes on so reads as
+reads : Draft → List ℕ → Result Set BadLine
+reads d l = leads (feed_of d l) (λ e. close_of e)
+
+finish : Draft → Result Set BadLine
+finish d = Ok d.set
 
 fresh_line : (l : List ℕ) (u m : ℕ) (rs : List Stream)
-    → close_of (feed_of (drafted u m rs (kept [] false false)) l) ≡ told u m rs (line_says u (with [] false false (first_line l))) (more_lines l)
-    → close_of (feed_of (drafted u m rs fresh) l) ≡ lines_read u m rs (first_line l ∷ more_lines l)
+    → reads (drafted u m rs (kept [] Word)) l ≡ told u m rs (line_says u (with [] Word (first_line l))) (more_lines l)
+    → reads (drafted u m rs fresh) l ≡ lines_read u m rs (first_line l ∷ more_lines l)
 unfolding fresh told lines_read
 fresh_line l u m rs e = e ∙ ap (λ (w : List ℕ). told u m rs (line_says u w) (more_lines l)) (with_all (first_line l))
 
--- a byte, for a text that is fine so far
+-- a byte
 module _ (version n : ℕ) (ss : List Stream) (t : Tidy) where
-  at_newline : (b : ℕ) → is_newline b ≡ true → step_of (drafted version n ss t) b ≡ line_ended (drafted version n ss t)
-  unfolding step_of
-  at_newline b e = rw e
+  at_newline : (b : ℕ) (l : List ℕ) → is_newline b ≡ true → reads (drafted version n ss t) (b ∷ l) ≡ leads (line_ended (drafted version n ss t)) (λ e. reads e l)
+  unfolding reads feed_of step_of
+  at_newline b l e = rw e (leads_twice (line_ended (drafted version n ss t)) (λ d. feed_of d l) (λ d. close_of d))
 
-  at_byte : (b : ℕ) → is_newline b ≡ false → step_of (drafted version n ss t) b ≡ drafted version n ss (kept_of t b)
-  unfolding step_of
-  at_byte b e = rw e
+  at_byte : (b : ℕ) (l : List ℕ) → is_newline b ≡ false → reads (drafted version n ss t) (b ∷ l) ≡ reads (drafted version n ss (kept_of t b)) l
+  unfolding reads feed_of step_of leads
+  at_byte b l e = rw e
 
-  at_end : close_of (drafted version n ss t) ≡ finish (line_ended (drafted version n ss t))
-  unfolding close_of step_of finish
+  at_end : reads (drafted version n ss t) [] ≡ leads (line_ended (drafted version n ss t)) finish
+  unfolding reads feed_of close_of step_of leads finish
   at_end = refl
 
 -- the lines of the bytes that come
-module _ (u n : ℕ) (ss : List Stream) (v : List ℕ) (comment gap : Bool) (b : ℕ) (l : List ℕ) where
+module _ (u n : ℕ) (ss : List Stream) (v : List ℕ) (spot : Spot) (b : ℕ) (l : List ℕ) where
   lines_newline : is_newline b ≡ true
-      → told u n ss (line_says u (with v comment gap (first_line (b ∷ l)))) (more_lines (b ∷ l)) ≡ told u n ss (line_says u v) (first_line l ∷ more_lines l)
+      → told u n ss (line_says u (with v spot (first_line (b ∷ l)))) (more_lines (b ∷ l)) ≡ told u n ss (line_says u v) (first_line l ∷ more_lines l)
   unfolding first_line more_lines
-  lines_newline e = rw (e, with_none v comment gap)
+  lines_newline e = rw (e, with_none v spot)
 
   lines_byte : is_newline b ≡ false
-      → told u n ss (line_says u (with v comment gap (first_line (b ∷ l)))) (more_lines (b ∷ l)) ≡ told u n ss (line_says u (with v comment gap (b ∷ first_line l))) (more_lines l)
+      → told u n ss (line_says u (with v spot (first_line (b ∷ l)))) (more_lines (b ∷ l)) ≡ told u n ss (line_says u (with v spot (b ∷ first_line l))) (more_lines l)
   unfolding first_line more_lines
   lines_byte e = rw e
 
-lines_none : (u n : ℕ) (ss : List Stream) (v : List ℕ) (comment gap : Bool)
-    → told u n ss (line_says u (with v comment gap (first_line []))) (more_lines []) ≡ told u n ss (line_says u v) []
+lines_none : (u n : ℕ) (ss : List Stream) (v : List ℕ) (spot : Spot)
+    → told u n ss (line_says u (with v spot (first_line []))) (more_lines []) ≡ told u n ss (line_says u v) []
 unfolding first_line more_lines
-lines_none u n ss v comment gap = rw (with_none v comment gap)
+lines_none u n ss v spot = rw (with_none v spot)
 
 end_fine : (u m : ℕ) (rs : List Stream) → finish (drafted u m rs fresh) ≡ lines_read u m rs []
 unfolding finish lines_read
 end_fine u m rs = refl
 
-end_bad : (m : ℕ) (why : Fault) → finish (faulty m why) ≡ is_bad m why
-unfolding finish faulty
-end_bad m why = refl
-
-feeds : (l : List ℕ) (u n : ℕ) (ss : List Stream) (v : List ℕ) (comment gap : Bool)
-    → close_of (feed_of (drafted u n ss (kept v comment gap)) l) ≡ told u n ss (line_says u (with v comment gap (first_line l))) (more_lines l)
-unfolding feed_of
-feeds [] u n ss v comment gap =
-    at_end u n ss (kept v comment gap)
-    ∙ ends finish [] u n ss (kept v comment gap) end_fine end_bad v refl
-    ∙ sym (lines_none u n ss v comment gap)
-feeds (b ∷ l) u n ss v comment gap =
+feeds : (l : List ℕ) (u n : ℕ) (ss : List Stream) (v : List ℕ) (spot : Spot)
+    → reads (drafted u n ss (kept v spot)) l ≡ told u n ss (line_says u (with v spot (first_line l))) (more_lines l)
+feeds [] u n ss v spot =
+    at_end u n ss (kept v spot) ∙ ends finish [] u n ss (kept v spot) end_fine v refl ∙ sym (lines_none u n ss v spot)
+feeds (b ∷ l) u n ss v spot =
     by_test (is_newline b)
-    (λ e. ap (λ (d : Draft). close_of (feed_of d l)) (at_newline u n ss (kept v comment gap) b e)
-    ∙ ends (λ d. close_of (feed_of d l)) (first_line l ∷ more_lines l) u n ss (kept v comment gap) (λ w m rs. fresh_line l w m rs (feeds l w m rs [] false false)) (λ m why. stuck m why l) v refl
-    ∙ sym (lines_newline u n ss v comment gap b l e))
-    (λ e. let x : Next v comment gap b = next v comment gap b in
-    ap (λ (d : Draft). close_of (feed_of d l)) (at_byte u n ss (kept v comment gap) b e)
-    ∙ ap (λ (t : Tidy). close_of (feed_of (drafted u n ss t) l)) x.step
-    ∙ feeds l u n ss x.bytes x.commented x.waiting
+    (λ e. at_newline u n ss (kept v spot) b l e
+    ∙ ends (λ d. reads d l) (first_line l ∷ more_lines l) u n ss (kept v spot) (λ w m rs. fresh_line l w m rs (feeds l w m rs [] Word)) v refl
+    ∙ sym (lines_newline u n ss v spot b l e))
+    (λ e. let x : Next v spot b = next v spot b in
+    at_byte u n ss (kept v spot) b l e
+    ∙ ap (λ (t : Tidy). reads (drafted u n ss t) l) x.step
+    ∙ feeds l u n ss x.bytes x.stands
     ∙ ap (λ (w : List ℕ). told u n ss (line_says u w) (more_lines l)) (sym (x.same (first_line l)))
-    ∙ sym (lines_byte u n ss v comment gap b l e))
+    ∙ sym (lines_byte u n ss v spot b l e))
 
 -- however it was cut, a text reads as the whole of it does
-pub whole : (l : List ℕ) → close_of (feed_of start_of l) ≡ text_read l
-unfolding start_of text_read
-whole l = fresh_line l 1 1 [] (feeds l 1 1 [] [] false false)
+pub whole : (l : List ℕ) → leads (feed_of start_of l) (λ d. close_of d) ≡ text_read l
+unfolding start_of text_read reads
+whole l = fresh_line l 1 1 [] (feeds l 1 1 [] [] Word)
 
-pub read_whole : (l : List ℕ) (a b : Draft) (r : TextRead) → a ≡ start_of → b ≡ feed_of a l → r ≡ close_of b → r ≡ text_read l
-read_whole l a b r e f g = g ∙ rw (f, e) (whole l)
+-- the whole of it: a bad line before its end, or what the end leads to
+module _ (l : List ℕ) (a : Draft) (r : Result Draft BadLine) (e : a ≡ start_of) (f : r ≡ feed_of a l) where
+  pub read_faulty : (bad : BadLine) → r ≡ Err bad → Err bad ≡ text_read l
+  unfolding leads
+  read_faulty bad g = let h : feed_of start_of l ≡ Err bad = rw (e) at (sym f ∙ g) in rw h at (whole l)
+
+  pub read_whole : (d : Draft) (z : Result Set BadLine) → r ≡ Ok d → z ≡ close_of d → z ≡ text_read l
+  unfolding leads
+  read_whole d z g k = let h : feed_of start_of l ≡ Ok d = rw (e) at (sym f ∙ g) in k ∙ (rw h at (whole l))

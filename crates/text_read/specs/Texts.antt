@@ -1,6 +1,6 @@
 -- A readable text of a set: one stream a line; in version 2 `version 2` stands before them.
 -- Assumes nothing.
-use Rattle.std.specs.Prelude.{ℕ, ◌+◌, Bool, true, false, cond, ◌&&◌, List, [], ◌∷◌, ◌++◌, length, set, eqb, leb, ltb}
+use Rattle.std.specs.Prelude.{ℕ, ◌+◌, Bool, cond, ◌&&◌, List, [], ◌∷◌, ◌++◌, length, set, eqb, leb, ltb, Result, Ok, Err}
 use Prim.Native.Char.{code}
 use Rattle.rules.specs.declared.Stream.{Stream}
 use Rattle.rules.specs.declared.Set.{Set}
@@ -8,15 +8,12 @@ use Rattle.rules.specs.Streams.{empty_set}
 use Rattle.rules.specs.Sheet.{set_of}
 use Rattle.text_line.specs.declared.Fault.{Fault}
 use Rattle.text_line.specs.declared.Fault.TheVariants.{LongLine, LateVersion, ManyStreams}
-use Rattle.text_line.specs.declared.Meaning.{Meaning}
-use Rattle.text_line.specs.declared.Meaning.TheVariants.{Stream as IsStream, Version, Nothing, Bad as BadLine}
-use Rattle.text_line.specs.declared.LineRead.{LineRead}
-use Rattle.text_line.specs.Lines.{line_read, longest, judged, bad}
+use Rattle.text_line.specs.declared.Said.{Said}
+use Rattle.text_line.specs.declared.Said.TheVariants.{Stream as IsStream, Version, Nothing}
+use Rattle.text_line.specs.Lines.{leads, line_read, longest, judged}
 use Rattle.text_tidy.specs.Tidied.{tidied, fresh, kept_of}
-use Rattle.text_read.specs.declared.Finding.{Finding}
-use Rattle.text_read.specs.declared.Finding.TheVariants.{Fine, Bad}
+use Rattle.text_read.specs.declared.BadLine.{BadLine}
 use Rattle.text_read.specs.declared.Draft.{Draft}
-use Rattle.text_read.specs.declared.TextRead.{TextRead}
 
 -- ---- a whole text
 
@@ -33,23 +30,24 @@ more_lines [] = []
 more_lines (b ∷ l) = cond (is_newline b) (first_line l ∷ more_lines l) (more_lines l)
 
 -- what a line says in a text of a version, once it is tidy
-unfoldable pub line_says : ℕ → List ℕ → LineRead
-line_says version l = cond (leb (length l) (longest version)) (line_read version l) (bad LongLine)
+unfoldable pub line_says : ℕ → List ℕ → Result Said Fault
+line_says version l = cond (leb (length l) (longest version)) (line_read version l) (Err LongLine)
 
 -- what a line that says this leads to
 module _ {A : Type 0} where
-  abbrev pub by_said : Meaning → A → A → A → (Fault → A) → A
-  by_said IsStream stream version nothing faulty = stream
-  by_said Version stream version nothing faulty = version
-  by_said Nothing stream version nothing faulty = nothing
-  by_said (BadLine why) stream version nothing faulty = faulty why
+  abbrev pub by_said : Result Said Fault → (Stream → A) → A → A → (Fault → A) → A
+  by_said (Ok (IsStream s)) stream version nothing faulty = stream s
+  by_said (Ok Version) stream version nothing faulty = version
+  by_said (Ok Nothing) stream version nothing faulty = nothing
+  by_said (Err why) stream version nothing faulty = faulty why
 
 -- the number of the next line; it is counted up to 2^64 - 1
 unfoldable pub following : ℕ → ℕ
 following n = cond (ltb n 18446744073709551615) (n + 1) n
 
-abbrev pub is_bad : ℕ → Fault → TextRead
-is_bad n why = record { found = Bad n why; set = empty_set }
+-- the line of that number is bad
+abbrev pub is_bad : {A : Type 0} → ℕ → Fault → Result A BadLine
+is_bad n why = Err (record { number = n; fault = why })
 
 -- no line has said anything: the version is still 1, and there is no stream
 abbrev pub untold : ℕ → ℕ → Bool
@@ -58,62 +56,52 @@ untold version count = eqb version 1 && eqb count 0
 -- a text's streams are those of its lines, in order. "Version 2 has `version 2` as its first line": the first that says anything; a text without it is of
 -- version 1. The first bad line is the answer, with its number; a 17th stream makes its line bad, and so does `version 2` behind another line.
 -- n: the number of the line that comes; ss: the streams before it
-unfoldable pub lines_read : ℕ → ℕ → List Stream → List (List ℕ) → TextRead
-lines_read version n ss [] = record { found = Fine; set = set_of version ss }
+unfoldable pub lines_read : ℕ → ℕ → List Stream → List (List ℕ) → Result Set BadLine
+lines_read version n ss [] = Ok (set_of version ss)
 lines_read version n ss (l ∷ ls) =
-    by_said (line_says version (tidied l)).said
-    (cond (ltb (length ss) 16) (lines_read version (following n) (ss ++ ((line_says version (tidied l)).stream ∷ [])) ls) (is_bad n ManyStreams))
+    by_said (line_says version (tidied l))
+    (λ s. cond (ltb (length ss) 16) (lines_read version (following n) (ss ++ (s ∷ [])) ls) (is_bad n ManyStreams))
     (cond (untold version (length ss)) (lines_read 2 (following n) ss ls) (is_bad n LateVersion))
     (lines_read version (following n) ss ls)
     (λ why. is_bad n why)
 
 -- lines are numbered from 1
-unfoldable pub text_read : List ℕ → TextRead
+unfoldable pub text_read : List ℕ → Result Set BadLine
 text_read l = lines_read 1 1 [] (first_line l ∷ more_lines l)
 
 -- ---- the same, byte by byte
 
-abbrev pub is_fine : Finding → Bool
-is_fine Fine = true
-is_fine (Bad n why) = false
-
-unfoldable pub faulty : ℕ → Fault → Draft
-faulty n why = record { set = empty_set; number = n; tidy = fresh; found = Bad n why }
-
 unfoldable pub onward : Set → ℕ → Draft
-onward x n = record { set = x; number = following n; tidy = fresh; found = Fine }
+onward x n = record { set = x; number = following n; tidy = fresh }
 
-unfoldable pub with_stream : Set → ℕ → Stream → Draft
+unfoldable pub with_stream : Set → ℕ → Stream → Result Draft BadLine
 with_stream x n s =
     cond (ltb x.count 16)
-    (onward (record { count = x.count + 1; streams = set x.streams x.count s; version = x.version }) n)
-    (faulty n ManyStreams)
+    (Ok (onward (record { count = x.count + 1; streams = set x.streams x.count s; version = x.version }) n))
+    (is_bad n ManyStreams)
 
-unfoldable pub with_version : Set → ℕ → Draft
+unfoldable pub with_version : Set → ℕ → Result Draft BadLine
 with_version x n =
-    cond (untold x.version x.count) (onward (record { count = x.count; streams = x.streams; version = 2 }) n) (faulty n LateVersion)
+    cond (untold x.version x.count) (Ok (onward (record { count = x.count; streams = x.streams; version = 2 }) n)) (is_bad n LateVersion)
 
-unfoldable pub line_ended : Draft → Draft
+unfoldable pub line_ended : Draft → Result Draft BadLine
 line_ended d =
-    by_said (judged d.set.version d.tidy.row).said
-    (with_stream d.set d.number (judged d.set.version d.tidy.row).stream)
+    by_said (judged d.set.version d.tidy.row)
+    (λ s. with_stream d.set d.number s)
     (with_version d.set d.number)
-    (onward d.set d.number)
-    (λ why. faulty d.number why)
+    (Ok (onward d.set d.number))
+    (λ why. is_bad d.number why)
 
 unfoldable pub start_of : Draft
-start_of = record { set = empty_set; number = 1; tidy = fresh; found = Fine }
+start_of = record { set = empty_set; number = 1; tidy = fresh }
+
+unfoldable pub step_of : Draft → ℕ → Result Draft BadLine
+step_of d b = cond (is_newline b) (line_ended d) (Ok (record { set = d.set; number = d.number; tidy = kept_of d.tidy b }))
 
 -- behind a bad line nothing counts
-unfoldable pub step_of : Draft → ℕ → Draft
-step_of d b =
-    cond (is_fine d.found)
-    (cond (is_newline b) (line_ended d) (record { set = d.set; number = d.number; tidy = kept_of d.tidy b; found = Fine }))
-    d
+unfoldable pub feed_of : Draft → List ℕ → Result Draft BadLine
+feed_of d [] = Ok d
+feed_of d (b ∷ l) = leads (step_of d b) (λ e. feed_of e l)
 
-unfoldable pub feed_of : Draft → List ℕ → Draft
-feed_of d [] = d
-feed_of d (b ∷ l) = feed_of (step_of d b) l
-
-unfoldable pub close_of : Draft → TextRead
-close_of d = record { found = (step_of d (code "\n")).found; set = (step_of d (code "\n")).set }
+unfoldable pub close_of : Draft → Result Set BadLine
+close_of d = leads (step_of d (code "\n")) (λ e. Ok e.set)

@@ -3,7 +3,7 @@
 use Prim.Native.Nat.{ℕ, suc, ◌+◌, ◌-◌, ◌≤◌, ◌<◌}
 use native.Mathlib.Omega.{arith}
 use mathlib.Core.Path.{◌≡◌, refl, sym, ap, ◌∙◌}
-use mathlib.Core.Bool.{Bool, true, false, cond, ◌&&◌}
+use mathlib.Core.Bool.{true, false, cond, ◌&&◌}
 use mathlib.Core.List.{List, [], ◌∷◌, ◌++◌, append-nil}
 use lib.ListN.{length, length-append}
 use lib.Seq.{append_snoc, set-append_seam, take_all, take-append-le}
@@ -11,23 +11,26 @@ use lib.Dec.{ltb, eqb}
 use borrow.Author.Tests.{lt-ltb, le-ltb, ltb-true, ltb-false}
 use Rattle.laws.specs.Bits.{zeros}
 use Rattle.laws.proofs.Sums.{by_test}
+use Rattle.text_tidy.specs.declared.Spot.{Spot}
+use Rattle.text_tidy.specs.declared.Spot.TheVariants.{Word, Gap, Comment}
 use Rattle.text_tidy.specs.declared.Tidy.{Tidy}
-use Rattle.text_tidy.specs.Tidied.{row_of, row_put, is_blank, uncommented, squeezed, tidied, fresh, spaced_for, kept_of, kept_on}
+use Rattle.text_tidy.specs.Tidied.{row_of, row_put, is_blank, uncommented, squeezed, tidied, fresh, waits, spaced_for, commented, kept_of, kept_on}
 
 -- a line that has the tidy bytes v
-abbrev pub kept : List ℕ → Bool → Bool → Tidy
-kept v comment gap = record { row = row_of v; comment = comment; gap = gap }
+abbrev pub kept : List ℕ → Spot → Tidy
+kept v spot = record { row = row_of v; spot = spot }
 
 -- what such a line is once the bytes h have come, too
-unfoldable pub with : List ℕ → Bool → Bool → List ℕ → List ℕ
-with v comment gap h = v ++ cond comment [] (squeezed (ltb 0 (length v)) gap (uncommented h))
+unfoldable pub with : List ℕ → Spot → List ℕ → List ℕ
+with v spot h = v ++ cond (commented spot) [] (squeezed (ltb 0 (length v)) (waits spot) (uncommented h))
 
-pub with_none : (v : List ℕ) (comment gap : Bool) → with v comment gap [] ≡ v
+pub with_none : (v : List ℕ) (spot : Spot) → with v spot [] ≡ v
 unfolding with uncommented squeezed
-with_none v true gap = append-nil v
-with_none v false gap = append-nil v
+with_none v Word = append-nil v
+with_none v Gap = append-nil v
+with_none v Comment = append-nil v
 
-pub with_all : (h : List ℕ) → with [] false false h ≡ tidied h
+pub with_all : (h : List ℕ) → with [] Word h ≡ tidied h
 unfolding with tidied
 with_all h = refl
 
@@ -64,62 +67,66 @@ put_behind v b = by_test (ltb (length v) 192) (λ e. put_room v b (ltb-true (len
 
 -- ---- one byte more
 
-pub record Next (v : List ℕ) (comment gap : Bool) (b : ℕ) : Type 0 where
+pub record Next (v : List ℕ) (spot : Spot) (b : ℕ) : Type 0 where
   pub bytes : List ℕ
-  pub commented : Bool
-  pub waiting : Bool
-  pub step : kept_of (kept v comment gap) b ≡ kept bytes commented waiting
-  pub same : (h : List ℕ) → with v comment gap (b ∷ h) ≡ with bytes commented waiting h
+  pub stands : Spot
+  pub step : kept_of (kept v spot) b ≡ kept bytes stands
+  pub same : (h : List ℕ) → with v spot (b ∷ h) ≡ with bytes stands h
 
 some_behind : (v : List ℕ) (b : ℕ) → ltb 0 (length (v ++ (b ∷ []))) ≡ true
 some_behind v b = lt-ltb 0 (length (v ++ (b ∷ []))) (omega (arith, length-append v (b ∷ [])))
 
-module _ (v : List ℕ) (gap : Bool) (b : ℕ) (n : eqb b 35 ≡ false) where
-  next_blank : is_blank b ≡ true → Next v false gap b
+module _ (v : List ℕ) (spot : Spot) (b : ℕ) (open_line : commented spot ≡ false) where
+  next_hash : eqb b 35 ≡ true → Next v spot b
   unfolding kept_of with uncommented squeezed
-  next_blank e = record { bytes = v; commented = false; waiting = true; step = rw (n, e); same = λ h. rw (n, e) }
+  next_hash e = record { bytes = v; stands = Comment; step = rw (open_line, e); same = λ h. rw (open_line, e) }
 
-  next_space : is_blank b ≡ false → (gap && ltb 0 (length v)) ≡ true → Next v false gap b
-  unfolding kept_of spaced_for with uncommented squeezed
-  next_space e s =
-      record {
-        bytes = (v ++ (32 ∷ [])) ++ (b ∷ []);
-        commented = false;
-        waiting = false;
-        step = rw (n, e, some_len v, s, put_behind v 32, put_behind (v ++ (32 ∷ [])) b);
-        same = λ h. rw (n, e, s, some_behind (v ++ (32 ∷ [])) b, append_snoc (v ++ (32 ∷ [])) b (squeezed true false (uncommented h)), append_snoc v 32 (b ∷ squeezed true false (uncommented h)));
-      }
+  module _ (n : eqb b 35 ≡ false) where
+    next_blank : is_blank b ≡ true → Next v spot b
+    unfolding kept_of with uncommented squeezed
+    next_blank e = record { bytes = v; stands = Gap; step = rw (open_line, n, e); same = λ h. rw (open_line, n, e) }
 
-  next_byte : is_blank b ≡ false → (gap && ltb 0 (length v)) ≡ false → Next v false gap b
-  unfolding kept_of spaced_for with uncommented squeezed
-  next_byte e s =
-      record {
-        bytes = v ++ (b ∷ []);
-        commented = false;
-        waiting = false;
-        step = rw (n, e, some_len v, s, put_behind v b);
-        same = λ h. rw (n, e, s, some_behind v b, append_snoc v b (squeezed true false (uncommented h)));
-      }
+    next_space : is_blank b ≡ false → (waits spot && ltb 0 (length v)) ≡ true → Next v spot b
+    unfolding kept_of spaced_for with uncommented squeezed
+    next_space e s =
+        record {
+          bytes = (v ++ (32 ∷ [])) ++ (b ∷ []);
+          stands = Word;
+          step = rw (open_line, n, e, some_len v, s, put_behind v 32, put_behind (v ++ (32 ∷ [])) b);
+          same = λ h. rw (open_line, n, e, s, some_behind (v ++ (32 ∷ [])) b, append_snoc (v ++ (32 ∷ [])) b (squeezed true false (uncommented h)), append_snoc v 32 (b ∷ squeezed true false (uncommented h)));
+        }
 
-pub next : (v : List ℕ) (comment gap : Bool) (b : ℕ) → Next v comment gap b
+    next_byte : is_blank b ≡ false → (waits spot && ltb 0 (length v)) ≡ false → Next v spot b
+    unfolding kept_of spaced_for with uncommented squeezed
+    next_byte e s =
+        record {
+          bytes = v ++ (b ∷ []);
+          stands = Word;
+          step = rw (open_line, n, e, some_len v, s, put_behind v b);
+          same = λ h. rw (open_line, n, e, s, some_behind v b, append_snoc v b (squeezed true false (uncommented h)));
+        }
+
+  next_open : Next v spot b
+  next_open =
+      by_test (eqb b 35) (λ e. next_hash e)
+      (λ n. by_test (is_blank b) (λ e. next_blank n e) (λ e. by_test (waits spot && ltb 0 (length v)) (λ s. next_space n e s) (λ s. next_byte n e s)))
+
+pub next : (v : List ℕ) (spot : Spot) (b : ℕ) → Next v spot b
 unfolding kept_of with uncommented squeezed
-next v true gap b = record { bytes = v; commented = true; waiting = gap; step = refl; same = λ h. refl }
-next v false gap b =
-    by_test (eqb b 35) (λ e. record { bytes = v; commented = true; waiting = gap; step = rw e; same = λ h. rw e })
-    (λ e. by_test (is_blank b) (λ f. next_blank v gap b e f) (λ f. by_test (gap && ltb 0 (length v)) (λ s. next_space v gap b e f s) (λ s. next_byte v gap b e f s)))
+next v Word b = next_open v Word b refl
+next v Gap b = next_open v Gap b refl
+next v Comment b = record { bytes = v; stands = Comment; step = refl; same = λ h. refl }
 
 -- ---- all of them
 
-keeps : (l v : List ℕ) (comment gap : Bool) → (kept_on (kept v comment gap) l).row ≡ row_of (with v comment gap l)
+keeps : (l v : List ℕ) (spot : Spot) → (kept_on (kept v spot) l).row ≡ row_of (with v spot l)
 unfolding kept_on
-keeps [] v comment gap = ap row_of (sym (with_none v comment gap))
-keeps (b ∷ l) v comment gap =
-    let x : Next v comment gap b = next v comment gap b in
-    ap (λ (t : Tidy). (kept_on t l).row) x.step
-    ∙ keeps l x.bytes x.commented x.waiting
-    ∙ ap row_of (sym (x.same l))
+keeps [] v spot = ap row_of (sym (with_none v spot))
+keeps (b ∷ l) v spot =
+    let x : Next v spot b = next v spot b in
+    ap (λ (t : Tidy). (kept_on t l).row) x.step ∙ keeps l x.bytes x.stands ∙ ap row_of (sym (x.same l))
 
 -- a line kept byte by byte is the row of the tidy line
 pub tidy_line : (l : List ℕ) → (kept_on fresh l).row ≡ row_of (tidied l)
 unfolding fresh
-tidy_line l = keeps l [] false false ∙ ap row_of (with_all l)
+tidy_line l = keeps l [] Word ∙ ap row_of (with_all l)

@@ -4,6 +4,8 @@ use Rattle.std.specs.Prelude.{ℕ, ◌+◌, ◌-◌, Bool, true, false, cond, �
 use Prim.Native.Char.{code}
 use Rattle.laws.specs.Bits.{zeros}
 use Rattle.text_tidy.specs.declared.Row.{Row}
+use Rattle.text_tidy.specs.declared.Spot.{Spot}
+use Rattle.text_tidy.specs.declared.Spot.TheVariants.{Word, Gap, Comment}
 use Rattle.text_tidy.specs.declared.Tidy.{Tidy}
 
 -- a comment runs from `#` to the end of the line
@@ -40,17 +42,29 @@ unfoldable pub row_put : Row → ℕ → Row
 row_put r b = cond (ltb r.len row_room) (record { bytes = set r.bytes r.len b; len = r.len + 1 }) r
 
 unfoldable pub fresh : Tidy
-fresh = record { row = row_of []; comment = false; gap = false }
+fresh = record { row = row_of []; spot = Word }
 
-unfoldable pub spaced_for : Bool → Row → Row
-spaced_for gap r = cond (gap && ltb 0 r.len) (row_put r (code " ")) r
+-- a gap waits for a byte behind it
+abbrev pub waits : Spot → Bool
+waits Word = false
+waits Gap = true
+waits Comment = false
+
+unfoldable pub spaced_for : Spot → Row → Row
+spaced_for spot r = cond (waits spot && ltb 0 r.len) (row_put r (code " ")) r
+
+-- a comment runs
+abbrev pub commented : Spot → Bool
+commented Word = false
+commented Gap = false
+commented Comment = true
 
 unfoldable pub kept_of : Tidy → ℕ → Tidy
 kept_of t b =
-    cond t.comment t
-    (cond (eqb b (code "#")) (record { row = t.row; comment = true; gap = t.gap })
-    (cond (is_blank b) (record { row = t.row; comment = false; gap = true })
-    (record { row = row_put (spaced_for t.gap t.row) b; comment = false; gap = false })))
+    cond (commented t.spot) t
+    (cond (eqb b (code "#")) (record { row = t.row; spot = Comment })
+    (cond (is_blank b) (record { row = t.row; spot = Gap })
+    (record { row = row_put (spaced_for t.spot t.row) b; spot = Word })))
 
 -- bytes one after the other
 unfoldable pub kept_on : Tidy → List ℕ → Tidy

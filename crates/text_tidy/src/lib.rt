@@ -2,109 +2,92 @@
 #![tactic(auto)]
 
 ghost use Rattle.std.specs.Prelude.{◌≡◌, []};
-ghost use Rattle.text_tidy.specs.Tidied.{row_of, row_put, is_blank, fresh, spaced_for, kept_of};
+ghost use Rattle.text_tidy.specs.Tidied.{row_of, row_put, fresh, spaced_for, kept_of};
 
 // How many bytes of a tidy line are kept: more than any stream's line has.
 pub const ROOM: usize = 192;
 
 // The first bytes of a tidy line: they stand in the first len places.
+// kept: no heap, fixed memory
 #[derive(Clone, Copy)]
 pub struct Row {
     pub bytes: [u8; ROOM],
     pub len: usize,
 }
 
-// A line so far: its tidy bytes, whether a comment runs, and whether a gap waits for a byte behind it.
+// Where a line stands: at its start or behind a byte of a word, in a gap that waits for a byte behind it, in a comment.
+#[derive(Clone, Copy)]
+pub enum Spot {
+    Word,
+    Gap,
+    Comment,
+}
+
+// A line so far: its tidy bytes, and where it stands.
 #[derive(Clone, Copy)]
 pub struct Tidy {
     pub row: Row,
-    pub comment: bool,
-    pub gap: bool,
-}
-
-fn blank() -> Row
-    ensures { result ≡ row_of [] }
-{
-    Row {
-        bytes: [0u8; ROOM],
-        len: 0,
-    }
+    pub spot: Spot,
 }
 
 // One byte more. A full row stays as it is.
-fn put(kept: Row, b: u8) -> Row
-    ensures { result ≡ row_put kept b }
+#[tactic(auto, unfolding(crate::specs::Tidied::row_put))]
+fn put(row: Row, b: u8) -> Row
+    ensures { result ≡ row_put row b }
 {
-    let at = kept.len;
-    if at < ROOM {
-        let mut next = kept;
-        next.bytes[at] = b;
-        next.len = at + 1;
+    if row.len < ROOM {
+        let mut next = row;
+        next.bytes[row.len] = b;
+        next.len += 1;
         next
     } else {
-        kept
+        row
     }
 }
 
 // A line of which no byte has come.
+#[tactic(auto, unfolding(crate::specs::Tidied::fresh, crate::specs::Tidied::row_of))]
 pub fn start() -> Tidy
     ensures { result ≡ fresh }
 {
-    let row = blank();
     Tidy {
-        row,
-        comment: false,
-        gap: false,
+        row: Row {
+            bytes: [0; ROOM],
+            len: 0,
+        },
+        spot: Spot::Word,
     }
-}
-
-fn is_blank(b: u8) -> bool
-    ensures { result ≡ is_blank b }
-{
-    (b == 32) | ((b == 9) | (b == 13))
 }
 
 // A space, where a gap waits behind a byte of the line.
-fn spaced(kept: Row, gap: bool) -> Row
-    ensures { result ≡ spaced_for gap kept }
+#[tactic(auto, unfolding(crate::specs::Tidied::spaced_for))]
+fn spaced(t: Tidy) -> Row
+    ensures { result ≡ spaced_for t.spot t.row }
 {
-    let n = kept.len;
-    if gap {
-        if 0 < n {
-            return put(kept, b' ');
-        }
+    match t.spot {
+        Spot::Gap if 0 < t.row.len => put(t.row, b' '),
+        _ => t.row,
     }
-    kept
 }
 
 // A line after one more byte, which is no newline.
+#[tactic(auto, unfolding(crate::specs::Tidied::kept_of))]
 pub fn keep(t: Tidy, b: u8) -> Tidy
     ensures { result ≡ kept_of t b }
 {
-    let row = t.row;
-    let comment = t.comment;
-    let gap = t.gap;
-    if comment {
-        return t;
-    }
-    if b == b'#' {
-        return Tidy {
-            row,
-            comment: true,
-            gap,
-        };
-    }
-    if is_blank(b) {
-        return Tidy {
-            row,
-            comment: false,
-            gap: true,
-        };
-    }
-    let next = put(spaced(row, gap), b);
-    Tidy {
-        row: next,
-        comment: false,
-        gap: false,
+    match (t.spot, b) {
+        (Spot::Comment, _) => t,
+        (_, b'#') => Tidy {
+            spot: Spot::Comment,
+            ..t
+        },
+        (_, b' ' | b'\t' | b'\r') => Tidy {
+            spot: Spot::Gap,
+            ..t
+        },
+        _ => Tidy {
+            row: put(spaced(t), b),
+            spot: Spot::Word,
+        },
     }
 }

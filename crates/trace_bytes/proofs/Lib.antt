@@ -1,2 +1,1 @@
-pub mod Digit
 pub mod Scripts

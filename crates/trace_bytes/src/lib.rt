@@ -18,27 +18,25 @@ pub enum Heard {
     Bad,
 }
 
+#[tactic(auto, unfolding(crate::specs::Steps::between_steps))]
 fn between_steps(b: u8) -> Heard
     ensures { result ≡ between_steps b }
 {
-    if b == b'p' {
-        Heard::More
-    } else if b == b'u' {
-        Heard::Makes(Call::Units(false))
-    } else if b == b'd' {
-        Heard::Makes(Call::Units(true))
-    } else if (b == b' ') | (b == b'\n') {
-        Heard::Skip
-    } else {
-        Heard::Bad
+    match b {
+        b'p' => Heard::More,
+        b'u' => Heard::Makes(Call::Units(false)),
+        b'd' => Heard::Makes(Call::Units(true)),
+        b' ' | b'\n' => Heard::Skip,
+        _ => Heard::Bad,
     }
 }
 
+#[tactic(auto, unfolding(crate::specs::Steps::after_p))]
 fn after_p(b: u8) -> Heard
     ensures { result ≡ after_p b }
 {
     if ascii::is_hex(b) {
-        Heard::Makes(Call::Posts(ascii::hex_of(b) as usize))
+        Heard::Makes(Call::Posts(usize::from(ascii::hex_of(b))))
     } else {
         Heard::Bad
     }

@@ -8,12 +8,6 @@ use std::io::Read;
 use std::rt::Files;
 use trace_steps::Tracing;
 
-fn stopped(t: Tracing) -> Tracing {
-    let mut last = t;
-    last.live = false;
-    last
-}
-
 // Writes the first line.
 pub fn begin(rt: &impl Print, r: ReadResult) -> io::Result<Tracing> {
     let first = trace_steps::begin_trace(r);
@@ -25,8 +19,7 @@ pub fn begin(rt: &impl Print, r: ReadResult) -> io::Result<Tracing> {
 pub fn print_piece(rt: &impl Print, t: Tracing, piece: &[u8]) -> io::Result<Tracing> {
     let mut out = [0u8; file_io::LARGE_BUFFER];
     let fed = trace_steps::take_piece(t, piece, &mut out);
-    let len = page::within(fed.len, &out);
-    rt.write_all(&out[..len])?;
+    rt.write_all(&out[..page::within(fed.len, &out)])?;
     Ok(fed.tracing)
 }
 
@@ -36,7 +29,7 @@ fn go_on(rt: &impl Print, input: &mut impl Read, t: Tracing) -> io::Result<Traci
     let n = input.read(&mut bytes)?;
     if n == 0 {
         file_io::say(rt, trace_steps::end_line(t))?;
-        return Ok(stopped(t));
+        return Ok(Tracing { live: false, ..t });
     }
     print_piece(rt, t, &bytes[..n])
 }

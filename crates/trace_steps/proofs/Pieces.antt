@@ -9,8 +9,8 @@ use lib.ListN.{length, take, drop, length-replicate}
 use lib.Seq.{take_at}
 use Rattle.laws.specs.Bits.{zeros}
 use Rattle.rules.specs.declared.Set.{Set}
-use Rattle.rules.specs.declared.ReadAnswer.{ReadAnswer}
-use Rattle.rules.specs.declared.ReadAnswer.TheVariants.{Read, Refused}
+use Rattle.std.specs.Prelude.{Result, Ok, Err}
+use Rattle.rules.specs.declared.Refusal.{Refusal}
 use Rattle.rules.specs.Sheet.{read_of}
 use Rattle.line.specs.declared.Line.{Line}
 use Rattle.line.specs.Line.{holding}
@@ -58,9 +58,9 @@ written_text (goes_on {t} {next} {p} {out} {page} {len} {ps} {w} h a b) =
     ∙ sym (rest_cut t p (joined_of ps))
 
 -- what follows the first line
-behind : (a : ReadAnswer) (x : Set) (input : List ℕ) → text_to_end (tracing_from x (was_read a)) input ≡ behind_verdict a (steps_printed x (script_of input))
-behind Read x input = (trace_is_run x input).text
-behind (Refused why) x input = dead_rest (tracing_from x false) refl input
+behind : (a : Result (Unit {0}) Refusal) (x : Set) (input : List ℕ) → text_to_end (tracing_from x (was_read a)) input ≡ behind_verdict a (steps_printed x (script_of input))
+behind (Ok tt) x input = (trace_is_run x input).text
+behind (Err why) x input = dead_rest (tracing_from x false) refl input
 
 pub trace_made : (sheet : List ℕ) (pieces : List (List ℕ)) (out : List ℕ) → MadeOf sheet pieces out → TraceOf sheet (joined_of pieces) out
 trace_made sheet pieces out m =

@@ -1,10 +1,10 @@
 -- Document 01, "The trace program": all that it prints for a sheet and a trace; and that its steps are a run.
 -- Assumes nothing.
-use Rattle.std.specs.Prelude.{ℕ, ◌≡◌, Bool, true, false, cond, List, [], ◌∷◌, ◌++◌}
+use Rattle.std.specs.Prelude.{ℕ, ◌≡◌, Bool, true, cond, List, [], ◌++◌}
 use Rattle.laws.specs.Lists.{flat}
 use Rattle.rules.specs.declared.Set.{Set}
-use Rattle.rules.specs.declared.ReadAnswer.{ReadAnswer}
-use Rattle.rules.specs.declared.ReadAnswer.TheVariants.{Read, Refused}
+use Rattle.std.specs.Prelude.{Result, Ok, Err}
+use Rattle.rules.specs.declared.Refusal.{Refusal}
 use Rattle.rules.specs.declared.Verdict.{Verdict}
 use Rattle.rules.specs.Sheet.{read_of}
 use Rattle.rules.specs.Runs.{run_of, steps_of}
@@ -22,9 +22,9 @@ unfoldable pub steps_printed : Set → Script → List ℕ
 steps_printed x s = flat line_of_step (steps_of x s.calls) ++ nine_if s.bad
 
 -- "a refused sheet prints only that line, and after any verdict on a sheet that was read, 8 included, the steps follow"
-abbrev pub behind_verdict : ReadAnswer → List ℕ → List ℕ
-behind_verdict Read steps = steps
-behind_verdict (Refused why) steps = []
+abbrev pub behind_verdict : Result (Unit {0}) Refusal → List ℕ → List ℕ
+behind_verdict (Ok tt) steps = steps
+behind_verdict (Err why) steps = []
 
 -- "It reads a sheet .. and a trace": `out` is what it prints, in whole
 pub record TraceOf (sheet input out : List ℕ) : Type 0 where

@@ -3,9 +3,8 @@
 use Rattle.std.specs.Prelude.{ℕ, ◌*◌, ◌≤◌, ◌<◌, ◌≡◌, length, drop, Bool, true, false, cond, List, [], ◌∷◌, ◌++◌}
 use Rattle.rules.specs.declared.Set.{Set}
 use Rattle.rules.specs.declared.State.{State}
-use Rattle.rules.specs.declared.Call.{Call}
-use Rattle.rules.specs.declared.ReadAnswer.{ReadAnswer}
-use Rattle.rules.specs.declared.ReadAnswer.TheVariants.{Read, Refused}
+use Rattle.std.specs.Prelude.{Result, is_ok}
+use Rattle.rules.specs.declared.Refusal.{Refusal}
 use Rattle.rules.specs.declared.ReadResult.{ReadResult}
 use Rattle.rules.specs.declared.Refusal.TheVariants.{BadByte}
 use Rattle.rules.specs.declared.Verdict.{Verdict}
@@ -28,9 +27,8 @@ abbrev pub verdict_line : Verdict → List ℕ
 verdict_line v = line_of (says (verdict_says v))
 
 -- "a refused sheet prints only that line, and after any verdict on a sheet that was read, 8 included, the steps follow"
-abbrev pub was_read : ReadAnswer → Bool
-was_read Read = true
-was_read (Refused why) = false
+abbrev pub was_read : Result (Unit {0}) Refusal → Bool
+was_read a = is_ok a
 
 -- from the start of the set
 abbrev pub tracing_from : Set → Bool → Tracing

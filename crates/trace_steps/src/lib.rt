@@ -3,10 +3,10 @@
 
 ghost use Rattle.std.specs.Prelude.{◌≡◌, true, false, ◌++◌, [], ◌+◌, ◌*◌, ◌≤◌, length, drop};
 ghost use Rattle.line.specs.Line.{line_room, holding};
-ghost use Rattle.trace_steps.specs.Turns.{was_read, tracing_from, Beginning, going, next_tracing, next_text, tracing_after, text_after, tracing_on, text_on, Ending, PieceTraced};
+ghost use Rattle.trace_steps.specs.Turns.{tracing_from, Beginning, going, next_tracing, next_text, tracing_after, text_after, tracing_on, text_on, Ending, PieceTraced};
 
 use line::Line;
-use rules::{Call, ReadAnswer, ReadResult, Refusal, Set, State, Verdict};
+use rules::{Call, ReadResult, Refusal, Set, State, Verdict};
 use trace_bytes::Heard;
 
 // A trace under way: the scheduler's state, whether a p waits for its digit, and whether the trace goes on.
@@ -26,22 +26,11 @@ pub struct Turn {
 
 // ---- the first line
 
-fn was_read(a: ReadAnswer) -> bool
-    ensures { result ≡ was_read a }
-{
-    match a {
-        ReadAnswer::Read => true,
-        ReadAnswer::Refused(_) => false,
-    }
-}
-
 fn tracing_from(x: Set, live: bool) -> Tracing
     ensures { result ≡ tracing_from x live }
 {
-    let r = scheduler::start(x);
-    let state = r.state;
     Tracing {
-        state,
+        state: scheduler::start(x).state,
         waiting: false,
         live,
     }
@@ -54,7 +43,7 @@ pub fn begin_trace(r: ReadResult) -> Turn
     let answer = r.answer;
     let set = r.set;
     let line = answer_words::verdict_line(load_check::sheet_verdict(answer, set));
-    let tracing = tracing_from(set, was_read(answer));
+    let tracing = tracing_from(set, answer.is_ok());
     Turn { tracing, line }
 }
 
@@ -76,9 +65,7 @@ fn stepped(s: State, c: Call) -> Turn
 {
     let clock = s.clock;
     let r = scheduler::call(s, c);
-    let answer = r.answer;
-    let state = r.state;
-    turn_at(state, answer_words::call_line(clock, answer))
+    turn_at(r.state, answer_words::call_line(clock, r.answer))
 }
 
 fn refused(s: State) -> Turn
@@ -147,14 +134,10 @@ fn feed(tracing: Tracing, piece: &[u8], out: &mut [u8]) -> Fed
 {
     let mut r = tracing;
     let mut at = 0;
-    let mut i = 0;
-    while i < piece.len() {
-        let t = take_byte(r, piece[i]);
-        let line = t.line;
-        let next = t.tracing;
-        at = page::append(out, at, line);
-        r = next;
-        i += 1;
+    for b in piece {
+        let t = take_byte(r, *b);
+        at = page::append(out, at, t.line);
+        r = t.tracing;
     }
     Fed {
         tracing: r,

@@ -11,13 +11,3 @@ pub returns-in-Late : goal.returns-in-Late
 unfolding says
 returns-in-Late c =
     rw c.in-Late.is (then _ _ _ _ _ c.one-in-Late.ensures c.two.ensures)
-
-pub returns-in-Overload : goal.returns-in-Overload
-unfolding says
-returns-in-Overload c =
-    rw c.in-Overload.is c.word-in-Overload.ensures
-
-pub returns-in-Refused : goal.returns-in-Refused
-unfolding says
-returns-in-Refused c =
-    rw c.in-Refused.is c.refused.ensures

@@ -1,18 +1,11 @@
 use Rattle.answer_words.specs.Words.{says}
-use Rattle.rules.specs.Numbers.{ended as Ended}
 use Rattle.answer_words.proofs.Lengths.{says_short}
 use Rattle.answer_words.proofs.Ends.{ended}
+use Rattle.rules.specs.Numbers.{ended as Ended}
 use Rattle.answer_words.proofs.replay_line.Goals as goal
 
-pub returns-in-Called : goal.returns-in-Called
-returns-in-Called c =
-    rw c.in-Called.is c.call_line.ensures
-
-pub returns-in-Ended : goal.returns-in-Ended
+pub returns-in-Ok-None : goal.returns-in-Ok-None
 unfolding says
-returns-in-Ended c =
-    rw c.in-Ended.is (ended _ _ _ (says Ended) (says_short Ended) c.blank.ensures c.word.ensures c.put.ensures)
-
-pub returns-in-Refused : goal.returns-in-Refused
-returns-in-Refused c =
-    rw c.in-Refused.is c.verdict_line.ensures
+returns-in-Ok-None c =
+    let h = rw c.in-Ok-None.is at c.in-Ok-None.field-0-is in
+    rw (c.in-Ok-None.is, h) (ended _ _ _ (says Ended) (says_short Ended) c.blank.ensures c.word.ensures c.put.ensures)

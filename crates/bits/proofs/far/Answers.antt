@@ -1,17 +1,12 @@
 use native.Mathlib.Omega.{arith}
 use Prim.Native.Nat.{◌+◌, ◌*◌}
-use Rattle.bits.proofs.Answers.{gather_none, gather_one, gather_two, word_lt}
+use Rattle.bits.proofs.Answers.{gather_none, gather_two, word_lt}
 use Rattle.bits.proofs.far.Goals as goal
 
 -- src/lib.rt:78:9
 pub returns-then-got-eq0 : goal.returns-then-got-eq0
 returns-then-got-eq0 c =
     gather_none _ _ _ _ c.there-got.ensures c.if-got-eq0.true
-
--- src/lib.rt:83:9
-pub returns-then-got-le32 : goal.returns-then-got-le32
-returns-then-got-le32 c =
-    gather_one _ (8 * c.args.byte + c.args.bit) _ _ _ _ c.there-got.ensures c.word.ensures (omega arith)
 
 -- src/lib.rt:92:16
 pub overflow_mul-result : goal.overflow_mul-result
@@ -26,4 +21,4 @@ overflow_add-result c =
 -- src/lib.rt:73:1
 pub returns : goal.returns
 returns c =
-    gather_two _ (8 * c.args.byte + c.args.bit) _ _ _ _ _ _ c.there-got.ensures c.if-got-le32.false c.word-high.ensures (omega arith) c.word-low.ensures (omega arith)
+    gather_two _ (8 * c.args.at.byte + c.args.at.bit) _ _ _ _ _ _ c.there-got.ensures c.if-got-le32.false c.word-high.ensures (omega arith) c.word-low.ensures (omega arith)

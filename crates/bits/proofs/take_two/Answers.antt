@@ -9,48 +9,48 @@ eight-w-requires c =
     (in_eight_lem _ _ _ _ _ (sym c.in_eight.ensures ∙ c.if-in_eight.true)).there
 
 -- src/lib.rt:184:22
-pub overflow_shl-result : goal.overflow_shl-result
-overflow_shl-result c =
+pub overflow_shl-one : goal.overflow_shl-one
+overflow_shl-one c =
     let h = in_eight_lem _ _ _ _ _ (sym c.in_eight.ensures ∙ c.if-in_eight.true) in omega arith
 
 -- src/lib.rt:184:36
-pub overflow_sub-result : goal.overflow_sub-result
-overflow_sub-result c =
+pub overflow_sub-one : goal.overflow_sub-one
+overflow_sub-one c =
     let h = in_eight_lem _ _ _ _ _ (sym c.in_eight.ensures ∙ c.if-in_eight.true) in omega arith
 
 -- src/lib.rt:184:21
-pub overflow_shr-result : goal.overflow_shr-result
-overflow_shr-result c =
+pub overflow_shr-one : goal.overflow_shr-one
+overflow_shr-one c =
     let h = in_eight_lem _ _ _ _ _ (sym c.in_eight.ensures ∙ c.if-in_eight.true) in omega arith
 
 -- src/lib.rt:184:20
-pub overflow_cast-result-then-in_eight-2 : goal.overflow_cast-result-then-in_eight-2
-overflow_cast-result-then-in_eight-2 c =
+pub overflow_cast-one-then-in_eight-2 : goal.overflow_cast-one-then-in_eight-2
+overflow_cast-one-then-in_eight-2 c =
     record { fits = first_lt c.args.s.now _ _ _ _ c.eight-w.result (in_eight_lem _ _ _ _ _ (sym c.in_eight.ensures ∙ c.if-in_eight.true)) c.eight-w.ensures }
 
 -- src/lib.rt:185:29
-pub overflow_add-result : goal.overflow_add-result
-overflow_add-result c =
+pub overflow_add-other : goal.overflow_add-other
+overflow_add-other c =
     let h = in_eight_lem _ _ _ _ _ (sym c.in_eight.ensures ∙ c.if-in_eight.true) in omega arith
 
 -- src/lib.rt:185:23
-pub overflow_shl-result-then-in_eight : goal.overflow_shl-result-then-in_eight
-overflow_shl-result-then-in_eight c =
+pub overflow_shl-other : goal.overflow_shl-other
+overflow_shl-other c =
     let h = in_eight_lem _ _ _ _ _ (sym c.in_eight.ensures ∙ c.if-in_eight.true) in omega arith
 
 -- src/lib.rt:185:47
-pub overflow_sub-result-then-in_eight : goal.overflow_sub-result-then-in_eight
-overflow_sub-result-then-in_eight c =
+pub overflow_sub-other : goal.overflow_sub-other
+overflow_sub-other c =
     let h = in_eight_lem _ _ _ _ _ (sym c.in_eight.ensures ∙ c.if-in_eight.true) in omega arith
 
 -- src/lib.rt:185:22
-pub overflow_shr-result-then-in_eight : goal.overflow_shr-result-then-in_eight
-overflow_shr-result-then-in_eight c =
+pub overflow_shr-other : goal.overflow_shr-other
+overflow_shr-other c =
     let h = in_eight_lem _ _ _ _ _ (sym c.in_eight.ensures ∙ c.if-in_eight.true) in omega arith
 
 -- src/lib.rt:185:21
-pub overflow_cast-result-then-in_eight-5 : goal.overflow_cast-result-then-in_eight-5
-overflow_cast-result-then-in_eight-5 c =
+pub overflow_cast-other-then-in_eight-2 : goal.overflow_cast-other-then-in_eight-2
+overflow_cast-other-then-in_eight-2 c =
     record { fits = second_lt c.args.s.now _ _ _ _ c.eight-w.result (in_eight_lem _ _ _ _ _ (sym c.in_eight.ensures ∙ c.if-in_eight.true)) c.eight-w.ensures }
 
 -- src/lib.rt:182:9

@@ -1,3 +1,4 @@
+use mathlib.Core.Logic.{inl, inr}
 use Rattle.page.proofs.Pieces.{onto_none}
 use Rattle.check_lines.proofs.Shown.{made_late, made_long}
 use Rattle.check_lines.proofs.made_onto.Goals as goal
@@ -12,12 +13,7 @@ returns-else-i-le4294967295 c =
 
 pub returns-in-Accept : goal.returns-in-Accept
 returns-in-Accept c =
-    rw c.in-Accept.is (onto_none c.args.out.now c.args.at)
-
-pub returns-in-Overload : goal.returns-in-Overload
-returns-in-Overload c =
-    rw c.in-Overload.is (onto_none c.args.out.now c.args.at)
-
-pub returns-in-Refused : goal.returns-in-Refused
-returns-in-Refused c =
-    rw c.in-Refused.is (onto_none c.args.out.now c.args.at)
+    elim c.in-Accept.is [
+      | inl e ↦ rw e (onto_none c.args.out.now c.args.at)
+      | inr f ↦ elim f [ inl e ↦ rw e (onto_none c.args.out.now c.args.at) | inr e ↦ rw e.1 (onto_none c.args.out.now c.args.at) ]
+    ]

@@ -6,4 +6,6 @@ use Rattle.check_lines.proofs.progress_line.Goals as goal
 
 pub returns : goal.returns
 returns c =
-    ended _ _ _ (progress_words c.args.tested c.args.all) (progress_short c.args.tested c.args.all) c.blank.ensures (then _ _ _ _ _ c.one-front.ensures c.one.ensures) c.put.ensures
+    let a = c.from.result in
+    let b = c.from-2.result in
+    rw (← c.from.ensures, ← c.from-2.ensures) (ended _ _ _ (progress_words a b) (progress_short a b) c.blank.ensures (then _ _ _ _ _ c.one-front.ensures c.one.ensures) c.put.ensures)

@@ -3,5 +3,5 @@ use Rattle.console_obey.proofs.first.Goals as goal
 
 pub returns : goal.returns
 returns c =
-    begun _ _ _ _ _ _ c.empty_set-set.ensures c.start-r.ensures c.first-replay.ensures c.cable-carried.ensures
-    c.first-position.ensures c.first-terms.ensures
+    begun _ _ _ _ _ _ c.empty_set-set.ensures c.start.ensures c.first.ensures c.cable.ensures
+    c.first-2.ensures c.first-3.ensures

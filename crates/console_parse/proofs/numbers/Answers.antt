@@ -1,48 +1,22 @@
-use mathlib.Core.Logic.{inl, inr}
-use Prim.Native.Nat.{◌-◌}
-use mathlib.Core.Path.{refl, sym, ◌∙◌}
-use lib.ListN.{length-set}
-use Rattle.console_parse.proofs.Fills.{turn, stop, finish, filled_asked}
-use native.Mathlib.Omega.{arith}
+use Rattle.std.proofs.Common.{arith, rules}
+use Rattle.console_parse.proofs.Fills.{turn, stop, ends, ends_not, filled_asked, taken, untaken, all_read}
 use Rattle.console_parse.proofs.numbers.Goals as goal
 
 pub loop-k-init : goal.loop-k-init
-loop-k-init c =
-    (c.requires, c.well_formed.1.1.0.1.1.1.1.0.1.0.1, refl, refl)
+loop-k-init c = filled_asked _ c.args.r _ (search rules)
 
-pub ending-requires : goal.ending-requires
-ending-requires c =
-    c.loop-k.invariant.0
-
-pub returns-then-count-k : goal.returns-then-count-k
-returns-then-count-k c =
-    let a = c.args in
-    let l = c.loop-k in
-    finish _ _ _ a.line.now a.r.most l.ns a.r.count l.k l.at _ (l.invariant.3 ∙ filled_asked _ a.r _ l.invariant.1) _ (inl c.if-count-k.true) c.ending.ensures
-
-pub next_number-requires : goal.next_number-requires
-next_number-requires c =
-    c.loop-k.invariant.0
-
-pub returns-in-Bad : goal.returns-in-Bad
-returns-in-Bad c =
-    let l = c.loop-k in
-    let a = c.args in
-    stop _ _ _ a.line.now a.r.most l.ns a.r.count l.k l.at _ (l.invariant.3 ∙ filled_asked _ a.r _ l.invariant.1) _ c.if-count-k.false (omega arith) (sym c.next_number.ensures ∙ c.in-Bad.is) c.bare.ensures
+pub returns-in_default : goal.returns-in_default
+returns-in_default c =
+    stop _ _ _ _ c.args.r.most _ c.args.r.count _ _ c.loop-k.invariant _ (omega arith) (omega arith) (untaken _ _ c.in_default.is c.next_number.ensures) c.bare.ensures
 
 pub loop-k-preserved : goal.loop-k-preserved
 loop-k-preserved c =
-    let l = c.loop-k in
-    let a = c.args in
-    let t = turn _ _ _ a.line.now a.r.most l.ns a.r.count l.k l.at _ l.invariant.3 _ _ l.invariant.0 c.if-count-k.false (omega arith) (sym c.next_number.ensures ∙ c.in-Is.is) in
-    (t.0, l.invariant.1, simp length-set l.invariant.2, t.1)
+    turn _ _ _ _ c.args.r.most _ c.args.r.count _ _ c.loop-k.invariant _ _ (omega arith) (omega arith) (taken _ _ _ _ c.in-Some.is c.next_number.ensures)
 
-pub ending-requires-2 : goal.ending-requires-2
-ending-requires-2 c =
-    c.loop-k.invariant.0
+pub returns-then-text_behind : goal.returns-then-text_behind
+returns-then-text_behind c =
+    ends _ _ _ _ c.args.r.most _ c.args.r.count _ _ c.loop-k.invariant _ c.text_behind.ensures (all_read _ _ _ c.min-k-end.result (search rules) c.min-k-end.ensures c.loop-k-test.false) _ c.if-text_behind.true (omega arith)
 
-pub returns : goal.returns
-returns c =
-    let a = c.args in
-    let l = c.loop-k in
-    finish _ _ _ a.line.now a.r.most l.ns a.r.count l.k l.at _ (l.invariant.3 ∙ filled_asked _ a.r _ l.invariant.1) _ (inr (omega arith)) c.ending-2.ensures
+pub returns-else-text_behind : goal.returns-else-text_behind
+returns-else-text_behind c =
+    ends_not _ _ _ _ c.args.r.most _ c.args.r.count _ _ c.loop-k.invariant _ c.text_behind.ensures (all_read _ _ _ c.min-k-end.result (search rules) c.min-k-end.ensures c.loop-k-test.false) _ c.if-text_behind.false c.bare-else-text_behind.ensures

@@ -7,4 +7,4 @@ returns-then-text-gt-MOST_BYTES c =
 
 pub returns : goal.returns
 returns c =
-    recording_is _ _ _ _ _ c.if-text-gt-MOST_BYTES.false c.loaded-replay.ensures c.recording_line.ensures
+    recording_is _ _ _ _ _ c.if-text-gt-MOST_BYTES.false c.loaded.ensures c.recording_line.ensures

@@ -1,7 +1,8 @@
+use Rattle.std.proofs.Common.{refl, rules}
+use Rattle.answer_words.specs.Words.{read_words}
 use Rattle.answer_words.proofs.Lengths.{read_short}
-use Rattle.answer_words.proofs.Ends.{ended}
+use Rattle.console_words.proofs.Lines.{told_is}
 use Rattle.console_words.proofs.read_line.Goals as goal
 
 pub returns : goal.returns
-returns c =
-    ended _ _ _ _ (read_short c.args.a c.args.n) c.blank.ensures c.read_words.ensures c.put.ensures
+returns c = told_is (λ a. read_words a c.args.n) _ _ (read_short _ _) (λ why. refl) (λ x l p. search rules) c.told.ensures

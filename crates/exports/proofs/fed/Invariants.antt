@@ -1,11 +1,6 @@
-use Prim.Native.Nat.{◌-◌, ◌≤◌}
-use mathlib.Core.Path.{◌≡◌}
-use lib.ListN.{length, take}
-use Rattle.sheet_read.proofs.Pieces.{after}
+use Rattle.std.specs.Slice.Iter.{chunks_rest}
+use Rattle.exports.proofs.Pieces.{Fed}
 use Rattle.exports.proofs.fed.Given as goal
 
-abbrev pub invariant-loop-at : goal.invariant-loop-at
-invariant-loop-at l = (l.at ≤ length l.bytes) × (l.c ≡ after (take l.at l.bytes))
-
-abbrev pub decreases-loop-at : goal.decreases-loop-at
-decreases-loop-at l = length l.bytes - l.at
+abbrev pub invariant-loop-piece : goal.invariant-loop-piece
+invariant-loop-piece l = Fed l.fn.bytes (chunks_rest l.piece-iterator) l.c

@@ -1,14 +1,12 @@
-use mathlib.Core.Path.{ap₂, subst, ◌∙◌}
+use mathlib.Core.Path.{subst}
 use Rattle.rules.specs.declared.ReadResult.{ReadResult}
 use Rattle.load_check.specs.Sheets.{SheetVerdict}
-use Rattle.exports.specs.Codes.{halves, verdict_code}
 use Rattle.exports.proofs.sheet_in_calls.Goals as goal
 
 pub returns : goal.returns
-unfolding verdict_code
 returns c =
     record {
-      given = c.verdict_in_calls-v.result;
-      is_verdict = subst (λ (r : ReadResult). SheetVerdict r.answer r.set c.verdict_in_calls-v.result) c.read-r.ensures c.verdict_in_calls-v.ensures;
-      code = c.in_halves.ensures ∙ ap₂ halves c.kind_of.ensures c.length_of.ensures;
+      given = c.verdict_in_calls.result;
+      is_verdict = subst (λ (r : ReadResult). SheetVerdict r.answer r.set c.verdict_in_calls.result) c.read-r.ensures c.verdict_in_calls.ensures;
+      code = c.verdict_code.ensures;
     }

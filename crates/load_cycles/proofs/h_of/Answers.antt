@@ -1,24 +1,16 @@
-use mathlib.Core.Path.{subst, sym, ◌∙◌}
-use Rattle.rules.specs.Streams.{streams_of}
+use mathlib.Core.Path.{sym, ◌∙◌}
 use Rattle.rules.proofs.Valid.{valid_set}
-use Rattle.load_cycles.specs.Cycles.{CommonOf, JoinedBy}
 use Rattle.load_cycles.proofs.Cycling.{h_is, h_above, h_refused}
 use Rattle.load_cycles.proofs.h_of.Goals as goal
 
-pub join_all-joined-requires : goal.join_all-joined-requires
-join_all-joined-requires c =
-    valid_set c.args.x (sym c.is_valid.ensures ∙ c.if-is_valid.true)
+pub returns-then-not-is_valid : goal.returns-then-not-is_valid
+returns-then-not-is_valid c = h_refused c.args.x (sym c.is_valid.ensures ∙ c.if-not-is_valid.true)
 
-pub returns-in-Above : goal.returns-in-Above
-returns-in-Above c =
-    h_above c.args.x (sym c.is_valid.ensures ∙ c.if-is_valid.true)
-    (subst (JoinedBy 1 (CommonOf (streams_of c.args.x))) c.in-Above.is c.join_all-joined.ensures)
+pub join_all-requires : goal.join_all-requires
+join_all-requires c = valid_set c.args.x (sym c.is_valid.ensures ∙ c.if-not-is_valid.false)
 
-pub returns-in-Is : goal.returns-in-Is
-returns-in-Is c =
-    h_is c.args.x c.in-Is.h c.wide.result (sym c.is_valid.ensures ∙ c.if-is_valid.true)
-    (subst (JoinedBy 1 (CommonOf (streams_of c.args.x))) c.in-Is.is c.join_all-joined.ensures) c.wide.ensures
+pub returns-in_default : goal.returns-in_default
+returns-in_default c = h_above c.args.x (sym c.is_valid.ensures ∙ c.if-not-is_valid.false) c.in_default.ensures
 
-pub returns-else-is_valid : goal.returns-else-is_valid
-returns-else-is_valid c =
-    h_refused c.args.x (sym c.is_valid.ensures ∙ c.if-is_valid.false)
+pub returns : goal.returns
+returns c = h_is c.args.x c.in-Some.h c.from.result (sym c.is_valid.ensures ∙ c.if-not-is_valid.false) c.in-Some.ensures c.from.ensures

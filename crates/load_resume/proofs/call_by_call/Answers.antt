@@ -1,22 +1,14 @@
-use Rattle.load_resume.proofs.Gone.{on_next, on_less, on_falls, on_goes}
+use Rattle.rules.proofs.Resumed.{underway_falls, underway_goes}
+use Rattle.load_resume.proofs.Gone.{on_less}
 use Rattle.load_resume.proofs.call_by_call.Goals as goal
 
-pub loop-next-init : goal.loop-next-init
-loop-next-init c =
-    c.requires.0
-
 pub loop-next-smaller : goal.loop-next-smaller
-loop-next-smaller c =
-    on_less c.args.begun.set c.loop-next.p c.args.n c.go-r.result c.loop-next.invariant c.go-r.ensures c.in-Next.is c.requires.1
+loop-next-smaller g c =
+    on_less c.loop-next.p c.in-Ok-Next.next c.args.n c.in-Ok-Next.field-0-0 (rw c.in-Ok-Next.field-0-is at c.in-Ok-Next.ensures) c.requires.some
 
-pub loop-next-preserved : goal.loop-next-preserved
-loop-next-preserved c =
-    on_next c.args.begun.set c.loop-next.p c.args.n c.go-r.result c.loop-next.invariant c.go-r.ensures c.in-Next.is
+pub returns-in-Ok-Falls : goal.returns-in-Ok-Falls
+returns-in-Ok-Falls g c =
+    underway_falls c.args.begun.set c.loop-next.p c.args.n c.in-Ok-Falls.field-0-0 c.in-Ok-Falls.v c.loop-next.invariant.underway (rw c.in-Ok-Falls.field-0-is at c.in-Ok-Falls.ensures)
 
-pub returns-in-Falls : goal.returns-in-Falls
-returns-in-Falls c =
-    on_falls c.args.begun.set c.loop-next.p c.args.n c.go-r.result c.loop-next.invariant c.go-r.ensures c.in-Falls.is
-
-pub returns-in-Refused : goal.returns-in-Refused
-returns-in-Refused c =
-    absurd (on_goes c.args.begun.set c.loop-next.p c.args.n c.go-r.result c.loop-next.invariant c.go-r.ensures c.in-Refused.is)
+pub returns-in-Err : goal.returns-in-Err
+returns-in-Err g c = absurd (underway_goes c.args.begun.set c.loop-next.p c.args.n c.loop-next.invariant.underway c.in-Err.ensures)

@@ -1,21 +1,15 @@
-use mathlib.Core.Path.{subst}
-use Rattle.load_cycles.specs.Openings.{OpeningOf}
-use Rattle.load_resume.proofs.Gone.{as_is, barred_stop, barred_before, barred_behind}
 use native.Mathlib.Omega.{arith}
+use mathlib.Core.Logic.{inl, inr}
+use Rattle.std.proofs.lemmas.Grind.{common_steps}
+use Rattle.load_resume.proofs.Gone.{barred_stop, barred_before, barred_behind}
 use Rattle.load_resume.proofs.go.Goals as goal
 
-pub returns-then-from-lt1 : goal.returns-then-from-lt1
-returns-then-from-lt1 c =
-    as_is c.args.p c.args.n c.refuses-then-from-lt1.ensures (barred_before c.args.p c.args.n c.begin-begun.ensures c.in-Until.is c.if-from-lt1.true)
+pub returns-in_default : goal.returns-in_default
+returns-in_default c =
+    elim c.if-contains.ensures.cases [
+      | inl h ↦ barred_before c.args.p c.in-Ok.end c.args.n c.in-Ok.ensures (grind (arith, common_steps, h))
+      | inr h ↦ barred_behind c.args.p c.in-Ok.end c.args.n c.in-Ok.ensures (grind (arith, common_steps, h))
+    ]
 
-pub go_until-requires : goal.go_until-requires
-go_until-requires c =
-    (subst (OpeningOf c.args.p.set) c.in-Until.is c.begin-begun.ensures, omega arith, omega arith)
-
-pub returns-in-Stops : goal.returns-in-Stops
-returns-in-Stops c =
-    as_is c.args.p c.args.n c.refuses.ensures (barred_stop c.args.p c.args.n c.begin-begun.ensures c.in-Stops.is)
-
-pub returns-else-from-end : goal.returns-else-from-end
-returns-else-from-end c =
-    as_is c.args.p c.args.n c.refuses-else-from-end.ensures (barred_behind c.args.p c.args.n c.begin-begun.ensures c.in-Until.is (omega arith))
+pub returns-in_default-2 : goal.returns-in_default-2
+returns-in_default-2 c = barred_stop c.args.p c.args.n c.in_default.ensures

@@ -1,25 +1,34 @@
-use Prim.Native.Nat.{◌+◌, ◌≤◌, ◌<◌}
-use Rattle.rules.specs.Resumed.{at}
-use Rattle.load_resume.proofs.Gone.{as_is, goes_on_lem, accepts, is_late, late_in, not_refused}
 use native.Mathlib.Omega.{arith}
+use Rattle.load_resume.proofs.Gone.{goes_on_lem, accepts, is_late, late_in, not_refused}
 use Rattle.load_resume.proofs.go_until.Goals as goal
 
 pub through-requires : goal.through-requires
 through-requires c =
-    let l : (c.args.from ≤ c.in-Late.i) × (c.in-Late.i < c.args.end) = late_in c.args.x c.args.from c.args.n c.args.end c.requires.0 c.requires.1 c.requires.2 c.smaller-count.result c.in-Late.i c.in-Late.w c.smaller-count.ensures c.test_lengths-found.ensures c.in-Late.is in (l.0, omega arith)
+    let a = c.args in
+    let r = c.requires in
+    let l = late_in a.x a.from a.n a.end r.0 r.1 r.2 c.min-count.result c.in-Ok-Some.i c.in-Ok-Some.w c.min-count.ensures (rw c.in-Ok-Some.field-0-is at c.in-Ok-Some.ensures) in
+    (l.0, omega (arith, l.1))
 
-pub returns-in-Late : goal.returns-in-Late
-returns-in-Late c =
-    as_is (at c.args.x c.args.from) c.args.n c.falls.ensures (is_late c.args.x c.args.from c.args.n c.args.end c.requires.0 c.requires.1 c.requires.2 c.smaller-count.result c.in-Late.i c.in-Late.w c.through.result c.smaller-count.ensures c.test_lengths-found.ensures c.in-Late.is c.through.ensures)
+pub returns-in-Ok-Some : goal.returns-in-Ok-Some
+returns-in-Ok-Some c =
+    let a = c.args in
+    let r = c.requires in
+    is_late a.x a.from a.n a.end r.0 r.1 r.2 c.min-count.result c.in-Ok-Some.i c.in-Ok-Some.w c.through.result c.min-count.ensures (rw c.in-Ok-Some.field-0-is at c.in-Ok-Some.ensures) c.through.ensures
 
-pub returns-then-stop-end : goal.returns-then-stop-end
-returns-then-stop-end c =
-    as_is (at c.args.x c.args.from) c.args.n c.goes.ensures (goes_on_lem c.args.x c.args.from c.args.n c.args.end c.requires.0 c.requires.1 c.requires.2 c.smaller-count.result c.smaller-count.ensures c.test_lengths-found.ensures c.in-Clear.is c.if-stop-end.true)
+pub returns-in-Ok-None : goal.returns-in-Ok-None
+returns-in-Ok-None c =
+    let a = c.args in
+    let r = c.requires in
+    accepts a.x a.from a.n a.end r.0 r.1 r.2 c.min-count.result c.min-count.ensures (rw c.in-Ok-None.field-0-is at c.in-Ok-None.ensures) c.if-end-stop.true
 
-pub returns-else-stop-end : goal.returns-else-stop-end
-returns-else-stop-end c =
-    as_is (at c.args.x c.args.from) c.args.n c.falls-else-stop-end.ensures (accepts c.args.x c.args.from c.args.n c.args.end c.requires.0 c.requires.1 c.requires.2 c.smaller-count.result c.smaller-count.ensures c.test_lengths-found.ensures c.in-Clear.is c.if-stop-end.false)
+pub returns-in_default : goal.returns-in_default
+returns-in_default c =
+    let a = c.args in
+    let r = c.requires in
+    goes_on_lem a.x a.from a.n a.end r.0 r.1 r.2 c.min-count.result c.min-count.ensures (rw c.in-Ok-None.field-0-is at c.in-Ok-None.ensures) c.if-end-stop.false
 
-pub returns-in-Refused : goal.returns-in-Refused
-returns-in-Refused c =
-    absurd (not_refused c.args.x c.args.from c.args.n c.args.end c.requires.0 c.requires.1 c.requires.2 (c.args.from + c.smaller-count.result) c.test_lengths-found.ensures c.in-Refused.is)
+pub returns-in_default-2 : goal.returns-in_default-2
+returns-in_default-2 c =
+    let a = c.args in
+    let r = c.requires in
+    absurd (not_refused a.x a.from a.n a.end r.0 r.1 r.2 _ c.in_default.field-0 (rw c.in_default.is at c.test_lengths.ensures))

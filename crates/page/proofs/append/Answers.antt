@@ -1,3 +1,4 @@
+use Rattle.std.proofs.lemmas.Grind.{common_steps}
 use Rattle.page.proofs.Rooms.{room, room_is, too_long, too_full, stays, goes}
 use native.Mathlib.Omega.{arith}
 use mathlib.Core.Path.{sym, ◌∙◌}
@@ -13,18 +14,17 @@ returns-then-not-has_room c =
     let a = c.args in
     stays a.out.now a.at a.l (too_full a.out.now a.at a.l (sym c.has_room.ensures ∙ c.if-not-has_room.true))
 
-pub copy-requires : goal.copy-requires
-copy-requires c =
+pub overflow_add-at : goal.overflow_add-at
+overflow_add-at c =
     let a = c.args in
-    let there = room_is a.out.now a.at a.l.len (sym c.has_room.ensures ∙ c.if-not-has_room.false) in
-    (omega (arith, c.if-n-gt-ROOM.false, c.well_formed.1.1.0.1.1.0.1.0.1), there)
+    omega (arith, room_is a.out.now a.at a.l.len (sym c.has_room.ensures ∙ c.if-not-has_room.false))
 
-pub overflow_add-result : goal.overflow_add-result
-overflow_add-result c =
+pub slice_bounds-copy_from_slice-end : goal.slice_bounds-copy_from_slice-end
+slice_bounds-copy_from_slice-end c =
     let a = c.args in
     omega (arith, room_is a.out.now a.at a.l.len (sym c.has_room.ensures ∙ c.if-not-has_room.false))
 
 pub returns : goal.returns
 returns c =
     let a = c.args in
-    goes a.out.now a.at a.l _ (room a.out.now a.at a.l c.if-n-gt-ROOM.false (sym c.has_room.ensures ∙ c.if-not-has_room.false)) c.copy.ensures
+    goes a.out.now a.at a.l _ (room a.out.now a.at a.l c.if-n-gt-ROOM.false (sym c.has_room.ensures ∙ c.if-not-has_room.false)) (grind (arith, common_steps))

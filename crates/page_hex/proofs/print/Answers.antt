@@ -1,4 +1,3 @@
-use Prim.Native.Nat.{◌-◌}
 use Rattle.page_hex.proofs.Prints.{print_start, print_none, print_turn, print_size, print_end}
 use native.Mathlib.Omega.{arith}
 use Rattle.page_hex.proofs.print.Goals as goal
@@ -11,19 +10,19 @@ pub returns-then-out-at-2 : goal.returns-then-out-at-2
 returns-then-out-at-2 c =
     print_none _ _ _ (omega (arith, c.if-out-at-2.true))
 
-pub loop-i-init : goal.loop-i-init
-loop-i-init c =
+pub loop-b-init : goal.loop-b-init
+loop-b-init c =
     (omega arith, print_start _ _ _)
 
-pub loop-i-preserved : goal.loop-i-preserved
-loop-i-preserved c =
-    let l = c.loop-i in
-    (l.invariant.0, print_turn _ _ l.out _ _ l.i l.end _ _ l.invariant.0 c.loop-i-test.true c.pair.ensures c.append-end.ensures.0 c.append-end.ensures.1 l.invariant.1)
+pub loop-b-preserved : goal.loop-b-preserved
+loop-b-preserved c =
+    let l = c.loop-b in
+    (l.invariant.0, print_turn _ _ l.out _ _ l.b-index l.end _ _ l.invariant.0 (omega arith) c.pair.ensures c.append-end.ensures.0 c.append-end.ensures.1 l.invariant.1)
 
 pub shape_of-out : goal.shape_of-out
 shape_of-out c =
-    print_size _ _ _ _ _ _ c.loop-i.invariant.1
+    print_size _ _ _ _ _ _ c.loop-b.invariant.1
 
 pub returns : goal.returns
 returns c =
-    print_end _ _ _ _ _ _ c.loop-i.invariant.1 c.loop-i-test.false
+    print_end _ _ _ _ _ _ c.loop-b.invariant.1 (omega arith)

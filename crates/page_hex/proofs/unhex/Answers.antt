@@ -1,22 +1,18 @@
-use Prim.Native.Nat.{◌-◌}
 use mathlib.Core.Path.{◌∙◌}
 use lib.ListN.{length-set}
-use Rattle.page_hex.proofs.Pairs.{reading_start, reading_turn, reading_full, reading_done}
+use native.Mathlib.Omega.{arith}
+use Rattle.page_hex.proofs.Pairs.{reading_start, reading_turn, reading_end}
 use Rattle.page_hex.proofs.unhex.Goals as goal
 
-pub loop-n-init : goal.loop-n-init
-loop-n-init c =
+pub loop-k-init : goal.loop-k-init
+loop-k-init c =
     reading_start _ _
 
-pub returns-then-digits-n : goal.returns-then-digits-n
-returns-then-digits-n c =
-    reading_done _ _ _ _ c.loop-n.invariant c.if-digits-n.true
-
-pub loop-n-preserved : goal.loop-n-preserved
-loop-n-preserved c =
-    let l = c.loop-n in
-    reading_turn _ _ l.bytes l.n l.invariant c.byte_of.result c.loop-n-test.true c.if-digits-n.false c.byte_of.ensures (length-set l.bytes l.n c.byte_of.result ∙ l.invariant.size)
+pub loop-k-preserved : goal.loop-k-preserved
+loop-k-preserved c =
+    let l = c.loop-k in
+    reading_turn _ _ l.bytes l.k l.invariant c.byte_of.result (omega (arith, l.invariant.size)) (omega arith) c.byte_of.ensures (length-set l.bytes l.k c.byte_of.result ∙ l.invariant.size)
 
 pub returns : goal.returns
 returns c =
-    reading_full _ _ _ _ c.loop-n.invariant c.loop-n-test.false
+    reading_end _ _ _ _ c.loop-k.invariant _ (omega arith) c.min-n.ensures

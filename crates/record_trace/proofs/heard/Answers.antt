@@ -1,17 +1,6 @@
+use Rattle.record_trace.proofs.Takings.{past_is}
 use Rattle.record_trace.proofs.heard.Goals as goal
-
-pub returns-in-Skip : goal.returns-in-Skip
-returns-in-Skip c =
-    rw c.in-Skip.is c.stays.ensures
-
-pub returns-in-More : goal.returns-in-More
-returns-in-More c =
-    rw c.in-More.is c.stays-in-More.ensures
 
 pub returns-in-Makes : goal.returns-in-Makes
 returns-in-Makes c =
-    rw c.in-Makes.is c.past.ensures
-
-pub returns-in-Bad : goal.returns-in-Bad
-returns-in-Bad c =
-    rw c.in-Bad.is c.stays-in-Bad.ensures
+    rw c.in-Makes.is (past_is c.args.t c.in-Makes.c _ _ c.requires.0 c.requires.1 c.width.ensures c.after.ensures.byte c.after.ensures.bit)

@@ -1,10 +1,10 @@
 use Rattle.replay_lines.proofs.Steps.{alive, stopped}
 use Rattle.replay_lines.proofs.take_step.Goals as goal
 
-pub returns-then-live : goal.returns-then-live
-returns-then-live c =
-    alive _ _ _ c.if-live.true c.stepped.ensures
+pub returns-then-r : goal.returns-then-r
+returns-then-r c =
+    alive _ _ _ c.if-r.true c.stepped.ensures
 
-pub returns-else-live : goal.returns-else-live
-returns-else-live c =
-    stopped _ _ _ c.if-live.false c.blank-line.ensures
+pub returns-else-r : goal.returns-else-r
+returns-else-r c =
+    stopped _ _ _ c.if-r.false c.blank.ensures

@@ -1,7 +1,4 @@
-use mathlib.Core.Path.{sym, ap, ◌∙◌}
-use Rattle.rules.specs.declared.Set.{Set}
-use Rattle.rules.specs.declared.Refusal.TheVariants.{IllFormed}
-use Rattle.rules.specs.declared.ReadAnswer.TheVariants.{Refused}
+use mathlib.Core.Path.{sym, ◌∙◌}
 use Rattle.rules.specs.Streams.{FourPlaces}
 use Rattle.rules.specs.contracts.Stream.{the_row}
 use Rattle.sheet_carried.specs.Left.{Boxed}
@@ -29,5 +26,4 @@ returns-then-could_be_left c =
 
 pub returns-else-could_be_left : goal.returns-else-could_be_left
 returns-else-could_be_left c =
-    ap (λ (x : Set). record { answer = Refused IllFormed; set = x }) c.empty_set.ensures
-    ∙ close_twelve _ (sym c.could_be_left.ensures ∙ c.if-could_be_left.false)
+    c.no_set.ensures ∙ close_twelve _ (sym c.could_be_left.ensures ∙ c.if-could_be_left.false)

@@ -1,5 +1,5 @@
 use mathlib.Core.Path.{sym, ap, ◌∙◌}
-use Rattle.rules.specs.declared.FeedAnswer.TheVariants.{Fed}
+use Rattle.std.specs.Prelude.{Ok}
 use Rattle.rules.specs.Streams.{FourPlaces}
 use Rattle.rules.specs.contracts.Stream.{the_row}
 use Rattle.sheet_carried.specs.declared.Carried.{Carried}
@@ -24,7 +24,7 @@ feed-requires c =
 
 pub returns-then-could_be_left : goal.returns-then-could_be_left
 returns-then-could_be_left c =
-    ap (λ (y : Carried). record { answer = Fed; carried = y }) c.feed.ensures
+    ap (λ (y : Carried). record { answer = Ok tt; carried = y }) c.feed.ensures
     ∙ feed_takes _ _ (sym c.could_be_left.ensures ∙ c.if-could_be_left.true)
 
 pub returns-else-could_be_left : goal.returns-else-could_be_left

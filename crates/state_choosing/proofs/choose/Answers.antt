@@ -1,36 +1,27 @@
-use native.Mathlib.Omega.{arith}
-use Prim.Native.Nat.{◌≤◌, ◌<◌}
-use mathlib.Core.Logic.{⊎_elim}
-use mathlib.Core.Path.{sym, ◌∙◌}
-use Rattle.laws.proofs.Gates.{le_or_lt}
-use Rattle.state_formed.proofs.WellFormed.{set_fails, rest_tells}
-use Rattle.state_choosing.proofs.Looking.{choose_12, choose_none, choose_one, found_in}
+use Rattle.std.proofs.Common.{rules, arith, ◌≡◌, ◌<◌, ◌∙◌, Err}
+use Rattle.state_formed.proofs.WellFormed.{well_formed_lem}
+use Rattle.state_choosing.proofs.Looking.{looked_ok, choose_err, choose_none, choose_some}
 use Rattle.state_choosing.proofs.choose.Goals as goal
 
-pub returns-then-s-eq0 : goal.returns-then-s-eq0
-returns-then-s-eq0 c =
-    choose_none _ (sym (rest_tells _ _ (sym c.is_valid.ensures ∙ c.if-is_valid.true) c.formed-tested.ensures) ∙ c.if-tested.true) c.if-s-eq0.true
+pub returns-in_err-look : goal.returns-in_err-look
+returns-in_err-look c =
+    let f : c.from_residual.result ≡ Err c.in_err-look.field-0.0 = search rules in
+    f ∙ choose_err _ _ c.in_err-look.ensures.told
 
-pub served-found-requires : goal.served-found-requires
-served-found-requires c = (
-  sym (rest_tells _ _ (sym c.is_valid.ensures ∙ c.if-is_valid.true) c.formed-tested.ensures) ∙ c.if-tested.true,
-  ⊎_elim (λ (z : c.args.s.count ≤ 0). absurd (c.if-s-eq0.false (omega arith))) (λ (z : 0 < c.args.s.count). z) (le_or_lt c.args.s.count 0),
-)
+pub offset_bounds-s-it : goal.offset_bounds-s-it
+offset_bounds-s-it c =
+    let q : c.in-Some.it.place < c.args.s.now.count = rw c.in-Some.is at c.in_ok-look.ensures.inside in
+    omega (arith, (well_formed_lem _ (looked_ok _ _ c.in_ok-look.ensures.told).0).few)
 
-pub stream_of-requires : goal.stream_of-requires
-stream_of-requires c =
-    found_in _ (sym (rest_tells _ _ (sym c.is_valid.ensures ∙ c.if-is_valid.true) c.formed-tested.ensures) ∙ c.if-tested.true) c.if-s-eq0.false _ c.served-found.ensures
-    (c.well_formed.0.1.1.1.1.1.0.1.0.1) (c.well_formed.0.1.1.0.1.1.1.0.1.0.1)
+pub bounds-s-it : goal.bounds-s-it
+bounds-s-it c =
+    let q : c.in-Some.it.place < c.args.s.now.count = rw c.in-Some.is at c.in_ok-look.ensures.inside in
+    omega (arith, (well_formed_lem _ (looked_ok _ _ c.in_ok-look.ensures.told).0).few)
 
-pub returns-then-tested : goal.returns-then-tested
-returns-then-tested c =
-    rw c.stream_of.ensures
-    (choose_one _ (sym (rest_tells _ _ (sym c.is_valid.ensures ∙ c.if-is_valid.true) c.formed-tested.ensures) ∙ c.if-tested.true) c.if-s-eq0.false _ c.served-found.ensures)
+pub returns-in-None : goal.returns-in-None
+returns-in-None c =
+    choose_none _ _ c.in_ok-look.ensures.told c.in-None.is
 
-pub returns-else-tested : goal.returns-else-tested
-returns-else-tested c =
-    choose_12 _ (sym (rest_tells _ _ (sym c.is_valid.ensures ∙ c.if-is_valid.true) c.formed-tested.ensures) ∙ c.if-tested.false)
-
-pub returns-else-is_valid : goal.returns-else-is_valid
-returns-else-is_valid c =
-    choose_12 _ (sym (set_fails _ (sym c.is_valid.ensures ∙ c.if-is_valid.false)))
+pub returns-in-Some : goal.returns-in-Some
+returns-in-Some c =
+    choose_some _ _ c.in_ok-look.ensures.told _ c.in-Some.is

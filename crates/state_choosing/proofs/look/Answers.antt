@@ -1,33 +1,25 @@
-use native.Mathlib.Omega.{arith}
-use borrow.Author.Tests.{not-true, not-false}
-use Prim.Native.Nat.{◌≤◌, ◌<◌}
-use mathlib.Core.Logic.{⊎_elim}
-use mathlib.Core.Path.{refl, sym, ◌∙◌}
-use Rattle.laws.proofs.Gates.{le_or_lt}
-use Rattle.state_formed.proofs.WellFormed.{set_fails, rest_tells, sound_later, fails_later}
+use Rattle.std.proofs.Common.{rules, ◌≡◌, sym, ◌∙◌, Err, None, Some}
+use Rattle.rules.specs.declared.Refusal.TheVariants.{IllFormed}
+use Rattle.state_formed.specs.InRange.{whole_of}
+use Rattle.state_formed.proofs.Whole.{whole_some}
 use Rattle.state_choosing.proofs.Looking.{look_ill, look_none, look_one}
+use Rattle.state_choosing.proofs.look.Goals.{then-s-eq0, else-s-eq0}
 use Rattle.state_choosing.proofs.look.Goals as goal
 
-pub returns-then-not-is_valid : goal.returns-then-not-is_valid
-returns-then-not-is_valid c =
-    look_ill _ (sym (set_fails _ (sym c.is_valid.ensures ∙ c.if-not-is_valid.true))) _ refl
+pub returns-in_err-tested-clause-told : goal.returns-in_err-tested-clause-told
+returns-in_err-tested-clause-told c =
+    let e : c.inspect.result ≡ None = c.in_err-tested.ensures.ok_part in
+    let f : c.from_residual.result ≡ Err IllFormed = search rules in
+    f ∙ look_ill _ (sym e ∙ c.inspect.ensures)
 
-pub returns-then-not-tested : goal.returns-then-not-tested
-returns-then-not-tested c =
-    look_ill _ (sym (rest_tells _ _ (sym c.is_valid.ensures ∙ c.if-not-is_valid.false) c.formed-tested.ensures) ∙ not-true _ c.if-not-tested.true) _ (fails_later _ _ c.formed-tested.ensures (not-true _ c.if-not-tested.true))
+pub found-requires-clause-formed : goal.found-requires-clause-formed
+found-requires-clause-formed c =
+    (whole_some c.args.s.now c.in_ok-tested.tested (sym c.in_ok-tested.ensures.ok_part ∙ c.inspect.ensures)).0
 
-pub returns-then-s-eq0 : goal.returns-then-s-eq0
-returns-then-s-eq0 c =
-    look_none _ (sym (rest_tells _ _ (sym c.is_valid.ensures ∙ c.if-not-is_valid.false) c.formed-tested.ensures) ∙ not-false _ c.if-not-tested.false) c.if-s-eq0.true _
-    (sound_later _ _ c.formed-tested.ensures (not-false _ c.if-not-tested.false))
-
-pub served-best-requires : goal.served-best-requires
-served-best-requires c = (
-  sym (rest_tells _ _ (sym c.is_valid.ensures ∙ c.if-not-is_valid.false) c.formed-tested.ensures) ∙ not-false _ c.if-not-tested.false,
-  ⊎_elim (λ (z : c.args.s.count ≤ 0). absurd (c.if-s-eq0.false (omega arith))) (λ (z : 0 < c.args.s.count). z) (le_or_lt c.args.s.count 0),
-)
-
-pub returns : goal.returns
-returns c =
-    look_one _ (sym (rest_tells _ _ (sym c.is_valid.ensures ∙ c.if-not-is_valid.false) c.formed-tested.ensures) ∙ not-false _ c.if-not-tested.false) c.if-s-eq0.false _ c.served-best.ensures _
-    (sound_later _ _ c.formed-tested.ensures (not-false _ c.if-not-tested.false))
+pub returns-clause-told : goal.returns-clause-told
+returns-clause-told c =
+    let t : Some c.in_ok-tested.tested ≡ whole_of c.args.s.now = sym c.in_ok-tested.ensures.ok_part ∙ c.inspect.ensures in
+    elim c.if-s-eq0.branch [
+      | then-s-eq0 w ↦ rw w.served-is (look_none _ _ t w.if-s-eq0.true)
+      | else-s-eq0 w ↦ rw w.served-is (look_one _ _ t w.if-s-eq0.false _ w.found.ensures.told)
+    ]

@@ -1,11 +1,11 @@
-use mathlib.Core.Path.{sym, ◌∙◌}
-use Rattle.state_formed.proofs.WellFormed.{set_fails_whole, rest_whole}
+use mathlib.Core.Path.{◌∙◌}
+use Rattle.state_formed.proofs.Whole.{set_no, set_yes}
 use Rattle.state_formed.proofs.inspect.Goals as goal
 
-pub returns-then-not-is_valid : goal.returns-then-not-is_valid
-returns-then-not-is_valid c =
-    c.fails.ensures ∙ set_fails_whole _ (sym c.is_valid.ensures ∙ c.if-not-is_valid.true)
+pub returns-then-is_valid : goal.returns-then-is_valid
+returns-then-is_valid c =
+    c.formed.ensures ∙ set_yes _ c.if-is_valid.ensures
 
-pub returns : goal.returns
-returns c =
-    rest_whole _ _ (sym c.is_valid.ensures ∙ c.if-not-is_valid.false) c.formed.ensures
+pub returns-else-is_valid : goal.returns-else-is_valid
+returns-else-is_valid c =
+    set_no _ c.if-is_valid.ensures

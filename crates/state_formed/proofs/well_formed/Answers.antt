@@ -1,11 +1,8 @@
-use mathlib.Core.Path.{sym, ◌∙◌}
-use Rattle.state_formed.proofs.WellFormed.{set_fails, rest_tells}
+use mathlib.Core.Path.{ap, ◌∙◌}
+use Rattle.std.specs.Prelude.{is_some}
+use Rattle.state_formed.proofs.Whole.{whole_is}
 use Rattle.state_formed.proofs.well_formed.Goals as goal
-
-pub returns-then-not-is_valid : goal.returns-then-not-is_valid
-returns-then-not-is_valid c =
-    set_fails _ (sym c.is_valid.ensures ∙ c.if-not-is_valid.true)
 
 pub returns : goal.returns
 returns c =
-    rest_tells _ _ (sym c.is_valid.ensures ∙ c.if-not-is_valid.false) c.formed-tested.ensures
+    c.is_some.ensures ∙ ap is_some c.inspect.ensures ∙ whole_is _

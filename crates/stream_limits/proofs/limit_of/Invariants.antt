@@ -1,13 +1,9 @@
 use mathlib.Core.Path.{◌≡◌}
-use Prim.Native.Nat.{◌+◌, ◌-◌, ◌*◌, ◌≤◌}
-use lib.ListN.{length}
-use Rattle.laws.proofs.Parts.{part}
+use Prim.Native.Nat.{◌*◌, ◌≤◌}
+use lib.ListN.{take}
 use Rattle.laws.specs.Lists.{sum as total}
-use Rattle.rules.specs.Streams.{events, limit}
+use Rattle.rules.specs.Streams.{events}
 use Rattle.stream_limits.proofs.limit_of.Given as goal
 
-abbrev pub invariant-loop-k : goal.invariant-loop-k
-invariant-loop-k l = (length l.s.tuples ≡ 4) × (l.sum + total (events l.i) (part l.k l.n l.s.tuples) ≡ limit l.s l.i) × (l.sum ≤ l.k * 4294967296)
-
-abbrev pub decreases-loop-k : goal.decreases-loop-k
-decreases-loop-k l = 4 - l.k
+abbrev pub invariant-loop-p : goal.invariant-loop-p
+invariant-loop-p l = record { is : l.sum ≡ total (events l.i) (take l.p-index l.p-items); fits : l.sum ≤ l.p-index * 4294967296 }

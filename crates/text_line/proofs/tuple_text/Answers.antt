@@ -1,12 +1,11 @@
 use Rattle.line.proofs.Puts.{then}
 use Rattle.text_line.proofs.tuple_text.Goals as goal
 
--- src/lib.rt:315:1
 pub returns-in-Once : goal.returns-in-Once
 returns-in-Once c =
-    rw c.in-Once.is (then _ _ _ _ _ c.word.ensures c.decimal.ensures)
+    rw c.in-Once.is (then _ _ _ _ _ c.word.ensures (rw c.from.ensures at c.decimal.ensures))
 
--- src/lib.rt:315:1
 pub returns-in-Every : goal.returns-in-Every
 returns-in-Every c =
-    rw c.in-Every.is (then _ _ _ _ _ (then _ _ _ _ _ c.one.ensures c.word-in-Every.ensures) c.decimal-in-Every.ensures)
+    rw c.in-Every.is
+    (then _ _ _ _ _ (then _ _ _ _ _ (rw c.from-in-Every.ensures at c.one.ensures) c.word-in-Every.ensures) (rw c.from-in-Every-2.ensures at c.decimal-in-Every.ensures))

@@ -1,9 +1,5 @@
-use Prim.Native.Nat.{◌-◌}
 use Rattle.text_print.proofs.Prints.{Listing}
 use Rattle.text_print.proofs.put_lines.Given as goal
 
-abbrev pub invariant-loop-k : goal.invariant-loop-k
-invariant-loop-k l = Listing l.x l.initial.out l.initial.at l.out l.k l.at
-
-abbrev pub decreases-loop-k : goal.decreases-loop-k
-decreases-loop-k l = 16 - l.k
+abbrev pub invariant-loop-s : goal.invariant-loop-s
+invariant-loop-s l = Listing l.fn.x l.s-items l.initial.out l.initial.at l.out l.s-index l.at

@@ -2,4 +2,4 @@ use Rattle.trace_steps.proofs.tracing_from.Goals as goal
 
 pub returns : goal.returns
 returns c =
-    rw c.start-r.ensures
+    rw c.start.ensures

@@ -1,4 +1,4 @@
-use Prim.Native.Nat.{◌-◌, ◌*◌, ◌≤◌}
+use Prim.Native.Nat.{◌*◌, ◌≤◌}
 use mathlib.Core.Path.{◌≡◌}
 use Rattle.laws.specs.Lists.{below, sum}
 use Rattle.rules.specs.Streams.{streams_of}
@@ -6,7 +6,4 @@ use Rattle.rules.specs.Load.{blocking}
 use Rattle.load_check.proofs.blocked.blockings.Given as goal
 
 abbrev pub invariant-loop-t : goal.invariant-loop-t
-invariant-loop-t l = (l.t ≤ 16) × (l.acc ≡ sum (blocking (streams_of l.x) l.i) (below l.t)) × (l.acc ≤ l.t * 65535)
-
-abbrev pub decreases-loop-t : goal.decreases-loop-t
-decreases-loop-t l = 16 - l.t
+invariant-loop-t l = record { is : l.acc ≡ sum (blocking (streams_of l.x) l.i) (below l.t); fits : l.acc ≤ l.t * 65535 }

@@ -1,46 +1,29 @@
 use native.Mathlib.Omega.{arith}
-use borrow.Author.Rules.{rules}
-use mathlib.Core.Path.{refl, ap₂, sym, ◌∙◌}
-use mathlib.Core.Bool.{true, false, ◌||◌}
-use Rattle.laws.proofs.Parts.{sized}
-use Rattle.laws.specs.Lists.{any as some}
-use Rattle.laws.proofs.Sums.{top_none, top_take, any_take}
-use Rattle.rules.specs.Load.{urgent, blocks}
-use Rattle.load_cycles.proofs.Bounds.{blank}
-use Rattle.load_check.proofs.Steady.{blocking_by}
+use mathlib.Core.Bool.{Bool, true, false, cond}
+use mathlib.Core.List.{List}
+use mathlib.Core.Path.{◌≡◌, refl, sym, ◌∙◌}
+use Prim.Native.Nat.{ℕ}
+use Rattle.std.specs.List.{list_any}
+use Rattle.laws.specs.Lists.{top}
+use Rattle.laws.proofs.Sums.{top_take}
+use Rattle.std.proofs.lemmas.List.{take_all}
+use Rattle.rules.specs.declared.Stream.{Stream}
+use Rattle.rules.specs.Load.{urgent, blocks, blocking}
+use Rattle.load_cycles.proofs.Bounds.{blank, ord_max_nat}
 use Rattle.load_check.proofs.blocked.task_blocking.Goals as goal
 
-pub loop-k-init : goal.loop-k-init
-unfolding some
-loop-k-init c =
-    (search (rules, sized), omega arith, refl, sym (top_none _))
+blocking_by : (ss : List Stream) (i t most : ℕ) (b : Bool) → list_any (urgent t i) ss ≡ b → cond b most 0 ≡ cond b (top (blocks t i) ss) 0 → cond b most 0 ≡ blocking ss i t
+unfolding blocking
+blocking_by ss i t most b e h = rw e h
 
-pub offset_bounds-x-k : goal.offset_bounds-x-k
-offset_bounds-x-k c =
-    omega (arith, c.requires.count)
+pub returns-then-not-any_urgent : goal.returns-then-not-any_urgent
+returns-then-not-any_urgent c = blocking_by _ c.args.i c.args.t 0 false (sym c.any_urgent.ensures ∙ c.if-not-any_urgent.true) refl
 
-pub bounds-x-k : goal.bounds-x-k
-bounds-x-k c =
-    omega (arith, c.requires.count)
+pub loop-s-preserved : goal.loop-s-preserved
+loop-s-preserved c = omega (arith, ord_max_nat, c.blocks_of.ensures, c.max-most.ensures, top_take (blocks c.args.t c.args.i) c.streams_of-s-items.result.now c.loop-s.s-index blank (omega arith))
 
-pub overflow_add-k : goal.overflow_add-k
-overflow_add-k c =
-    omega (arith, c.requires.count)
-
-pub loop-k-preserved : goal.loop-k-preserved
-loop-k-preserved c = (
-  c.loop-k.invariant.0,
-  omega arith,
-  ap₂ ◌||◌ c.loop-k.invariant.2 c.is_urgent-any.ensures ∙ sym (any_take (urgent c.args.t c.args.i) c.args.x.streams c.loop-k.k blank (omega (arith, c.requires.count))),
-  omega (arith, c.larger-most.ensures, c.blocks_of.ensures, top_take (blocks c.args.t c.args.i) c.args.x.streams c.loop-k.k blank (omega (arith, c.requires.count))),
-)
-
-pub returns-then-any : goal.returns-then-any
-returns-then-any c =
-    blocking_by c.args.x.streams c.args.i c.args.t c.args.x.count c.loop-k.k c.loop-k.most true
-    (omega arith) (sym c.if-any.true ∙ c.loop-k.invariant.2) c.loop-k.invariant.3
-
-pub returns-else-any : goal.returns-else-any
-returns-else-any c =
-    blocking_by c.args.x.streams c.args.i c.args.t c.args.x.count c.loop-k.k c.loop-k.most false
-    (omega arith) (sym c.if-any.false ∙ c.loop-k.invariant.2) c.loop-k.invariant.3
+pub returns : goal.returns
+returns c =
+    let ss = c.streams_of-s-items in
+    blocking_by _ c.args.i c.args.t c.loop-s.most true (sym c.any_urgent.ensures ∙ c.if-not-any_urgent.false)
+    (rw (c.loop-s.invariant, take_all c.loop-s.s-index ss.result.now (omega arith), ss.ensures.value) refl)

@@ -1,11 +1,9 @@
-use Prim.Native.Nat.{◌-◌, ◌*◌, ◌≤◌}
+use Prim.Native.Nat.{◌*◌, ◌≤◌}
 use mathlib.Core.Path.{◌≡◌}
-use Rattle.laws.specs.Lists.{below, sum}
-use Rattle.load_check.specs.Dues.{due_at}
+use lib.ListN.{take}
+use Rattle.laws.specs.Lists.{sum}
+use Rattle.load_check.specs.Dues.{row_due}
 use Rattle.load_check.proofs.dues.dues_at.Given as goal
 
-abbrev pub invariant-loop-k : goal.invariant-loop-k
-invariant-loop-k l = (l.k ≤ l.n) × (l.acc ≡ sum (due_at l.costs l.firsts l.cycles l.i) (below l.k)) × (l.acc ≤ l.k * 1125882726973440)
-
-abbrev pub decreases-loop-k : goal.decreases-loop-k
-decreases-loop-k l = l.n - l.k
+abbrev pub invariant-loop-row : goal.invariant-loop-row
+invariant-loop-row l = record { is : l.acc ≡ sum (row_due l.i) (take l.row-index l.rows); fits : l.acc ≤ l.row-index * 1125882726973440 }

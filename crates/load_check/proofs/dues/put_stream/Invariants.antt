@@ -1,12 +1,7 @@
-use Prim.Native.Nat.{◌-◌, ◌≤◌}
-use mathlib.Core.Path.{◌≡◌}
-use lib.ListN.{length, take}
+use lib.ListN.{take}
 use Rattle.load_check.specs.Dues.{Grows}
 use Rattle.load_check.proofs.RowLaws.{front_due}
 use Rattle.load_check.proofs.dues.put_stream.Given as goal
 
-abbrev pub invariant-loop-j : goal.invariant-loop-j
-invariant-loop-j l = (length l.s.tuples ≡ 4) × (l.j ≤ l.n) × Grows l.initial.r l.j (front_due l.cost l.s.deadline (take l.j l.s.tuples)) l.r
-
-abbrev pub decreases-loop-j : goal.decreases-loop-j
-decreases-loop-j l = l.n - l.j
+abbrev pub invariant-loop-p : goal.invariant-loop-p
+invariant-loop-p l = Grows l.initial.t l.p-index (front_due l.cost l.s.deadline (take l.p-index l.p-items)) l.t

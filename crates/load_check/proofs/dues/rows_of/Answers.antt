@@ -1,48 +1,31 @@
 use native.Mathlib.Omega.{arith}
-use borrow.Author.Rules.{rules}
-use Prim.Native.Nat.{ℕ}
-use mathlib.Core.Path.{◌≡◌, subst}
-use lib.ListN.{take}
-use Rattle.laws.proofs.Parts.{sized}
-use Rattle.laws.proofs.Sums.{all_take_at}
+use mathlib.Core.Path.{subst, sym, refl}
+use Rattle.laws.specs.Lists.{All}
+use Rattle.laws.proofs.Sums.{all_at}
+use Rattle.std.proofs.lemmas.List.{take_all}
 use Rattle.rules.specs.Valid.{ValidStream}
-use Rattle.load_check.specs.Dues.{RowsOf}
 use Rattle.load_cycles.proofs.Bounds.{blank}
 use Rattle.load_check.proofs.RowLaws.{rows_start, rows_more}
 use Rattle.load_check.proofs.dues.rows_of.Goals as goal
 
-pub loop-k-init : goal.loop-k-init
-loop-k-init c =
-    (search (rules, sized), omega arith, omega (arith, c.no_rows-r.ensures), rows_start _ c.no_rows-r.ensures)
+pub loop-s-init : goal.loop-s-init
+loop-s-init c = record { few = omega arith; rows = rows_start _ refl }
 
-pub offset_bounds-x-k : goal.offset_bounds-x-k
-offset_bounds-x-k c =
-    omega (arith, c.requires.count)
+pub put_stream-requires : goal.put_stream-requires
+put_stream-requires c =
+    let ss = c.streams_of-s-items in
+    let v : All ValidStream ss.result.now = subst (All ValidStream) (sym ss.ensures.value) c.requires.streams in
+    (omega (arith, c.loop-s.invariant.few, ss.ensures.bound), c.loop-s.invariant.rows.fit, all_at ValidStream ss.result.now c.loop-s.s-index blank (omega arith) v)
 
-pub bounds-x-k : goal.bounds-x-k
-bounds-x-k c =
-    omega (arith, c.requires.count)
-
-pub put_stream-r-requires : goal.put_stream-r-requires
-put_stream-r-requires c = (
-  omega (arith, c.requires.count),
-  c.loop-k.invariant.3.fit,
-  all_take_at ValidStream c.args.x.streams c.args.x.count c.loop-k.k blank (omega arith) (omega (arith, c.requires.count)) c.requires.streams,
-)
-
-pub overflow_add-k : goal.overflow_add-k
-overflow_add-k c =
-    omega (arith, c.requires.count)
-
-pub loop-k-preserved : goal.loop-k-preserved
-loop-k-preserved c = (
-  c.loop-k.invariant.0,
-  omega arith,
-  omega (arith, c.put_stream-r.ensures.few),
-  rows_more c.loop-k.r c.put_stream-r.result c.args.x.streams c.loop-k.k _ (omega (arith, c.requires.count)) c.loop-k.invariant.3 c.put_stream-r.ensures,
-)
+pub loop-s-preserved : goal.loop-s-preserved
+loop-s-preserved c =
+    let ss = c.streams_of-s-items in
+    record {
+      few = omega (arith, c.loop-s.invariant.few, c.put_stream.ensures.few);
+      rows = rows_more c.loop-s.t c.put_stream.new.t ss.result.now c.loop-s.s-index blank (omega arith) (omega (arith, c.loop-s.invariant.few, ss.ensures.bound)) c.loop-s.invariant.rows c.put_stream.ensures;
+    }
 
 pub returns : goal.returns
 returns c =
-    let e : c.loop-k.k ≡ c.args.x.count = omega arith in
-    subst (λ (n : ℕ). RowsOf (take n c.args.x.streams) c.loop-k.r) e c.loop-k.invariant.3
+    let ss = c.streams_of-s-items in
+    rw (← ss.ensures.value, ← take_all c.loop-s.s-index ss.result.now (omega arith)) c.loop-s.invariant.rows

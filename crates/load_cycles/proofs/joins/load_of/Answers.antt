@@ -1,59 +1,39 @@
 use native.Mathlib.Omega.{arith}
-use borrow.Author.Rules.{rules}
-use Prim.Native.Nat.{ℕ}
-use mathlib.Core.Path.{◌≡◌, ap, sym, ◌∙◌}
-use lib.ListN.{get_or, take}
-use Rattle.laws.proofs.Parts.{sized}
-use Rattle.laws.specs.Lists.{sum}
-use Rattle.laws.proofs.Sums.{sum_none, sum_take, all_take_at}
+use mathlib.Core.Path.{refl, sym, subst}
+use Prim.Native.Nat.{ℕ, ◌≤◌, ◌<◌}
+use mathlib.Core.List.{List}
+use mathlib.Core.Path.{◌≡◌}
+use lib.ListN.{length, get_or}
+use Rattle.laws.specs.Lists.{All}
+use Rattle.laws.proofs.Sums.{sum_none, sum_take, all_at}
+use Rattle.std.proofs.lemmas.List.{take_all}
 use Rattle.rules.specs.Load.{stream_load, load}
+use Rattle.rules.specs.declared.Stream.{Stream}
 use Rattle.rules.specs.Valid.{ValidStream}
 use Rattle.load_cycles.proofs.Bounds.{blank, stream_load_fits}
 use Rattle.load_cycles.proofs.joins.load_of.Goals as goal
 
-pub loop-k-init : goal.loop-k-init
-loop-k-init c =
-    (search (rules, sized), omega arith, sym (sum_none _), omega arith)
+one_fits : (ss of : List Stream) (k h : ℕ) → ss ≡ of → All ValidStream of → k < length ss → h ≤ 1000000 → stream_load h (get_or ss k blank) ≤ 1048560000000
+one_fits ss of k h e v l y = stream_load_fits (get_or ss k blank) h (all_at ValidStream ss k blank l (subst (All ValidStream) (sym e) v)) y
 
-pub offset_bounds-x-k : goal.offset_bounds-x-k
-offset_bounds-x-k c =
-    omega (arith, c.requires.0.count)
-
-pub bounds-x-k : goal.bounds-x-k
-bounds-x-k c =
-    omega (arith, c.requires.0.count)
-
-pub stream_load-acc-requires : goal.stream_load-acc-requires
-stream_load-acc-requires c =
-    (all_take_at ValidStream c.args.x.streams c.args.x.count c.loop-k.k blank (omega arith) (omega (arith, c.requires.0.count)) c.requires.0.streams, c.requires.1)
+pub loop-s-init : goal.loop-s-init
+loop-s-init c = record { is = sym (sum_none _); fits = omega arith }
 
 pub overflow_add-acc : goal.overflow_add-acc
 overflow_add-acc c =
-    omega (
-      arith,
-      c.stream_load-acc.ensures,
-      c.requires.0.count,
-      stream_load_fits (get_or c.args.x.streams c.loop-k.k blank) c.args.h (all_take_at ValidStream c.args.x.streams c.args.x.count c.loop-k.k blank (omega arith) (omega (arith, c.requires.0.count)) c.requires.0.streams) c.requires.1,
-    )
+    let ss = c.streams_of-s-items in
+    omega (arith, c.stream_load-acc.ensures, ss.ensures.bound, one_fits ss.result.now _ c.loop-s.s-index c.args.h ss.ensures.value c.requires.0.streams (omega arith) c.requires.1)
 
-pub overflow_add-k : goal.overflow_add-k
-overflow_add-k c =
-    omega (arith, c.requires.0.count)
-
-pub loop-k-preserved : goal.loop-k-preserved
-loop-k-preserved c = (
-  c.loop-k.invariant.0,
-  omega arith,
-  omega (arith, c.stream_load-acc.ensures, sum_take (stream_load c.args.h) c.args.x.streams c.loop-k.k blank (omega (arith, c.requires.0.count))),
-  omega (
-    arith,
-    c.stream_load-acc.ensures,
-    stream_load_fits (get_or c.args.x.streams c.loop-k.k blank) c.args.h (all_take_at ValidStream c.args.x.streams c.args.x.count c.loop-k.k blank (omega arith) (omega (arith, c.requires.0.count)) c.requires.0.streams) c.requires.1,
-  ),
-)
+pub loop-s-preserved : goal.loop-s-preserved
+loop-s-preserved c =
+    let ss = c.streams_of-s-items in
+    let k = c.loop-s.s-index in
+    record {
+      is = omega (arith, c.stream_load-acc.ensures, c.loop-s.invariant.is, sum_take (stream_load c.args.h) ss.result.now k blank (omega arith));
+      fits = omega (arith, c.stream_load-acc.ensures, one_fits ss.result.now _ k c.args.h ss.ensures.value c.requires.0.streams (omega arith) c.requires.1);
+    }
 
 pub returns : goal.returns
 unfolding load
 returns c =
-    let e : c.loop-k.k ≡ c.args.x.count = omega arith in
-    c.loop-k.invariant.2 ∙ ap (λ (n : ℕ). sum (stream_load c.args.h) (take n c.args.x.streams)) e
+    rw (c.loop-s.invariant.is, take_all c.loop-s.s-index c.streams_of-s-items.result.now (omega arith), c.streams_of-s-items.ensures.value) refl

@@ -9,17 +9,18 @@ use Rattle.laws.specs.Bits.{bits}
 use Rattle.laws.specs.Lists.{within}
 use Rattle.bits.specs.declared.Gathered.{Gathered}
 use Rattle.bits.specs.Places.{gather_of}
+use Rattle.rules.specs.declared.Place.{Place}
 use Rattle.rules.specs.declared.Set.{Set}
 use Rattle.rules.specs.declared.Stage.{Stage}
 use Rattle.rules.specs.declared.TuplePlace.{TuplePlace}
 use Rattle.sheet_carried.specs.declared.Point.{Point}
 use Rattle.sheet_carried.specs.declared.SheetField.{SheetField}
 use Rattle.sheet_carried.specs.declared.Carried.{Carried}
-use Rattle.sheet_carried.specs.Table.{in_rule_of, opened_of, refusal_of}
+use Rattle.sheet_carried.specs.Table.{in_rule_of, refusal_of}
 use Rattle.sheet_carried.specs.Reader.{joined_of, point_at, refused_of, rule_of, run, value_at}
 use Rattle.sheet_carried.specs.Kept.{Kept}
 use Rattle.sheet_carried.proofs.Rows.{refusal_row}
-use Rattle.sheet_read.proofs.Turns.{Behind, Turn, ahead, ahead_kept, ahead_runs, both_lt, carried, end_le, fits, got_few, got_some, left_none, left_some, limit_le, refused_stays, rest, rule_stays, rule_tests, stage_room, stream_room_lem, tuple_room, turn_field, turn_limit, turn_padding, turn_part, turn_refused, turn_stage, turn_stages, turn_stream, turn_tuple, turn_version, turn_whole, turned, turns_end}
+use Rattle.sheet_read.proofs.Turns.{Behind, Turn, ahead, ahead_kept, ahead_runs, both_lt, carried, end_le, fits, got_some, left_none, left_some, limit_le, refused_stays, rest, rule_stays, rule_tests, stage_room, stream_room_lem, tuple_room, turn_field, turn_limit, turn_padding, turn_part, turn_refused, turn_stage, turn_stages, turn_stream, turn_tuple, turn_version, turn_whole, turned, turns_end}
 use Rattle.sheet_read.proofs.AtOnce.{goes_on_lem}
 use Rattle.sheet_read.proofs.feeding.feed.Goals as goal
 
@@ -52,22 +53,17 @@ came o vs gs ts x r t byte bit g b i e q =
     }
 
 module _ {o : Point} {vs : List ℕ} {gs : List Stage} {ts : List TuplePlace} {x : Set} {r : SheetField} {t : List ℕ} {byte bit : ℕ} {g : Gathered} {b : Carried} (a : Came o vs gs ts x r t byte bit g b) where
-  -- the place behind the bits
-  abbrev later_byte : ℕ
-  later_byte = byte + (bit + g.got) / 8
-
-  abbrev later_bit : ℕ
-  later_bit = (bit + g.got) % 8
-
   ends : 8 * byte + bit + g.got ≤ 8 * length t
   ends = end_le a.turn a.inside
 
-  less : 8 * length t - (8 * later_byte + later_bit) < 8 * length t - (8 * byte + bit)
-  less = omega (arith, ends, got_some a.turn (omega (arith, a.before_end, a.bit_in)))
+  -- the place behind the bits
+  module _ (q : Place) (eb : q.byte ≡ byte + (bit + g.got) / 8) (ee : q.bit ≡ (bit + g.got) % 8) where
+    less : 8 * length t - (8 * q.byte + q.bit) < 8 * length t - (8 * byte + bit)
+    less = omega (arith, ends, got_some a.turn (omega (arith, a.before_end, a.bit_in)))
 
-  again : (n : Point) (us : List ℕ) (hs : List Stage) (ps : List TuplePlace) (y : Set) (s : SheetField) → carried n us hs ps y ≡ ahead a.turn → s ≡ rule_of n us → Held n us hs ps y s t later_byte later_bit b
-  again n us hs ps y s e q =
-      (omega arith, omega (arith, ends), ahead_kept a.turn _ e, ahead_runs a.turn _ b (8 * later_byte + later_bit) e (omega arith) a.runs_on, q)
+    again : (n : Point) (us : List ℕ) (hs : List Stage) (ps : List TuplePlace) (y : Set) (s : SheetField) → carried n us hs ps y ≡ ahead a.turn → s ≡ rule_of n us → Held n us hs ps y s t q.byte q.bit b
+    again n us hs ps y s e h =
+        (omega arith, omega (arith, ends), ahead_kept a.turn _ e, ahead_runs a.turn _ b (8 * q.byte + q.bit) e (omega arith) a.runs_on, h)
 
   -- the field is whole
   module _ (n : Point) (j : n ≡ joined_of o g) (h : o.left ≤ g.got) where
@@ -80,70 +76,58 @@ module _ {o : Point} {vs : List ℕ} {gs : List Stage} {ts : List TuplePlace} {x
 
 -- ---- the goals
 
-pub overflow_add-end : goal.overflow_add-end
-overflow_add-end c =
-    let l = c.loop-byte in
-    let a = came l.point l.values l.stages l.places l.set l.rule c.args.piece.now l.byte l.bit c.gather-g.result c.args.s l.invariant c.loop-byte-test.true c.gather-g.ensures in
-    omega (arith, got_few a.turn)
-
-pub overflow_add-byte : goal.overflow_add-byte
-overflow_add-byte c =
-    let l = c.loop-byte in
-    let a = came l.point l.values l.stages l.places l.set l.rule c.args.piece.now l.byte l.bit c.gather-g.result c.args.s l.invariant c.loop-byte-test.true c.gather-g.ensures in
-    omega (arith, got_few a.turn, ends a)
-
 pub joined-point-requires : goal.joined-point-requires
 joined-point-requires c =
-    let l = c.loop-byte in
-    let a = came l.point l.values l.stages l.places l.set l.rule c.args.piece.now l.byte l.bit c.gather-g.result c.args.s l.invariant c.loop-byte-test.true c.gather-g.ensures in
+    let l = c.loop-at in
+    let a = came l.point l.values l.stages l.places l.set l.rule c.args.piece.now l.at.byte l.at.bit c.gather-g.result c.args.s l.invariant c.loop-at-test.true c.gather-g.ensures in
     fits a.turn
 
-pub loop-byte-smaller-then-g-point : goal.loop-byte-smaller-then-g-point
-loop-byte-smaller-then-g-point c =
-    let l = c.loop-byte in
-    let a = came l.point l.values l.stages l.places l.set l.rule c.args.piece.now l.byte l.bit c.gather-g.result c.args.s l.invariant c.loop-byte-test.true c.gather-g.ensures in
-    less a
+pub loop-at-smaller-then-g-point : goal.loop-at-smaller-then-g-point
+loop-at-smaller-then-g-point c =
+    let l = c.loop-at in
+    let a = came l.point l.values l.stages l.places l.set l.rule c.args.piece.now l.at.byte l.at.bit c.gather-g.result c.args.s l.invariant c.loop-at-test.true c.gather-g.ensures in
+    less a c.after-at.result (omega (arith, ends a)) c.after-at.ensures.bit
 
-pub loop-byte-preserved-then-g-point : goal.loop-byte-preserved-then-g-point
-loop-byte-preserved-then-g-point c =
-    let l = c.loop-byte in
-    let a = came l.point l.values l.stages l.places l.set l.rule c.args.piece.now l.byte l.bit c.gather-g.result c.args.s l.invariant c.loop-byte-test.true c.gather-g.ensures in
+pub loop-at-preserved-then-g-point : goal.loop-at-preserved-then-g-point
+loop-at-preserved-then-g-point c =
+    let l = c.loop-at in
+    let a = came l.point l.values l.stages l.places l.set l.rule c.args.piece.now l.at.byte l.at.bit c.gather-g.result c.args.s l.invariant c.loop-at-test.true c.gather-g.ensures in
     let n = c.joined-point.result in
-    again a n _ _ _ _ _ (turn_part a.turn n c.joined-point.ensures (left_some a.turn n c.joined-point.ensures c.if-g-point.true)) (rule_stays a.turn n c.joined-point.ensures l.rule a.rule_is)
+    again a c.after-at.result (omega (arith, ends a)) c.after-at.ensures.bit n _ _ _ _ _ (turn_part a.turn n c.joined-point.ensures (left_some a.turn n c.joined-point.ensures c.if-g-point.true)) (rule_stays a.turn n c.joined-point.ensures l.rule a.rule_is)
 
 pub joined-point-requires-else-g-point : goal.joined-point-requires-else-g-point
 joined-point-requires-else-g-point c =
-    let l = c.loop-byte in
-    let a = came l.point l.values l.stages l.places l.set l.rule c.args.piece.now l.byte l.bit c.gather-g.result c.args.s l.invariant c.loop-byte-test.true c.gather-g.ensures in
+    let l = c.loop-at in
+    let a = came l.point l.values l.stages l.places l.set l.rule c.args.piece.now l.at.byte l.at.bit c.gather-g.result c.args.s l.invariant c.loop-at-test.true c.gather-g.ensures in
     fits a.turn
 
 pub overflow_cast-v : goal.overflow_cast-v
 overflow_cast-v c =
-    let l = c.loop-byte in
-    let a = came l.point l.values l.stages l.places l.set l.rule c.args.piece.now l.byte l.bit c.gather-g.result c.args.s l.invariant c.loop-byte-test.true c.gather-g.ensures in
+    let l = c.loop-at in
+    let a = came l.point l.values l.stages l.places l.set l.rule c.args.piece.now l.at.byte l.at.bit c.gather-g.result c.args.s l.invariant c.loop-at-test.true c.gather-g.ensures in
     let n = c.joined-point-else-g-point.result in
     let w = behind a n c.joined-point-else-g-point.ensures c.if-g-point.false in
     omega (arith, w.small)
 
 pub returns-then-not-in_rule : goal.returns-then-not-in_rule
 returns-then-not-in_rule c =
-    let l = c.loop-byte in
-    let a = came l.point l.values l.stages l.places l.set l.rule c.args.piece.now l.byte l.bit c.gather-g.result c.args.s l.invariant c.loop-byte-test.true c.gather-g.ensures in
+    let l = c.loop-at in
+    let a = came l.point l.values l.stages l.places l.set l.rule c.args.piece.now l.at.byte l.at.bit c.gather-g.result c.args.s l.invariant c.loop-at-test.true c.gather-g.ensures in
     let n = c.joined-point-else-g-point.result in
     let w = behind a n c.joined-point-else-g-point.ensures c.if-g-point.false in
     let s = sym (c.in_rule.ensures ∙ rule_tests a.turn n c.joined-point-else-g-point.ensures l.rule a.rule_is) ∙ c.if-not-in_rule.true in
     c.refused.ensures ∙ ap refused_of c.refusal.ensures
-    ∙ refused_stays (refusal_of n.row) _ c.args.piece.now (8 * later_byte a + later_bit a) (refusal_row n.row).0
-    (ahead_runs a.turn _ _ (8 * later_byte a + later_bit a) (turn_refused w s) (omega arith) a.runs_on)
+    ∙ refused_stays (refusal_of n.row) _ c.args.piece.now (8 * c.after-at.result.byte + c.after-at.result.bit) (refusal_row n.row).0
+    (ahead_runs a.turn _ _ (8 * c.after-at.result.byte + c.after-at.result.bit) (turn_refused w s) (omega arith) a.runs_on)
 
-pub loop-byte-init : goal.loop-byte-init
-loop-byte-init c =
+pub loop-at-init : goal.loop-at-init
+loop-at-init c =
     (omega arith, omega arith, c.requires, refl, c.rule-rule.ensures)
 
 pub offset_bounds-places-n : goal.offset_bounds-places-n
 offset_bounds-places-n c =
-    let l = c.loop-byte in
-    let a = came l.point l.values l.stages l.places l.set l.rule c.args.piece.now l.byte l.bit c.gather-g.result c.args.s l.invariant c.loop-byte-test.true c.gather-g.ensures in
+    let l = c.loop-at in
+    let a = came l.point l.values l.stages l.places l.set l.rule c.args.piece.now l.at.byte l.at.bit c.gather-g.result c.args.s l.invariant c.loop-at-test.true c.gather-g.ensures in
     let n = c.joined-point-else-g-point.result in
     let w = behind a n c.joined-point-else-g-point.ensures c.if-g-point.false in
     let i = in_rule a n c.joined-point-else-g-point.ensures c.if-g-point.false (sym c.in_rule.ensures ∙ c.if-not-in_rule.false) in
@@ -151,17 +135,17 @@ offset_bounds-places-n c =
 
 pub bounds-places-n : goal.bounds-places-n
 bounds-places-n c =
-    let l = c.loop-byte in
-    let a = came l.point l.values l.stages l.places l.set l.rule c.args.piece.now l.byte l.bit c.gather-g.result c.args.s l.invariant c.loop-byte-test.true c.gather-g.ensures in
+    let l = c.loop-at in
+    let a = came l.point l.values l.stages l.places l.set l.rule c.args.piece.now l.at.byte l.at.bit c.gather-g.result c.args.s l.invariant c.loop-at-test.true c.gather-g.ensures in
     let n = c.joined-point-else-g-point.result in
     let w = behind a n c.joined-point-else-g-point.ensures c.if-g-point.false in
     let i = in_rule a n c.joined-point-else-g-point.ensures c.if-g-point.false (sym c.in_rule.ensures ∙ c.if-not-in_rule.false) in
     tuple_room w i c.if-f-eq-OFFSET.true
 
-pub overflow_add-n-else-n-wide : goal.overflow_add-n-else-n-wide
-overflow_add-n-else-n-wide c =
-    let l = c.loop-byte in
-    let a = came l.point l.values l.stages l.places l.set l.rule c.args.piece.now l.byte l.bit c.gather-g.result c.args.s l.invariant c.loop-byte-test.true c.gather-g.ensures in
+pub overflow_add-n-else-n-values : goal.overflow_add-n-else-n-values
+overflow_add-n-else-n-values c =
+    let l = c.loop-at in
+    let a = came l.point l.values l.stages l.places l.set l.rule c.args.piece.now l.at.byte l.at.bit c.gather-g.result c.args.s l.invariant c.loop-at-test.true c.gather-g.ensures in
     let n = c.joined-point-else-g-point.result in
     let w = behind a n c.joined-point-else-g-point.ensures c.if-g-point.false in
     let i = in_rule a n c.joined-point-else-g-point.ensures c.if-g-point.false (sym c.in_rule.ensures ∙ c.if-not-in_rule.false) in
@@ -169,8 +153,8 @@ overflow_add-n-else-n-wide c =
 
 pub bounds-set-k : goal.bounds-set-k
 bounds-set-k c =
-    let l = c.loop-byte in
-    let a = came l.point l.values l.stages l.places l.set l.rule c.args.piece.now l.byte l.bit c.gather-g.result c.args.s l.invariant c.loop-byte-test.true c.gather-g.ensures in
+    let l = c.loop-at in
+    let a = came l.point l.values l.stages l.places l.set l.rule c.args.piece.now l.at.byte l.at.bit c.gather-g.result c.args.s l.invariant c.loop-at-test.true c.gather-g.ensures in
     let n = c.joined-point-else-g-point.result in
     let w = behind a n c.joined-point-else-g-point.ensures c.if-g-point.false in
     let i = in_rule a n c.joined-point-else-g-point.ensures c.if-g-point.false (sym c.in_rule.ensures ∙ c.if-not-in_rule.false) in
@@ -178,8 +162,8 @@ bounds-set-k c =
 
 pub offset_bounds-stages-n : goal.offset_bounds-stages-n
 offset_bounds-stages-n c =
-    let l = c.loop-byte in
-    let a = came l.point l.values l.stages l.places l.set l.rule c.args.piece.now l.byte l.bit c.gather-g.result c.args.s l.invariant c.loop-byte-test.true c.gather-g.ensures in
+    let l = c.loop-at in
+    let a = came l.point l.values l.stages l.places l.set l.rule c.args.piece.now l.at.byte l.at.bit c.gather-g.result c.args.s l.invariant c.loop-at-test.true c.gather-g.ensures in
     let n = c.joined-point-else-g-point.result in
     let w = behind a n c.joined-point-else-g-point.ensures c.if-g-point.false in
     let i = in_rule a n c.joined-point-else-g-point.ensures c.if-g-point.false (sym c.in_rule.ensures ∙ c.if-not-in_rule.false) in
@@ -187,8 +171,8 @@ offset_bounds-stages-n c =
 
 pub bounds-stages-n : goal.bounds-stages-n
 bounds-stages-n c =
-    let l = c.loop-byte in
-    let a = came l.point l.values l.stages l.places l.set l.rule c.args.piece.now l.byte l.bit c.gather-g.result c.args.s l.invariant c.loop-byte-test.true c.gather-g.ensures in
+    let l = c.loop-at in
+    let a = came l.point l.values l.stages l.places l.set l.rule c.args.piece.now l.at.byte l.at.bit c.gather-g.result c.args.s l.invariant c.loop-at-test.true c.gather-g.ensures in
     let n = c.joined-point-else-g-point.result in
     let w = behind a n c.joined-point-else-g-point.ensures c.if-g-point.false in
     let i = in_rule a n c.joined-point-else-g-point.ensures c.if-g-point.false (sym c.in_rule.ensures ∙ c.if-not-in_rule.false) in
@@ -196,145 +180,145 @@ bounds-stages-n c =
 
 pub overflow_add-f : goal.overflow_add-f
 overflow_add-f c =
-    let l = c.loop-byte in
-    let a = came l.point l.values l.stages l.places l.set l.rule c.args.piece.now l.byte l.bit c.gather-g.result c.args.s l.invariant c.loop-byte-test.true c.gather-g.ensures in
+    let l = c.loop-at in
+    let a = came l.point l.values l.stages l.places l.set l.rule c.args.piece.now l.at.byte l.at.bit c.gather-g.result c.args.s l.invariant c.loop-at-test.true c.gather-g.ensures in
     let n = c.joined-point-else-g-point.result in
     let w = behind a n c.joined-point-else-g-point.ensures c.if-g-point.false in
     omega (arith, w.row)
 
 pub before_last-t-requires : goal.before_last-t-requires
 before_last-t-requires c =
-    let l = c.loop-byte in
-    let a = came l.point l.values l.stages l.places l.set l.rule c.args.piece.now l.byte l.bit c.gather-g.result c.args.s l.invariant c.loop-byte-test.true c.gather-g.ensures in
+    let l = c.loop-at in
+    let a = came l.point l.values l.stages l.places l.set l.rule c.args.piece.now l.at.byte l.at.bit c.gather-g.result c.args.s l.invariant c.loop-at-test.true c.gather-g.ensures in
     let n = c.joined-point-else-g-point.result in
     let w = behind a n c.joined-point-else-g-point.ensures c.if-g-point.false in
     let i = in_rule a n c.joined-point-else-g-point.ensures c.if-g-point.false (sym c.in_rule.ensures ∙ c.if-not-in_rule.false) in
     (limit_le w i c.if-f-eq-TUPLES.true, omega arith, omega (arith, ends a))
 
-pub loop-byte-smaller-then-n-wide : goal.loop-byte-smaller-then-n-wide
-loop-byte-smaller-then-n-wide c =
-    let l = c.loop-byte in
-    let a = came l.point l.values l.stages l.places l.set l.rule c.args.piece.now l.byte l.bit c.gather-g.result c.args.s l.invariant c.loop-byte-test.true c.gather-g.ensures in
-    less a
+pub loop-at-smaller-then-n-values : goal.loop-at-smaller-then-n-values
+loop-at-smaller-then-n-values c =
+    let l = c.loop-at in
+    let a = came l.point l.values l.stages l.places l.set l.rule c.args.piece.now l.at.byte l.at.bit c.gather-g.result c.args.s l.invariant c.loop-at-test.true c.gather-g.ensures in
+    less a c.after-at.result (omega (arith, ends a)) c.after-at.ensures.bit
 
-pub loop-byte-smaller-else-n-wide : goal.loop-byte-smaller-else-n-wide
-loop-byte-smaller-else-n-wide c =
-    let l = c.loop-byte in
-    let a = came l.point l.values l.stages l.places l.set l.rule c.args.piece.now l.byte l.bit c.gather-g.result c.args.s l.invariant c.loop-byte-test.true c.gather-g.ensures in
-    less a
+pub loop-at-smaller-else-n-values : goal.loop-at-smaller-else-n-values
+loop-at-smaller-else-n-values c =
+    let l = c.loop-at in
+    let a = came l.point l.values l.stages l.places l.set l.rule c.args.piece.now l.at.byte l.at.bit c.gather-g.result c.args.s l.invariant c.loop-at-test.true c.gather-g.ensures in
+    less a c.after-at.result (omega (arith, ends a)) c.after-at.ensures.bit
 
-pub loop-byte-smaller-then-n-wide-2 : goal.loop-byte-smaller-then-n-wide-2
-loop-byte-smaller-then-n-wide-2 c =
-    let l = c.loop-byte in
-    let a = came l.point l.values l.stages l.places l.set l.rule c.args.piece.now l.byte l.bit c.gather-g.result c.args.s l.invariant c.loop-byte-test.true c.gather-g.ensures in
-    less a
+pub loop-at-smaller-then-n-values-2 : goal.loop-at-smaller-then-n-values-2
+loop-at-smaller-then-n-values-2 c =
+    let l = c.loop-at in
+    let a = came l.point l.values l.stages l.places l.set l.rule c.args.piece.now l.at.byte l.at.bit c.gather-g.result c.args.s l.invariant c.loop-at-test.true c.gather-g.ensures in
+    less a c.after-at.result (omega (arith, ends a)) c.after-at.ensures.bit
 
-pub loop-byte-smaller-else-n-wide-2 : goal.loop-byte-smaller-else-n-wide-2
-loop-byte-smaller-else-n-wide-2 c =
-    let l = c.loop-byte in
-    let a = came l.point l.values l.stages l.places l.set l.rule c.args.piece.now l.byte l.bit c.gather-g.result c.args.s l.invariant c.loop-byte-test.true c.gather-g.ensures in
-    less a
+pub loop-at-smaller-else-n-values-2 : goal.loop-at-smaller-else-n-values-2
+loop-at-smaller-else-n-values-2 c =
+    let l = c.loop-at in
+    let a = came l.point l.values l.stages l.places l.set l.rule c.args.piece.now l.at.byte l.at.bit c.gather-g.result c.args.s l.invariant c.loop-at-test.true c.gather-g.ensures in
+    less a c.after-at.result (omega (arith, ends a)) c.after-at.ensures.bit
 
-pub loop-byte-smaller-then-f-eq-VERSION : goal.loop-byte-smaller-then-f-eq-VERSION
-loop-byte-smaller-then-f-eq-VERSION c =
-    let l = c.loop-byte in
-    let a = came l.point l.values l.stages l.places l.set l.rule c.args.piece.now l.byte l.bit c.gather-g.result c.args.s l.invariant c.loop-byte-test.true c.gather-g.ensures in
-    less a
+pub loop-at-smaller-then-f-eq-VERSION : goal.loop-at-smaller-then-f-eq-VERSION
+loop-at-smaller-then-f-eq-VERSION c =
+    let l = c.loop-at in
+    let a = came l.point l.values l.stages l.places l.set l.rule c.args.piece.now l.at.byte l.at.bit c.gather-g.result c.args.s l.invariant c.loop-at-test.true c.gather-g.ensures in
+    less a c.after-at.result (omega (arith, ends a)) c.after-at.ensures.bit
 
-pub loop-byte-smaller-then-f-lt-PADDING : goal.loop-byte-smaller-then-f-lt-PADDING
-loop-byte-smaller-then-f-lt-PADDING c =
-    let l = c.loop-byte in
-    let a = came l.point l.values l.stages l.places l.set l.rule c.args.piece.now l.byte l.bit c.gather-g.result c.args.s l.invariant c.loop-byte-test.true c.gather-g.ensures in
-    less a
+pub loop-at-smaller-then-f-lt-PADDING : goal.loop-at-smaller-then-f-lt-PADDING
+loop-at-smaller-then-f-lt-PADDING c =
+    let l = c.loop-at in
+    let a = came l.point l.values l.stages l.places l.set l.rule c.args.piece.now l.at.byte l.at.bit c.gather-g.result c.args.s l.invariant c.loop-at-test.true c.gather-g.ensures in
+    less a c.after-at.result (omega (arith, ends a)) c.after-at.ensures.bit
 
-pub loop-byte-smaller : goal.loop-byte-smaller
-loop-byte-smaller c =
-    let l = c.loop-byte in
-    let a = came l.point l.values l.stages l.places l.set l.rule c.args.piece.now l.byte l.bit c.gather-g.result c.args.s l.invariant c.loop-byte-test.true c.gather-g.ensures in
-    less a
+pub loop-at-smaller : goal.loop-at-smaller
+loop-at-smaller c =
+    let l = c.loop-at in
+    let a = came l.point l.values l.stages l.places l.set l.rule c.args.piece.now l.at.byte l.at.bit c.gather-g.result c.args.s l.invariant c.loop-at-test.true c.gather-g.ensures in
+    less a c.after-at.result (omega (arith, ends a)) c.after-at.ensures.bit
 
-pub loop-byte-smaller-then-f-eq-TUPLES : goal.loop-byte-smaller-then-f-eq-TUPLES
-loop-byte-smaller-then-f-eq-TUPLES c =
-    let l = c.loop-byte in
-    let a = came l.point l.values l.stages l.places l.set l.rule c.args.piece.now l.byte l.bit c.gather-g.result c.args.s l.invariant c.loop-byte-test.true c.gather-g.ensures in
+pub loop-at-smaller-then-f-eq-TUPLES : goal.loop-at-smaller-then-f-eq-TUPLES
+loop-at-smaller-then-f-eq-TUPLES c =
+    let l = c.loop-at in
+    let a = came l.point l.values l.stages l.places l.set l.rule c.args.piece.now l.at.byte l.at.bit c.gather-g.result c.args.s l.invariant c.loop-at-test.true c.gather-g.ensures in
     let o = c.before_last-t.ensures in
-    omega (arith, o.later, o.ends, less a)
+    omega (arith, o.later, o.ends, less a c.after-at.result (omega (arith, ends a)) c.after-at.ensures.bit)
 
-pub loop-byte-preserved-then-n-wide : goal.loop-byte-preserved-then-n-wide
-loop-byte-preserved-then-n-wide c =
-    let l = c.loop-byte in
-    let a = came l.point l.values l.stages l.places l.set l.rule c.args.piece.now l.byte l.bit c.gather-g.result c.args.s l.invariant c.loop-byte-test.true c.gather-g.ensures in
+pub loop-at-preserved-then-n-values : goal.loop-at-preserved-then-n-values
+loop-at-preserved-then-n-values c =
+    let l = c.loop-at in
+    let a = came l.point l.values l.stages l.places l.set l.rule c.args.piece.now l.at.byte l.at.bit c.gather-g.result c.args.s l.invariant c.loop-at-test.true c.gather-g.ensures in
     let n = c.joined-point-else-g-point.result in
     let w = behind a n c.joined-point-else-g-point.ensures c.if-g-point.false in
     let i = in_rule a n c.joined-point-else-g-point.ensures c.if-g-point.false (sym c.in_rule.ensures ∙ c.if-not-in_rule.false) in
-    again a c.begun-point.result _ _ _ _ _ (turn_tuple w i c.if-f-eq-OFFSET.true c.tuple_of.result c.tuple_of.ensures (omega (arith, c.wide.ensures, c.if-n-wide.true)) c.begun-point.result c.begun-point.ensures) c.rule-rule-then-n-wide.ensures
+    again a c.after-at.result (omega (arith, ends a)) c.after-at.ensures.bit c.begun-point.result _ _ _ _ _ (turn_tuple w i c.if-f-eq-OFFSET.true c.tuple_of.result c.tuple_of.ensures (omega (arith, c.if-n-values.true)) c.begun-point.result c.begun-point.ensures) c.rule-rule-then-n-values.ensures
 
-pub loop-byte-preserved-else-n-wide : goal.loop-byte-preserved-else-n-wide
-loop-byte-preserved-else-n-wide c =
-    let l = c.loop-byte in
-    let a = came l.point l.values l.stages l.places l.set l.rule c.args.piece.now l.byte l.bit c.gather-g.result c.args.s l.invariant c.loop-byte-test.true c.gather-g.ensures in
+pub loop-at-preserved-else-n-values : goal.loop-at-preserved-else-n-values
+loop-at-preserved-else-n-values c =
+    let l = c.loop-at in
+    let a = came l.point l.values l.stages l.places l.set l.rule c.args.piece.now l.at.byte l.at.bit c.gather-g.result c.args.s l.invariant c.loop-at-test.true c.gather-g.ensures in
     let n = c.joined-point-else-g-point.result in
     let w = behind a n c.joined-point-else-g-point.ensures c.if-g-point.false in
     let i = in_rule a n c.joined-point-else-g-point.ensures c.if-g-point.false (sym c.in_rule.ensures ∙ c.if-not-in_rule.false) in
-    again a c.begun-point-else-n-wide.result _ _ _ _ _ (turn_stream w i c.if-f-eq-OFFSET.true c.tuple_of.result c.tuple_of.ensures (omega (arith, c.wide.ensures, c.if-n-wide.false)) c.stream_in.result c.begun-point-else-n-wide.result c.front-values.result c.no_stages-blank.result c.no_tuples-none.result c.stream_in.ensures
-    (c.begun-point-else-n-wide.ensures ∙ ap (λ (k : ℕ). point_at k 0) (c.opened-next.ensures ∙ ap (opened_of l.set.version (l.set.count + 1)) c.wide-else-n-wide.ensures)) c.front-values.ensures c.no_stages-blank.ensures c.no_tuples-none.ensures) c.rule-rule-else-n-wide.ensures
+    again a c.after-at.result (omega (arith, ends a)) c.after-at.ensures.bit c.begun-point-else-n-values.result _ _ _ _ _ (turn_stream w i c.if-f-eq-OFFSET.true c.tuple_of.result c.tuple_of.ensures (omega (arith, c.if-n-values.false)) c.stream_in.result c.begun-point-else-n-values.result c.front-values.result c.no_stages-blank.result c.no_tuples-none.result c.stream_in.ensures
+    (c.begun-point-else-n-values.ensures ∙ ap (λ (k : ℕ). point_at k 0) (c.opened-next.ensures)) c.front-values.ensures c.no_stages-blank.ensures c.no_tuples-none.ensures) c.rule-rule-else-n-values.ensures
 
-pub loop-byte-preserved-then-n-wide-2 : goal.loop-byte-preserved-then-n-wide-2
-loop-byte-preserved-then-n-wide-2 c =
-    let l = c.loop-byte in
-    let a = came l.point l.values l.stages l.places l.set l.rule c.args.piece.now l.byte l.bit c.gather-g.result c.args.s l.invariant c.loop-byte-test.true c.gather-g.ensures in
+pub loop-at-preserved-then-n-values-2 : goal.loop-at-preserved-then-n-values-2
+loop-at-preserved-then-n-values-2 c =
+    let l = c.loop-at in
+    let a = came l.point l.values l.stages l.places l.set l.rule c.args.piece.now l.at.byte l.at.bit c.gather-g.result c.args.s l.invariant c.loop-at-test.true c.gather-g.ensures in
     let n = c.joined-point-else-g-point.result in
     let w = behind a n c.joined-point-else-g-point.ensures c.if-g-point.false in
     let i = in_rule a n c.joined-point-else-g-point.ensures c.if-g-point.false (sym c.in_rule.ensures ∙ c.if-not-in_rule.false) in
-    again a c.begun-point-then-n-wide-2.result _ _ _ _ _ (turn_stage w i c.if-f-eq-COST.true c.stage_in.result c.stage_in.ensures (omega (arith, c.wide-then-f-eq-COST.ensures, c.if-n-wide-2.true)) c.begun-point-then-n-wide-2.result c.begun-point-then-n-wide-2.ensures) c.rule-rule-then-n-wide-2.ensures
+    again a c.after-at.result (omega (arith, ends a)) c.after-at.ensures.bit c.begun-point-then-n-values-2.result _ _ _ _ _ (turn_stage w i c.if-f-eq-COST.true c.stage_in.result c.stage_in.ensures (omega (arith, c.if-n-values-2.true)) c.begun-point-then-n-values-2.result c.begun-point-then-n-values-2.ensures) c.rule-rule-then-n-values-2.ensures
 
-pub loop-byte-preserved-else-n-wide-2 : goal.loop-byte-preserved-else-n-wide-2
-loop-byte-preserved-else-n-wide-2 c =
-    let l = c.loop-byte in
-    let a = came l.point l.values l.stages l.places l.set l.rule c.args.piece.now l.byte l.bit c.gather-g.result c.args.s l.invariant c.loop-byte-test.true c.gather-g.ensures in
+pub loop-at-preserved-else-n-values-2 : goal.loop-at-preserved-else-n-values-2
+loop-at-preserved-else-n-values-2 c =
+    let l = c.loop-at in
+    let a = came l.point l.values l.stages l.places l.set l.rule c.args.piece.now l.at.byte l.at.bit c.gather-g.result c.args.s l.invariant c.loop-at-test.true c.gather-g.ensures in
     let n = c.joined-point-else-g-point.result in
     let w = behind a n c.joined-point-else-g-point.ensures c.if-g-point.false in
     let i = in_rule a n c.joined-point-else-g-point.ensures c.if-g-point.false (sym c.in_rule.ensures ∙ c.if-not-in_rule.false) in
-    again a c.begun-point-else-n-wide-2.result _ _ _ _ _ (turn_stages w i c.if-f-eq-COST.true c.stage_in.result c.stage_in.ensures (omega (arith, c.wide-then-f-eq-COST.ensures, c.if-n-wide-2.false)) c.begun-point-else-n-wide-2.result (c.begun-point-else-n-wide-2.ensures ∙ ap (λ (k : ℕ). point_at k 0) c.behind.ensures)) c.rule-rule-else-n-wide-2.ensures
+    again a c.after-at.result (omega (arith, ends a)) c.after-at.ensures.bit c.begun-point-else-n-values-2.result _ _ _ _ _ (turn_stages w i c.if-f-eq-COST.true c.stage_in.result c.stage_in.ensures (omega (arith, c.if-n-values-2.false)) c.begun-point-else-n-values-2.result (c.begun-point-else-n-values-2.ensures ∙ ap (λ (k : ℕ). point_at k 0) c.behind.ensures)) c.rule-rule-else-n-values-2.ensures
 
-pub loop-byte-preserved-then-f-eq-VERSION : goal.loop-byte-preserved-then-f-eq-VERSION
-loop-byte-preserved-then-f-eq-VERSION c =
-    let l = c.loop-byte in
-    let a = came l.point l.values l.stages l.places l.set l.rule c.args.piece.now l.byte l.bit c.gather-g.result c.args.s l.invariant c.loop-byte-test.true c.gather-g.ensures in
+pub loop-at-preserved-then-f-eq-VERSION : goal.loop-at-preserved-then-f-eq-VERSION
+loop-at-preserved-then-f-eq-VERSION c =
+    let l = c.loop-at in
+    let a = came l.point l.values l.stages l.places l.set l.rule c.args.piece.now l.at.byte l.at.bit c.gather-g.result c.args.s l.invariant c.loop-at-test.true c.gather-g.ensures in
     let n = c.joined-point-else-g-point.result in
     let w = behind a n c.joined-point-else-g-point.ensures c.if-g-point.false in
     let i = in_rule a n c.joined-point-else-g-point.ensures c.if-g-point.false (sym c.in_rule.ensures ∙ c.if-not-in_rule.false) in
-    again a c.begun-point-then-f-eq-VERSION.result _ _ _ _ _ (turn_version w i c.if-f-eq-VERSION.true c.begun-point-then-f-eq-VERSION.result c.begun-point-then-f-eq-VERSION.ensures) c.rule-rule-then-f-eq-VERSION.ensures
+    again a c.after-at.result (omega (arith, ends a)) c.after-at.ensures.bit c.begun-point-then-f-eq-VERSION.result _ _ _ _ _ (turn_version w i c.if-f-eq-VERSION.true c.begun-point-then-f-eq-VERSION.result c.begun-point-then-f-eq-VERSION.ensures) c.rule-rule-then-f-eq-VERSION.ensures
 
-pub loop-byte-preserved-then-f-eq-TUPLES : goal.loop-byte-preserved-then-f-eq-TUPLES
-loop-byte-preserved-then-f-eq-TUPLES c =
-    let l = c.loop-byte in
-    let a = came l.point l.values l.stages l.places l.set l.rule c.args.piece.now l.byte l.bit c.gather-g.result c.args.s l.invariant c.loop-byte-test.true c.gather-g.ensures in
+pub loop-at-preserved-then-f-eq-TUPLES : goal.loop-at-preserved-then-f-eq-TUPLES
+loop-at-preserved-then-f-eq-TUPLES c =
+    let l = c.loop-at in
+    let a = came l.point l.values l.stages l.places l.set l.rule c.args.piece.now l.at.byte l.at.bit c.gather-g.result c.args.s l.invariant c.loop-at-test.true c.gather-g.ensures in
     let n = c.joined-point-else-g-point.result in
     let w = behind a n c.joined-point-else-g-point.ensures c.if-g-point.false in
     let i = in_rule a n c.joined-point-else-g-point.ensures c.if-g-point.false (sym c.in_rule.ensures ∙ c.if-not-in_rule.false) in
     let o = c.before_last-t.ensures in
     let e = turn_limit w i c.if-f-eq-TUPLES.true in
-    let t = goes_on_lem (set l.values 6 n.acc) c.args.piece.now (8 * later_byte a + later_bit a) c.before_last-t.result l.stages l.set c.begun-point-then-f-eq-TUPLES.result o c.begun-point-then-f-eq-TUPLES.ensures (ahead_kept a.turn _ e) in
-    (o.bit, o.ends, t.kept, t.runs ∙ ahead_runs a.turn _ c.args.s (8 * later_byte a + later_bit a) e (omega arith) a.runs_on, c.rule-rule-then-f-eq-TUPLES.ensures)
+    let t = goes_on_lem (set l.values 6 n.acc) c.args.piece.now (8 * c.after-at.result.byte + c.after-at.result.bit) c.before_last-t.result l.stages l.set c.begun-point-then-f-eq-TUPLES.result o c.begun-point-then-f-eq-TUPLES.ensures (ahead_kept a.turn _ e) in
+    (o.bit, o.ends, t.kept, t.runs ∙ ahead_runs a.turn _ c.args.s (8 * c.after-at.result.byte + c.after-at.result.bit) e (omega arith) a.runs_on, c.rule-rule-then-f-eq-TUPLES.ensures)
 
-pub loop-byte-preserved-then-f-lt-PADDING : goal.loop-byte-preserved-then-f-lt-PADDING
-loop-byte-preserved-then-f-lt-PADDING c =
-    let l = c.loop-byte in
-    let a = came l.point l.values l.stages l.places l.set l.rule c.args.piece.now l.byte l.bit c.gather-g.result c.args.s l.invariant c.loop-byte-test.true c.gather-g.ensures in
+pub loop-at-preserved-then-f-lt-PADDING : goal.loop-at-preserved-then-f-lt-PADDING
+loop-at-preserved-then-f-lt-PADDING c =
+    let l = c.loop-at in
+    let a = came l.point l.values l.stages l.places l.set l.rule c.args.piece.now l.at.byte l.at.bit c.gather-g.result c.args.s l.invariant c.loop-at-test.true c.gather-g.ensures in
     let n = c.joined-point-else-g-point.result in
     let w = behind a n c.joined-point-else-g-point.ensures c.if-g-point.false in
     let i = in_rule a n c.joined-point-else-g-point.ensures c.if-g-point.false (sym c.in_rule.ensures ∙ c.if-not-in_rule.false) in
-    again a c.begun-point-then-f-lt-PADDING.result _ _ _ _ _ (turn_field w i c.if-f-eq-OFFSET.false c.if-f-eq-COST.false c.if-f-eq-VERSION.false c.begun-point-then-f-lt-PADDING.result (c.begun-point-then-f-lt-PADDING.ensures ∙ ap (λ (k : ℕ). point_at k n.whole) c.following.ensures)) c.rule-rule-then-f-lt-PADDING.ensures
+    again a c.after-at.result (omega (arith, ends a)) c.after-at.ensures.bit c.begun-point-then-f-lt-PADDING.result _ _ _ _ _ (turn_field w i c.if-f-eq-OFFSET.false c.if-f-eq-COST.false c.if-f-eq-VERSION.false c.begun-point-then-f-lt-PADDING.result (c.begun-point-then-f-lt-PADDING.ensures ∙ ap (λ (k : ℕ). point_at k n.whole) c.following.ensures)) c.rule-rule-then-f-lt-PADDING.ensures
 
-pub loop-byte-preserved : goal.loop-byte-preserved
-loop-byte-preserved c =
-    let l = c.loop-byte in
-    let a = came l.point l.values l.stages l.places l.set l.rule c.args.piece.now l.byte l.bit c.gather-g.result c.args.s l.invariant c.loop-byte-test.true c.gather-g.ensures in
+pub loop-at-preserved : goal.loop-at-preserved
+loop-at-preserved c =
+    let l = c.loop-at in
+    let a = came l.point l.values l.stages l.places l.set l.rule c.args.piece.now l.at.byte l.at.bit c.gather-g.result c.args.s l.invariant c.loop-at-test.true c.gather-g.ensures in
     let n = c.joined-point-else-g-point.result in
     let w = behind a n c.joined-point-else-g-point.ensures c.if-g-point.false in
     let i = in_rule a n c.joined-point-else-g-point.ensures c.if-g-point.false (sym c.in_rule.ensures ∙ c.if-not-in_rule.false) in
-    again a c.begun-point-else-f-lt-PADDING.result _ _ _ _ _ (turn_padding w i c.if-f-lt-PADDING.false c.begun-point-else-f-lt-PADDING.result c.begun-point-else-f-lt-PADDING.ensures) c.rule-rule-else-f-lt-PADDING.ensures
+    again a c.after-at.result (omega (arith, ends a)) c.after-at.ensures.bit c.begun-point-else-f-lt-PADDING.result _ _ _ _ _ (turn_padding w i c.if-f-lt-PADDING.false c.begun-point-else-f-lt-PADDING.result c.begun-point-else-f-lt-PADDING.ensures) c.rule-rule-else-f-lt-PADDING.ensures
 
 pub returns : goal.returns
-returns c = turns_end _ _ _ _ _ _ _ c.loop-byte.byte c.loop-byte.bit c.loop-byte-test.false c.loop-byte.invariant.3
+returns c = turns_end _ _ _ _ _ _ _ c.loop-at.at.byte c.loop-at.at.bit c.loop-at-test.false c.loop-at.invariant.3

@@ -1,7 +1,0 @@
-use Rattle.answer_words.proofs.Lengths.{says_short}
-use Rattle.answer_words.proofs.Ends.{ended}
-use Rattle.answer_words.proofs.verdict_line.Goals as goal
-
-pub returns : goal.returns
-returns c =
-    ended _ _ _ _ (says_short _) c.blank.ensures c.verdict_words.ensures c.put.ensures

@@ -1,5 +1,0 @@
-use Rattle.stream_valid.proofs.no_stream.Goals as goal
-
-pub returns : goal.returns
-returns c =
-    simp (c.no_stage-gs.ensures, c.no_tuple-ts.ensures)
