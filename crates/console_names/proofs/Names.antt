@@ -1,24 +1,32 @@
--- A word among the names of a group, and of one group after the other.
+-- A word among the names of the program's table.
 -- Assumes nothing.
-use Rattle.std.proofs.Common.{◌≡◌, ℕ, Bool, true, false, cond, List, [], refl, Option, Some, None}
-use Rattle.std.specs.Option.{MatchOption, option_map, option_or, unwrap_or}
+use Rattle.std.proofs.Common.{◌≡◌, ℕ, Bool, true, false, cond, List, [], ◌∷◌, refl, Option, Some, None}
+use Rattle.std.specs.Prelude.{map}
+use Rattle.std.specs.List.{find}
+use Rattle.std.specs.Option.{option_map, unwrap_or}
+use Rattle.ascii.specs.Same.{same}
 use Rattle.console_names.specs.declared.Command.TheVariants.{Unknown}
-use Rattle.console_names.specs.declared.Text.TheVariants.{Nothing}
 use Rattle.console_names.specs.declared.Row.{Row}
-use Rattle.console_names.specs.Rows.{asks_with, set_row, state_row, party_row, question_row, replay_row, cable_row, check_row, row_of}
+use Rattle.console_names.specs.Rows.{Entry, wanted, row_in, named, found_in, asks_with, among, rows, row_of}
 
--- what is taken of the one that is found is taken of each
-pub take_of : {X Y : Type 0} (f : X → Y) (b : Bool) (x : X) (o : Option X) → option_map f (cond b (Some x) o) ≡ cond b (Some (f x)) (option_map f o)
-take_of f true x o = refl
-take_of f false x o = refl
+module _ (w : List ℕ) where
+  found_among : (xs : List Entry) → option_map wanted (option_map row_in (find (λ x. same w x.0.now) xs)) ≡ among w (map named xs)
+  found_among [] = refl
+  found_among (x ∷ xs) = go (same w x.0.now) (found_among xs)
+    where
+      go : (t : Bool) → option_map wanted (option_map row_in (find (λ y. same w y.0.now) xs)) ≡ among w (map named xs)
+          → option_map wanted (option_map row_in (cond t (Some x) (find (λ y. same w y.0.now) xs))) ≡ cond t (Some (wanted (row_in x))) (among w (map named xs))
+      go true e = refl
+      go false e = e
 
--- a word that is not among the names of a group is looked for in the next
-pub or_next : {X E : Type 0} (p o r : Option X) → (E → r ≡ p) → MatchOption o E (λ x. r ≡ Some x) → r ≡ option_or o p
-or_next p None r f h = f h
-or_next p (Some x) r f h = h
+  unwrapped : (o : Option Row) (d : Row) → wanted (unwrap_or o d) ≡ unwrap_or (option_map wanted o) (wanted d)
+  unwrapped None d = refl
+  unwrapped (Some r) d = refl
 
-pub all_groups : (w : List ℕ) (a b c d e f g : Option Row) (none r : Row) → a ≡ set_row w → b ≡ option_or a (state_row w) → c ≡ option_or b (party_row w)
-    → d ≡ option_or c (question_row w) → e ≡ option_or d (replay_row w) → f ≡ option_or e (cable_row w) → g ≡ option_or f (check_row w)
-    → none ≡ asks_with Nothing Unknown [] → r ≡ unwrap_or g none → r ≡ row_of w
-unfolding row_of
-all_groups w a b c d e f g none r ha hb hc hd he hf hg hn hr = rw (hr, hg, hf, he, hd, hc, hb, ha, hn)
+  pub found_is : (xs : List Entry) (r : Option Row) → r ≡ found_in w xs → option_map wanted r ≡ among w (map named xs)
+  unfolding found_in
+  found_is xs r e = rw e (found_among xs)
+
+  pub row_is : (o : Option Row) (r d : Row) → wanted d ≡ asks_with None Unknown [] → option_map wanted o ≡ among w rows → r ≡ unwrap_or o d → wanted r ≡ row_of w
+  unfolding row_of
+  row_is o r d g f e = rw (e, unwrapped o d, f, g)

@@ -1,9 +1,10 @@
 -- The console's page: its commands, and what each asks for.
 -- Assumes nothing.
-use Rattle.std.specs.Prelude.{ℕ, ◌-◌, cond, List, [], ◌∷◌, ◌++◌, length, get_or, Option, Some, None, unwrap_or}
-use Rattle.std.specs.Option.{option_or}
+use Rattle.std.specs.Prelude.{ℕ, cond, List, [], ◌∷◌, ◌++◌, get_or, Option, Some, None, unwrap_or}
+use Rattle.std.specs.Borrow.{Bor}
+use Rattle.std.specs.List.{find}
+use Rattle.std.specs.Option.{option_map}
 use Prim.Native.String.{String}
-use Rattle.laws.specs.Bits.{zeros}
 use Rattle.ascii.specs.Decimal.{letters}
 use Rattle.ascii.specs.Same.{same}
 use Rattle.console_names.specs.declared.SetCommand.TheVariants.{Read, Streams, Stream, Once, Every, Version, Stages, Stage}
@@ -15,7 +16,7 @@ use Rattle.console_names.specs.declared.CheckCommand.TheVariants.{Open, Go, Resu
 use Rattle.console_names.specs.declared.Command.{Command}
 use Rattle.console_names.specs.declared.Command.TheVariants.{Unknown, Set, State, Ask, Replay, Record, Cable, Check}
 use Rattle.console_names.specs.declared.Text.{Text}
-use Rattle.console_names.specs.declared.Text.TheVariants.{Nothing, Hex, Steps}
+use Rattle.console_names.specs.declared.Text.TheVariants.{Hex, Steps}
 use Rattle.console_names.specs.declared.Row.{Row}
 
 -- no command has more numbers
@@ -34,36 +35,59 @@ most_bytes = 1024
 abbrev top : ℕ
 top = 4294967295
 
--- a command, what each of its numbers may at most be, and what stands behind them
-abbrev pub asks_with : Text → Command → List ℕ → Row
-asks_with t k ms = record { command = k; count = length ms; most = ms ++ zeros (most_numbers - length ms); text = t }
+-- a line of the program's table
+abbrev pub Entry : Type 0
+Entry = Bor (List ℕ) × Command × Bor (List ℕ) × Option Text
 
-abbrev asks : Command → List ℕ → Row
-asks k ms = asks_with Nothing k ms
+-- what a line has to give: a command, what each of its numbers may at most be, and what stands behind them, where anything does
+pub record Wanted : Type 0 where
+  pub command : Command
+  pub most : List ℕ
+  pub text : Option Text
+
+-- what a row of the program says
+abbrev pub wanted : Row → Wanted
+wanted r = record { command = r.command; most = r.most.now; text = r.text }
+
+abbrev pub asks_with : Option Text → Command → List ℕ → Wanted
+asks_with t k ms = record { command = k; most = ms; text = t }
+
+abbrev asks : Command → List ℕ → Wanted
+asks k ms = asks_with None k ms
 
 -- a row of the page: a name, and what it stands for; one with HEX behind its name, one with steps behind its number
-record Named : Type 0 where
-  name : String
-  stands : Row
+pub record Named : Type 0 where
+  pub name : List ℕ
+  pub stands : Wanted
 
 abbrev row : String → Command → List ℕ → Named
-row name k ms = record { name = name; stands = asks k ms }
+row name k ms = record { name = letters name; stands = asks k ms }
 
 abbrev hex_row : String → Command → Named
-hex_row name k = record { name = name; stands = asks_with Hex k [] }
+hex_row name k = record { name = letters name; stands = asks_with (Some Hex) k [] }
 
 abbrev steps_row : String → Command → ℕ → Named
-steps_row name k m = record { name = name; stands = asks_with Steps k (m ∷ []) }
+steps_row name k m = record { name = letters name; stands = asks_with (Some Steps) k (m ∷ []) }
+
+-- what a line of the program's table says
+abbrev pub row_in : Entry → Row
+row_in x = record { command = x.1; most = x.2; text = x.3 }
+
+-- the row that the program finds in its table
+unfoldable pub found_in : List ℕ → List Entry → Option Row
+found_in w xs = option_map row_in (find (λ x. same w x.0.now) xs)
+
+abbrev pub named : Entry → Named
+named x = record { name = x.0.now; stands = wanted (row_in x) }
 
 -- the row among these that w names
-abbrev among : List ℕ → List Named → Option Row
+abbrev pub among : List ℕ → List Named → Option Wanted
 among w [] = None
-among w (n ∷ ns) = cond (same w (letters n.name)) (Some n.stands) (among w ns)
+among w (n ∷ ns) = cond (same w n.name) (Some n.stands) (among w ns)
 
 -- **Set**; **CR 4**: "`version N` .. `stages I N` .. `stage I J TASK COST`: puts stage place J (0 to 3) of place I"
-unfoldable pub set_row : List ℕ → Option Row
-set_row w =
-    among w (
+abbrev set_rows : List Named
+set_rows =
     hex_row "read" (Set Read)
     ∷ row "streams" (Set Streams) (top ∷ [])
     ∷ row "stream" (Set Stream) (15 ∷ top ∷ top ∷ top ∷ top ∷ [])
@@ -73,12 +97,10 @@ set_row w =
     ∷ row "stages" (Set Stages) (15 ∷ top ∷ [])
     ∷ row "stage" (Set Stage) (15 ∷ 3 ∷ top ∷ top ∷ [])
     ∷ []
-    )
 
 -- **State**; **CR 4**: "`staged I N`"; **CR 6**: "`door I N`: puts the wait of stream place I (0 to 15)"
-unfoldable pub state_row : List ℕ → Option Row
-state_row w =
-    among w (
+abbrev state_rows : List Named
+state_rows =
     row "start" (State Start) []
     ∷ row "clock" (State Clock) (top ∷ [])
     ∷ row "pending" (State Pending) (top ∷ [])
@@ -89,24 +111,20 @@ state_row w =
     ∷ row "staged" (State Staged) (63 ∷ top ∷ [])
     ∷ row "door" (State Door) (15 ∷ top ∷ [])
     ∷ []
-    )
 
 -- **CR 8**: "`owner I P` (P 0 ours or 1 theirs, else `?`), `places A B`", "`owns I P`, `room A B`": "(I 0 to 15 for streams, .. P 0 or 1 ..), else `?`;
 -- every other number may be any"
-unfoldable pub party_row : List ℕ → Option Row
-party_row w =
-    among w (
+abbrev party_rows : List Named
+party_rows =
     row "owner" (State Owner) (15 ∷ 1 ∷ [])
     ∷ row "places" (State Places) (top ∷ top ∷ [])
     ∷ row "owns" (State Owns) (15 ∷ 1 ∷ [])
     ∷ row "room" (State Room) (top ∷ top ∷ [])
     ∷ []
-    )
 
 -- what only asks, of the set and of the state
-unfoldable pub question_row : List ℕ → Option Row
-question_row w =
-    among w (
+abbrev question_rows : List Named
+question_rows =
     row "write" (Ask ask.Write) (most_bytes ∷ [])
     ∷ row "valid" (Ask ask.Valid) []
     ∷ row "limit" (Ask ask.Limit) (top ∷ top ∷ [])
@@ -117,31 +135,29 @@ question_row w =
     ∷ row "state" (Ask ask.State) []
     ∷ row "formed" (Ask ask.Formed) []
     ∷ []
-    )
 
 -- **CR 1**
-unfoldable pub replay_row : List ℕ → Option Row
-replay_row w =
-    among w (
+abbrev replay_rows : List Named
+replay_rows =
     hex_row "recording" (Replay Recording)
     ∷ row "next" (Replay Next) []
     ∷ row "reader" (Replay Reader) (top ∷ top ∷ [])
     ∷ row "where" (Replay Where) []
     ∷ steps_row "record" Record most_bytes
     ∷ []
-    )
 
 -- **CR 5**
-unfoldable pub cable_row : List ℕ → Option Row
-cable_row w = among w (row "cable" (Cable NewCable) [] ∷ hex_row "feed" (Cable Feed) ∷ row "close" (Cable Close) [] ∷ [])
+abbrev cable_rows : List Named
+cable_rows = row "cable" (Cable NewCable) [] ∷ hex_row "feed" (Cable Feed) ∷ row "close" (Cable Close) [] ∷ []
 
 -- **CR 7**
-unfoldable pub check_row : List ℕ → Option Row
-check_row w = among w (row "open" (Check Open) [] ∷ row "go" (Check Go) (top ∷ []) ∷ row "resume" (Check Resume) (top ∷ []) ∷ [])
+abbrev check_rows : List Named
+check_rows = row "open" (Check Open) [] ∷ row "go" (Check Go) (top ∷ []) ∷ row "resume" (Check Resume) (top ∷ []) ∷ []
+
+-- every row of the page
+abbrev pub rows : List Named
+rows = set_rows ++ state_rows ++ party_rows ++ question_rows ++ replay_rows ++ cable_rows ++ check_rows
 
 -- "A line that is not one of those below .. prints `?`"
-unfoldable pub row_of : List ℕ → Row
-row_of w =
-    unwrap_or
-    (option_or (option_or (option_or (option_or (option_or (option_or (set_row w) (state_row w)) (party_row w)) (question_row w)) (replay_row w)) (cable_row w)) (check_row w))
-    (asks Unknown [])
+unfoldable pub row_of : List ℕ → Wanted
+row_of w = unwrap_or (among w rows) (asks Unknown [])

@@ -1,11 +1,8 @@
 // The console's commands by name, in groups, and what each asks for.
 #![tactic(auto)]
 
-ghost use Rattle.std.specs.Prelude.{◌≡◌, ◌≤◌, length, slice_set};
-ghost use Rattle.ascii.specs.Same.{same};
-ghost use Rattle.std.specs.List.{find};
-ghost use Rattle.std.specs.Option.{option_map};
-ghost use Rattle.console_names.specs.Rows.{asks_with, set_row, state_row, party_row, question_row, replay_row, cable_row, check_row, row_of};
+ghost use Rattle.std.specs.Prelude.{◌≡◌, slice_set};
+ghost use Rattle.console_names.specs.Rows.{wanted, found_in, row_of};
 
 use Command::{Ask, Cable, Check, Replay, Set, State};
 
@@ -96,10 +93,9 @@ pub enum Command {
     Check(CheckCommand),
 }
 
-// What stands behind a command's numbers.
+// What stands behind a command's numbers, where anything does.
 #[derive(Clone, Copy)]
 pub enum Text {
-    Nothing,
     Hex,
     // The steps of a trace.
     Steps,
@@ -108,14 +104,12 @@ pub enum Text {
 // No command has more numbers.
 pub const NUMBERS: usize = 5;
 
-// A command, how many numbers it has, what each may at most be, and what stands behind them.
-// kept: no heap, fixed memory: the count stands beside the array.
+// A command, what each of its numbers may at most be, and what stands behind them.
 #[derive(Clone, Copy)]
 pub struct Row {
     pub command: Command,
-    pub count: usize,
-    pub most: [u32; NUMBERS],
-    pub text: Text,
+    pub most: &'static [u32],
+    pub text: Option<Text>,
 }
 
 // The bytes of the longest buffer.
@@ -124,162 +118,88 @@ pub const MOST_BYTES: u32 = 1024;
 // The largest number.
 const TOP: u32 = 4294967295;
 
-// What a command asks for, where its numbers have these limits and this text stands behind them.
-fn asks_with(text: Text, command: Command, limits: &[u32]) -> Row
-    requires { length limits.now ≤ 5 }
-    ensures { result ≡ asks_with text command limits.now }
-{
-    let mut most = [0; NUMBERS];
-    most[..limits.len()].copy_from_slice(limits);
-    Row {
-        command,
-        count: limits.len(),
-        most,
-        text,
-    }
-}
-
-fn asks(command: Command, limits: &[u32]) -> Row
-    requires { length limits.now ≤ 5 }
-    ensures { result ≡ asks_with Text.Nothing command limits.now }
-{
-    asks_with(Text::Nothing, command, limits)
-}
+// The commands by name: those that change the set, those that change the state and what a start uses, those that ask, those of the
+// replay, of the service cable, and of a check in calls.
+static ROWS: [(&[u8], Command, &[u32], Option<Text>); 41] = [
+    (b"read", Set(SetCommand::Read), &[], Some(Text::Hex)),
+    (b"streams", Set(SetCommand::Streams), &[TOP], None),
+    (
+        b"stream",
+        Set(SetCommand::Stream),
+        &[15, TOP, TOP, TOP, TOP],
+        None,
+    ),
+    (b"once", Set(SetCommand::Once), &[15, 3, TOP], None),
+    (b"every", Set(SetCommand::Every), &[15, 3, TOP, TOP], None),
+    (b"version", Set(SetCommand::Version), &[TOP], None),
+    (b"stages", Set(SetCommand::Stages), &[15, TOP], None),
+    (b"stage", Set(SetCommand::Stage), &[15, 3, TOP, TOP], None),
+    (b"start", State(StateCommand::Start), &[], None),
+    (b"clock", State(StateCommand::Clock), &[TOP], None),
+    (b"pending", State(StateCommand::Pending), &[TOP], None),
+    (
+        b"message",
+        State(StateCommand::Message),
+        &[63, TOP, TOP, TOP],
+        None,
+    ),
+    (b"post", State(StateCommand::Post), &[TOP], None),
+    (b"unit", State(StateCommand::Unit), &[], None),
+    (b"done", State(StateCommand::Done), &[], None),
+    (b"staged", State(StateCommand::Staged), &[63, TOP], None),
+    (b"door", State(StateCommand::Door), &[15, TOP], None),
+    (b"owner", State(StateCommand::Owner), &[15, 1], None),
+    (b"places", State(StateCommand::Places), &[TOP, TOP], None),
+    (b"owns", State(StateCommand::Owns), &[15, 1], None),
+    (b"room", State(StateCommand::Room), &[TOP, TOP], None),
+    (b"write", Ask(Question::Write), &[MOST_BYTES], None),
+    (b"valid", Ask(Question::Valid), &[], None),
+    (b"limit", Ask(Question::Limit), &[TOP, TOP], None),
+    (b"demand", Ask(Question::Demand), &[TOP], None),
+    (b"jitter", Ask(Question::Jitter), &[TOP, TOP], None),
+    (b"verdict", Ask(Question::Verdict), &[], None),
+    (b"choose", Ask(Question::Choose), &[], None),
+    (b"state", Ask(Question::State), &[], None),
+    (b"formed", Ask(Question::Formed), &[], None),
+    (
+        b"recording",
+        Replay(ReplayCommand::Recording),
+        &[],
+        Some(Text::Hex),
+    ),
+    (b"next", Replay(ReplayCommand::Next), &[], None),
+    (b"reader", Replay(ReplayCommand::Reader), &[TOP, TOP], None),
+    (b"where", Replay(ReplayCommand::Where), &[], None),
+    (b"record", Command::Record, &[MOST_BYTES], Some(Text::Steps)),
+    (b"cable", Cable(CableCommand::Cable), &[], None),
+    (b"feed", Cable(CableCommand::Feed), &[], Some(Text::Hex)),
+    (b"close", Cable(CableCommand::Close), &[], None),
+    (b"open", Check(CheckCommand::Open), &[], None),
+    (b"go", Check(CheckCommand::Go), &[TOP], None),
+    (b"resume", Check(CheckCommand::Resume), &[TOP], None),
+];
 
 // The row among these that w names.
-fn found(w: &[u8], rows: &[(&[u8], Row)]) -> Option<Row>
-    ensures { result ≡ option_map (λ n. n.1) (find (λ n. same w.now n.0.now) rows.now) }
+#[tactic(auto, unfolding(crate::specs::Rows::found_in))]
+fn found(w: &[u8], rows: &[(&[u8], Command, &'static [u32], Option<Text>)]) -> Option<Row>
+    ensures { result ≡ found_in w.now rows.now }
 {
-    rows.iter()
-        .find(|(name, _)| ascii::same(w, name))
-        .map(|(_, row)| *row)
-}
-
-fn set_row(w: &[u8]) -> Option<Row>
-    ensures { result ≡ set_row w.now }
-{
-    let rows: [(&[u8], Row); 8] = [
-        (b"read", asks_with(Text::Hex, Set(SetCommand::Read), &[])),
-        (b"streams", asks(Set(SetCommand::Streams), &[TOP])),
-        (
-            b"stream",
-            asks(Set(SetCommand::Stream), &[15, TOP, TOP, TOP, TOP]),
-        ),
-        (b"once", asks(Set(SetCommand::Once), &[15, 3, TOP])),
-        (b"every", asks(Set(SetCommand::Every), &[15, 3, TOP, TOP])),
-        (b"version", asks(Set(SetCommand::Version), &[TOP])),
-        (b"stages", asks(Set(SetCommand::Stages), &[15, TOP])),
-        (b"stage", asks(Set(SetCommand::Stage), &[15, 3, TOP, TOP])),
-    ];
-    found(w, &rows)
-}
-
-fn state_row(w: &[u8]) -> Option<Row>
-    ensures { result ≡ state_row w.now }
-{
-    let rows: [(&[u8], Row); 9] = [
-        (b"start", asks(State(StateCommand::Start), &[])),
-        (b"clock", asks(State(StateCommand::Clock), &[TOP])),
-        (b"pending", asks(State(StateCommand::Pending), &[TOP])),
-        (
-            b"message",
-            asks(State(StateCommand::Message), &[63, TOP, TOP, TOP]),
-        ),
-        (b"post", asks(State(StateCommand::Post), &[TOP])),
-        (b"unit", asks(State(StateCommand::Unit), &[])),
-        (b"done", asks(State(StateCommand::Done), &[])),
-        (b"staged", asks(State(StateCommand::Staged), &[63, TOP])),
-        (b"door", asks(State(StateCommand::Door), &[15, TOP])),
-    ];
-    found(w, &rows)
-}
-
-// Of the commands that change the state, and what a start uses, those of the two parties.
-fn party_row(w: &[u8]) -> Option<Row>
-    ensures { result ≡ party_row w.now }
-{
-    let rows: [(&[u8], Row); 4] = [
-        (b"owner", asks(State(StateCommand::Owner), &[15, 1])),
-        (b"places", asks(State(StateCommand::Places), &[TOP, TOP])),
-        (b"owns", asks(State(StateCommand::Owns), &[15, 1])),
-        (b"room", asks(State(StateCommand::Room), &[TOP, TOP])),
-    ];
-    found(w, &rows)
-}
-
-fn question_row(w: &[u8]) -> Option<Row>
-    ensures { result ≡ question_row w.now }
-{
-    let rows: [(&[u8], Row); 9] = [
-        (b"write", asks(Ask(Question::Write), &[MOST_BYTES])),
-        (b"valid", asks(Ask(Question::Valid), &[])),
-        (b"limit", asks(Ask(Question::Limit), &[TOP, TOP])),
-        (b"demand", asks(Ask(Question::Demand), &[TOP])),
-        (b"jitter", asks(Ask(Question::Jitter), &[TOP, TOP])),
-        (b"verdict", asks(Ask(Question::Verdict), &[])),
-        (b"choose", asks(Ask(Question::Choose), &[])),
-        (b"state", asks(Ask(Question::State), &[])),
-        (b"formed", asks(Ask(Question::Formed), &[])),
-    ];
-    found(w, &rows)
-}
-
-fn replay_row(w: &[u8]) -> Option<Row>
-    ensures { result ≡ replay_row w.now }
-{
-    let rows: [(&[u8], Row); 5] = [
-        (
-            b"recording",
-            asks_with(Text::Hex, Replay(ReplayCommand::Recording), &[]),
-        ),
-        (b"next", asks(Replay(ReplayCommand::Next), &[])),
-        (b"reader", asks(Replay(ReplayCommand::Reader), &[TOP, TOP])),
-        (b"where", asks(Replay(ReplayCommand::Where), &[])),
-        (
-            b"record",
-            asks_with(Text::Steps, Command::Record, &[MOST_BYTES]),
-        ),
-    ];
-    found(w, &rows)
-}
-
-fn cable_row(w: &[u8]) -> Option<Row>
-    ensures { result ≡ cable_row w.now }
-{
-    let rows: [(&[u8], Row); 3] = [
-        (b"cable", asks(Cable(CableCommand::Cable), &[])),
-        (
-            b"feed",
-            asks_with(Text::Hex, Cable(CableCommand::Feed), &[]),
-        ),
-        (b"close", asks(Cable(CableCommand::Close), &[])),
-    ];
-    found(w, &rows)
-}
-
-fn check_row(w: &[u8]) -> Option<Row>
-    ensures { result ≡ check_row w.now }
-{
-    let rows: [(&[u8], Row); 3] = [
-        (b"open", asks(Check(CheckCommand::Open), &[])),
-        (b"go", asks(Check(CheckCommand::Go), &[TOP])),
-        (b"resume", asks(Check(CheckCommand::Resume), &[TOP])),
-    ];
-    found(w, &rows)
+    rows.iter().find(|(name, ..)| ascii::same(w, name)).map(|(_, command, most, text)| Row {
+        command: *command,
+        most: *most,
+        text: *text,
+    })
 }
 
 // The row of the command that has this name.
 pub fn row_of(w: &[u8]) -> Row
-    ensures { result ≡ row_of w.now }
+    ensures { wanted result ≡ row_of w.now }
 {
-    set_row(w)
-        .or_else(|| state_row(w))
-        .or_else(|| party_row(w))
-        .or_else(|| question_row(w))
-        .or_else(|| replay_row(w))
-        .or_else(|| cable_row(w))
-        .or_else(|| check_row(w))
-        .unwrap_or(asks(Command::Unknown, &[]))
+    found(w, &ROWS).unwrap_or(Row {
+        command: Command::Unknown,
+        most: &[],
+        text: None,
+    })
 }
 
 // ---- what commands put

@@ -182,6 +182,12 @@ module _ (d : Desk) (ns text out : List ℕ) (at : ℕ) where
   pub by_command : (k c : Command) (r : Step) (page : List ℕ) → k ≡ c → Stepped d c ns text out at r page → Stepped d k ns text out at r page
   by_command k c r page e t = rw e t
 
+  -- what a command leaves, where the line that it prints was put on the page
+  pub put_step : (k c : Command) (e : Desk) (l : Line) (r : Step) (page : List ℕ) → k ≡ c
+      → ((end : ℕ) → (end ≡ end_of out at l) × (page ≡ appended out at l) → Stepped d c ns text out at (record { desk = e; at = end }) page)
+      → (r ≡ record { desk = e; at = end_of out at l }) × (page ≡ appended out at l) → Stepped d k ns text out at r page
+  put_step k c e l r page h f g = rw (h, g.0) (f (end_of out at l) (refl, g.1))
+
 -- ---- a line
 
 module _ (d : Desk) (line out : List ℕ) (at : ℕ) where

@@ -4,16 +4,15 @@
 
 ghost use Rattle.std.specs.Prelude.{◌≡◌, true, ◌≤◌, length};
 ghost use Rattle.ascii.specs.Hex.{unhexed};
-ghost use Rattle.page.specs.Pages.{room_for};
+ghost use Rattle.page.specs.Pages.{appended, end_of, room_for};
 ghost use Rattle.console_parse.specs.Lines.{longest};
 ghost use Rattle.console_ask.specs.Questions.{answer_room};
 ghost use Rattle.console_obey.specs.Obeyed.{first_desk, Stepped, Obeys};
 
-use console_names::{
-    CableCommand, CheckCommand, Command, NUMBERS, Question, ReplayCommand, SetCommand, StateCommand,
-};
+use console_names::{Command, NUMBERS};
 use console_replay::Replay;
 use console_state::Terms;
+use line::Line;
 use rules::{Position, Set, State};
 use sheet_carried::Carried;
 
@@ -50,143 +49,17 @@ pub fn first() -> Desk
     }
 }
 
-// ---- a command of each group; `bytes` are those that stand in hex in its text
-
-fn unknown_step(d: Desk, n: [u32; NUMBERS], text: &[u8], out: &mut [u8], at: usize) -> Step
-    ensures { Stepped d Command.Unknown n text.now out.old at result out.new }
-{
-    let end = page::append(out, at, console_words::unknown_line());
-    Step { desk: d, at: end }
-}
-
-fn set_step(
-    d: Desk,
-    k: SetCommand,
-    n: [u32; NUMBERS],
-    text: &[u8],
-    bytes: &[u8],
-    out: &mut [u8],
-    at: usize,
-) -> Step
-    requires { bytes.now ≡ unhexed text.now }
-    ensures { Stepped d (Command.Set k) n text.now out.old at result out.new }
-{
-    let a = console_set::after(d.set, k, n, bytes);
-    let end = page::append(out, at, a.line);
-    Step {
-        desk: Desk { set: a.set, ..d },
-        at: end,
-    }
-}
-
-fn state_step(
-    d: Desk,
-    k: StateCommand,
-    n: [u32; NUMBERS],
-    text: &[u8],
-    out: &mut [u8],
-    at: usize,
-) -> Step
-    ensures { Stepped d (Command.State k) n text.now out.old at result out.new }
-{
-    let a = console_state::after(d.set, d.state, d.terms, k, n);
-    let end = page::append(out, at, a.line);
-    let desk = Desk {
-        state: a.state,
-        terms: a.terms,
-        ..d
-    };
-    Step { desk, at: end }
-}
-
-fn question_step(
-    d: Desk,
-    q: Question,
-    n: [u32; NUMBERS],
-    text: &[u8],
-    out: &mut [u8],
-    at: usize,
-) -> Step
-    requires { room_for out.old at answer_room ≡ true }
-    ensures { Stepped d (Command.Ask q) n text.now out.old at result out.new }
-{
-    let end = console_ask::ask(d.set, d.state, q, n, out, at);
-    Step { desk: d, at: end }
-}
-
-fn replayed_step(
-    d: Desk,
-    k: ReplayCommand,
-    n: [u32; NUMBERS],
-    text: &[u8],
-    bytes: &[u8],
-    out: &mut [u8],
-    at: usize,
-) -> Step
-    requires { bytes.now ≡ unhexed text.now }
-    ensures { Stepped d (Command.Replay k) n text.now out.old at result out.new }
-{
-    let r = console_replay::after(d.replay, d.state, k, n, bytes);
-    let end = page::append(out, at, r.line);
-    let desk = Desk {
-        state: r.state,
-        replay: r.replay,
-        ..d
-    };
-    Step { desk, at: end }
-}
-
-fn record_step(d: Desk, n: [u32; NUMBERS], text: &[u8], out: &mut [u8], at: usize) -> Step
-    requires { room_for out.old at answer_room ≡ true }
-    ensures { Stepped d Command.Record n text.now out.old at result out.new }
-{
-    let end = console_replay::record_onto(n[0], text, out, at);
-    Step { desk: d, at: end }
-}
-
-fn cable_step(
-    d: Desk,
-    k: CableCommand,
-    n: [u32; NUMBERS],
-    text: &[u8],
-    bytes: &[u8],
-    out: &mut [u8],
-    at: usize,
-) -> Step
-    requires { bytes.now ≡ unhexed text.now }
-    ensures { Stepped d (Command.Cable k) n text.now out.old at result out.new }
-{
-    let a = console_cable::after(d.carried, d.set, k, bytes);
-    let end = page::append(out, at, a.line);
-    let desk = Desk {
-        set: a.set,
-        carried: a.carried,
-        ..d
-    };
-    Step { desk, at: end }
-}
-
-fn check_step(
-    d: Desk,
-    k: CheckCommand,
-    n: [u32; NUMBERS],
-    text: &[u8],
-    out: &mut [u8],
-    at: usize,
-) -> Step
-    ensures { Stepped d (Command.Check k) n text.now out.old at result out.new }
-{
-    let a = console_check::after(d.set, d.position, k, n);
-    let end = page::append(out, at, a.line);
-    let desk = Desk {
-        position: a.position,
-        ..d
-    };
-    Step { desk, at: end }
-}
-
 // ---- every command
 
+// What a command leaves, and the line that it prints put on the page.
+fn put(desk: Desk, line: Line, out: &mut [u8], at: usize) -> Step
+    ensures { (result ≡ record { desk = desk; at = end_of out.old at line }) × (out.new ≡ appended out.old at line) }
+{
+    let end = page::append(out, at, line);
+    Step { desk, at: end }
+}
+
+// `bytes` are those that stand in hex in the command's text.
 fn command_step(
     d: Desk,
     k: Command,
@@ -201,14 +74,54 @@ fn command_step(
 {
     match k {
         Command::Nothing => Step { desk: d, at },
-        Command::Unknown => unknown_step(d, n, text, out, at),
-        Command::Set(c) => set_step(d, c, n, text, bytes, out, at),
-        Command::State(c) => state_step(d, c, n, text, out, at),
-        Command::Ask(q) => question_step(d, q, n, text, out, at),
-        Command::Replay(c) => replayed_step(d, c, n, text, bytes, out, at),
-        Command::Record => record_step(d, n, text, out, at),
-        Command::Cable(c) => cable_step(d, c, n, text, bytes, out, at),
-        Command::Check(c) => check_step(d, c, n, text, out, at),
+        Command::Unknown => put(d, console_words::unknown_line(), out, at),
+        Command::Set(c) => {
+            let a = console_set::after(d.set, c, n, bytes);
+            put(Desk { set: a.set, ..d }, a.line, out, at)
+        }
+        Command::State(c) => {
+            let a = console_state::after(d.set, d.state, d.terms, c, n);
+            let desk = Desk {
+                state: a.state,
+                terms: a.terms,
+                ..d
+            };
+            put(desk, a.line, out, at)
+        }
+        Command::Ask(q) => {
+            let end = console_ask::ask(d.set, d.state, q, n, out, at);
+            Step { desk: d, at: end }
+        }
+        Command::Replay(c) => {
+            let r = console_replay::after(d.replay, d.state, c, n, bytes);
+            let desk = Desk {
+                state: r.state,
+                replay: r.replay,
+                ..d
+            };
+            put(desk, r.line, out, at)
+        }
+        Command::Record => {
+            let end = console_replay::record_onto(n[0], text, out, at);
+            Step { desk: d, at: end }
+        }
+        Command::Cable(c) => {
+            let a = console_cable::after(d.carried, d.set, c, bytes);
+            let desk = Desk {
+                set: a.set,
+                carried: a.carried,
+                ..d
+            };
+            put(desk, a.line, out, at)
+        }
+        Command::Check(c) => {
+            let a = console_check::after(d.set, d.position, c, n);
+            let desk = Desk {
+                position: a.position,
+                ..d
+            };
+            put(desk, a.line, out, at)
+        }
     }
 }
 

@@ -14,7 +14,7 @@ use borrow.Author.Tests.{ltb-true, ltb-false}
 use Rattle.laws.proofs.Sums.{by_test}
 use Rattle.laws.specs.Bits.{zeros}
 use Rattle.ascii.specs.Decimal.{read_on}
-use Rattle.console_names.specs.declared.Row.{Row}
+use Rattle.console_names.specs.Rows.{most_numbers, Wanted}
 use Rattle.console_names.specs.declared.Command.{Command}
 use Rattle.console_names.specs.declared.Command.TheVariants.{Unknown}
 use Rattle.console_names.specs.declared.Text.{Text}
@@ -43,11 +43,11 @@ module _ (o : Option (ℕ × Bor (List ℕ))) (p : Option (ℕ × List ℕ)) whe
   untaken e f = sym f ∙ ap (option_map (λ q. (q.0, q.1.now))) e
 
 -- as many are read as there are, or as there are places for
-pub all_read : (most : List ℕ) (count k e : ℕ) → length most ≡ 5 → e ≡ min count 5 → e ≤ k → (count ≤ k) ⊎ (length most ≤ k)
-all_read most count k e h f g =
-    by_test (ltb 5 count)
-    (λ p. inr (omega (arith, ltb-true 5 count p)))
-    (λ p. inl (omega (arith, ltb-false 5 count p)))
+pub all_read : (most : List ℕ) (count k e : ℕ) → e ≡ min (length most) count → e ≤ k → (count ≤ k) ⊎ (length most ≤ k)
+all_read most count k e f g =
+    by_test (ltb count (length most))
+    (λ p. inl (omega (arith, ltb-true count (length most) p)))
+    (λ p. inr (omega (arith, ltb-false count (length most) p)))
 
 -- no number is to come behind the last
 pub none_left : (most : List ℕ) (count k : ℕ) → (count ≤ k) ⊎ (length most ≤ k) → drop k (take count most) ≡ []
@@ -60,7 +60,7 @@ one_left most count k h g =
     rw (drop-cons (take count most) k 0 inside, get_or-take count most k 0 h, add-one k)
 
 -- a number that was found goes to its place; where none was found the line is no command
-module _ (size : ℕ) (command : Command) (t : Text) (m k : ℕ) (ms ns : List ℕ) where
+module _ (size : ℕ) (command : Command) (t : Option Text) (m k : ℕ) (ms ns : List ℕ) where
   pub found : (d : List ℕ) (n : ℕ) (l : List ℕ) → next_of m d ≡ some_pair n l
       → filled size command t k (m ∷ ms) d ns ≡ filled size command t (k + 1) ms l (set ns k n)
   unfolding next_of filled
@@ -86,7 +86,7 @@ module _ (size : ℕ) (command : Command) (t : Text) (m k : ℕ) (ms ns : List �
       go false v y = refl
 
 -- a turn of the loop over the numbers
-module _ (size : ℕ) (command : Command) (t : Text) (rest most ns : List ℕ) (count k : ℕ) (o : Order)
+module _ (size : ℕ) (command : Command) (t : Option Text) (rest most ns : List ℕ) (count k : ℕ) (o : Order)
     (y : filled size command t k (drop k (take count most)) rest ns ≡ o) where
   pub turn : (n : ℕ) (l : List ℕ) → k < count → k < length most → next_of (get_or most k 0) rest ≡ some_pair n l
       → filled size command t (k + 1) (drop (k + 1) (take count most)) l (set ns k n) ≡ o
@@ -111,7 +111,7 @@ module _ (size : ℕ) (command : Command) (t : Text) (rest most ns : List ℕ) (
     ends_not r g e = e ∙ sym (ap (λ (u : Bool). cond u (record { command = command; numbers = ns; text = text_start size rest }) (order_at Unknown [] size)) (sym f ∙ g)) ∙ (rw (none_left most count k h) at y)
 
 -- all the numbers filled in, behind those of pre, make the command
-fill_all : (size : ℕ) (command : Command) (t : Text) (ms l pre : List ℕ) (n : ℕ) → length ms ≤ n
+fill_all : (size : ℕ) (command : Command) (t : Option Text) (ms l pre : List ℕ) (n : ℕ) → length ms ≤ n
     → filled size command t (length pre) ms l (pre ++ zeros n)
     ≡ cond (numbers_ok t ms l)
     (record { command = command; numbers = pre ++ (values_of ms l ++ zeros (n - length (values_of ms l))); text = text_start size (rest_of ms l) })
@@ -133,7 +133,6 @@ fill_all size command t (m ∷ ms) (b ∷ l) pre (suc n) h =
     both true false k x y = refl
     both false v k x y = refl
 
-pub filled_asked : (size : ℕ) (r : Row) (l : List ℕ) → length r.most ≡ 5
-    → filled size r.command r.text 0 (take r.count r.most) l (zeros 5) ≡ asked size r l
+pub filled_asked : (size : ℕ) (r : Wanted) (l : List ℕ) → filled size r.command r.text 0 (take most_numbers r.most) l (zeros most_numbers) ≡ asked size r l
 unfolding asked
-filled_asked size r l h = fill_all size r.command r.text (take r.count r.most) l [] 5 (omega (arith, length-take r.count r.most))
+filled_asked size r l = fill_all size r.command r.text (take most_numbers r.most) l [] most_numbers (omega (arith, length-take most_numbers r.most))

@@ -49,7 +49,7 @@ not_false true h = refl
 not_false false h = cc
 
 -- the text behind the numbers
-module _ (t : Text) (l m : List ℕ) (b : ℕ) (e : l ≡ b ∷ m) where
+module _ (t : Option Text) (l m : List ℕ) (b : ℕ) (e : l ≡ b ∷ m) where
   pub text_some : (r : Bool) → eqb b 32 ≡ true → eqb (length m) 0 ≡ false → r ≡ is_text t m → r ≡ text_ok t l
   unfolding text_ok
   text_some r h g f =
@@ -72,7 +72,7 @@ module _ (t : Text) (l m : List ℕ) (b : ℕ) (e : l ≡ b ∷ m) where
       and_false true = refl
       and_false false = refl
 
-pub text_none : (t : Text) (l : List ℕ) → length l ≡ 0 → true ≡ text_ok t l
+pub text_none : (t : Option Text) (l : List ℕ) → length l ≡ 0 → true ≡ text_ok t l
 unfolding text_ok
 text_none t [] h = refl
 text_none t (b ∷ l) h = cc

@@ -9,8 +9,7 @@ use lib.Dec.{eqb, ltb}
 use borrow.Author.Tests.{eq-eqb, ne_eqb, lt-ltb, le-ltb, eqb-true, ltb-false}
 use Rattle.laws.proofs.Sums.{by_test}
 use Rattle.console_names.specs.declared.Command.TheVariants.{Nothing, Unknown}
-use Rattle.console_names.specs.declared.Row.{Row}
-use Rattle.console_names.specs.Rows.{row_of}
+use Rattle.console_names.specs.Rows.{most_numbers, Wanted, row_of}
 use Rattle.console_parse.specs.declared.Order.{Order}
 use Rattle.console_parse.specs.Bytes.{front, behind}
 use Rattle.console_parse.specs.Lines.{numbers_ok, order_at, asked, longest, order_of}
@@ -25,7 +24,7 @@ module _ (l : List ℕ) where
   unfolding order_of
   long r z h e = rw (ne_eqb (length l) 0 z, lt-ltb longest (length l) h) e
 
-  pub named : (e : ℕ) → e ≡ length (front l) → (name left : List ℕ) → name ≡ take e l → left ≡ drop e l → (r : Order) (a : Row) → (length l ≡ 0 → ⊥) → length l ≤ longest
+  pub named : (e : ℕ) → e ≡ length (front l) → (name left : List ℕ) → name ≡ take e l → left ≡ drop e l → (r : Order) (a : Wanted) → (length l ≡ 0 → ⊥) → length l ≤ longest
       → a ≡ row_of name → r ≡ asked (length l) a left → r ≡ order_of l
   unfolding order_of
   named e h name left n m r a z g x y =
@@ -43,9 +42,9 @@ text_short l =
     (λ f. rw (e, f) (omega (arith, ltb-false longest (length l) f))))
 
 -- a text starts within its line
-asked_in : (size : ℕ) (r : Row) (l : List ℕ) → (asked size r l).text ≤ size
+asked_in : (size : ℕ) (r : Wanted) (l : List ℕ) → (asked size r l).text ≤ size
 unfolding asked
-asked_in size r l = by_test (numbers_ok r.text (take r.count r.most) l) (λ e. rw e (omega arith)) (λ e. rw e (omega arith))
+asked_in size r l = by_test (numbers_ok r.text (take most_numbers r.most) l) (λ e. rw e (omega arith)) (λ e. rw e (omega arith))
 
 pub text_in : (l : List ℕ) → (order_of l).text ≤ length l
 unfolding order_of

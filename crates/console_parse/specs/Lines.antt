@@ -1,32 +1,31 @@
 -- The console's page: what a line asks for.
 -- Assumes nothing.
-use Rattle.std.specs.Prelude.{ℕ, ◌-◌, Bool, true, false, cond, ◌&&◌, List, [], ◌∷◌, ◌++◌, length, take, ltb, eqb}
+use Rattle.std.specs.Prelude.{ℕ, ◌-◌, Bool, true, false, cond, ◌&&◌, List, [], ◌∷◌, ◌++◌, length, take, ltb, eqb, Option, Some, None}
 use Prim.Native.Char.{code}
 use Rattle.laws.specs.Bits.{zeros}
 use Rattle.ascii.specs.Decimal.{read_on}
 use Rattle.console_names.specs.declared.Command.{Command}
 use Rattle.console_names.specs.declared.Command.TheVariants.{Nothing, Unknown}
 use Rattle.console_names.specs.declared.Text.{Text}
-use Rattle.console_names.specs.declared.Text.TheVariants.{Nothing as NoText, Hex, Steps}
-use Rattle.console_names.specs.declared.Row.{Row}
-use Rattle.console_names.specs.Rows.{most_numbers, row_of}
+use Rattle.console_names.specs.declared.Text.TheVariants.{Hex, Steps}
+use Rattle.console_names.specs.Rows.{most_numbers, Wanted, row_of}
 use Rattle.console_parse.specs.declared.Order.{Order}
 use Rattle.console_parse.specs.Bytes.{front, behind, is_number, is_hex_text, is_steps}
 
 -- what the text of a command is; some have none
-abbrev pub is_text : Text → List ℕ → Bool
-is_text NoText l = false
-is_text Hex l = is_hex_text l
-is_text Steps l = is_steps l
+abbrev pub is_text : Option Text → List ℕ → Bool
+is_text None l = false
+is_text (Some Hex) l = is_hex_text l
+is_text (Some Steps) l = is_steps l
 
 -- behind the numbers stands the text that the command asks for, behind its space. "an empty HEX leaves its space out as well (`read`)";
 -- "TRACE .. or is left out with its space"
-unfoldable pub text_ok : Text → List ℕ → Bool
+unfoldable pub text_ok : Option Text → List ℕ → Bool
 text_ok t [] = true
 text_ok t (b ∷ l) = eqb b (code " ") && (ltb 0 (length l) && is_text t l)
 
 -- "words with one space between them": each number behind its space, and the text behind the last
-unfoldable pub numbers_ok : Text → List ℕ → List ℕ → Bool
+unfoldable pub numbers_ok : Option Text → List ℕ → List ℕ → Bool
 numbers_ok t [] l = text_ok t l
 numbers_ok t (m ∷ ms) [] = false
 numbers_ok t (m ∷ ms) (b ∷ l) = eqb b (code " ") && (is_number m (front l) && numbers_ok t ms (behind l))
@@ -50,10 +49,10 @@ abbrev pub order_at : Command → List ℕ → ℕ → Order
 order_at k ns text = record { command = k; numbers = ns ++ zeros (most_numbers - length ns); text = text }
 
 -- a command with its numbers and its text, where these are what the row asks for
-unfoldable pub asked : ℕ → Row → List ℕ → Order
+unfoldable pub asked : ℕ → Wanted → List ℕ → Order
 asked size r l =
-    cond (numbers_ok r.text (take r.count r.most) l)
-    (order_at r.command (values_of (take r.count r.most) l) (text_start size (rest_of (take r.count r.most) l)))
+    cond (numbers_ok r.text (take most_numbers r.most) l)
+    (order_at r.command (values_of (take most_numbers r.most) l) (text_start size (rest_of (take most_numbers r.most) l)))
     (order_at Unknown [] size)
 
 abbrev pub longest : ℕ

@@ -30,7 +30,7 @@ steps_from waiting (b ∷ l) = step_byte waiting b && steps_from (not waiting &&
 
 -- the order of a line of this size, where numbers with these limits are still to come, the next for place k, and what was read stands in
 -- ns
-unfoldable pub filled : ℕ → Command → Text → ℕ → List ℕ → List ℕ → List ℕ → Order
+unfoldable pub filled : ℕ → Command → Option Text → ℕ → List ℕ → List ℕ → List ℕ → Order
 filled size command t k [] l ns =
     cond (text_ok t l) (record { command = command; numbers = ns; text = text_start size l }) (order_at Unknown [] size)
 filled size command t k (m ∷ ms) [] ns = order_at Unknown [] size

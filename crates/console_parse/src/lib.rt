@@ -5,6 +5,7 @@ ghost use Rattle.std.specs.Prelude.{◌≡◌, ◌∷◌, [], ◌==◌, length};
 ghost use Rattle.std.specs.List.{list_all, position};
 ghost use Rattle.std.specs.Option.{option_map};
 ghost use Rattle.ascii.specs.Hex.{is_hex};
+ghost use Rattle.console_names.specs.Rows.{wanted};
 ghost use Rattle.console_parse.specs.Bytes.{front, is_hex_text, is_steps};
 ghost use Rattle.console_parse.specs.Scan.{number_of, next_of, step_byte};
 ghost use Rattle.console_parse.specs.Lines.{asked, is_text, text_ok, order_of, order_at};
@@ -87,11 +88,11 @@ fn bare(command: Command, size: usize) -> Order
 
 // The numbers that a row asks for, in what stands behind the command's name in a line of this length.
 fn numbers(size: usize, behind: &[u8], r: Row) -> Order
-    ensures { result ≡ asked size r behind.now }
+    ensures { result ≡ asked size (wanted r) behind.now }
 {
     let mut numbers = [0; NUMBERS];
     let mut rest = behind;
-    for k in 0..r.count.min(NUMBERS) {
+    for k in 0..r.most.len().min(NUMBERS) {
         let Some((n, left)) = next_number(rest, r.most[k]) else {
             return bare(Command::Unknown, size);
         };
@@ -111,7 +112,7 @@ fn numbers(size: usize, behind: &[u8], r: Row) -> Order
 }
 
 // The text behind the numbers, behind its space; an empty one leaves its space out as well.
-fn text_behind(rest: &[u8], text: Text) -> bool
+fn text_behind(rest: &[u8], text: Option<Text>) -> bool
     ensures { result ≡ text_ok text rest.now }
 {
     match rest.split_first() {
@@ -120,13 +121,13 @@ fn text_behind(rest: &[u8], text: Text) -> bool
     }
 }
 
-fn is_text(w: &[u8], text: Text) -> bool
+fn is_text(w: &[u8], text: Option<Text>) -> bool
     ensures { result ≡ is_text text w.now }
 {
     match text {
-        Text::Nothing => false,
-        Text::Hex => is_hex_text(w),
-        Text::Steps => is_steps(w),
+        None => false,
+        Some(Text::Hex) => is_hex_text(w),
+        Some(Text::Steps) => is_steps(w),
     }
 }
 

@@ -22,7 +22,7 @@ const MOST_BYTES: usize = console_names::MOST_BYTES as usize;
 const RECORD_ROOM: usize = line::ROOM + (2 * MOST_BYTES + 1);
 
 // What the console holds of a replay: the recording, in the first len of its bytes, and the reader's place.
-// kept: no heap, fixed memory
+// kept: no heap, fixed memory: the desk that holds it is copied, and handed on by value.
 #[derive(Clone, Copy)]
 pub struct Replay {
     pub bytes: [u8; MOST_BYTES],

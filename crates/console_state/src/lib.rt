@@ -1,11 +1,11 @@
 // The console's commands that change the state, or what a start uses: what each leaves of them, and what it prints.
 #![tactic(auto)]
 
-ghost use Rattle.std.specs.Prelude.{◌≡◌};
+ghost use Rattle.std.specs.Prelude.{◌≡◌, set};
 ghost use Rattle.ascii.specs.Decimal.{letters};
 ghost use Rattle.line.specs.Line.{holding};
 ghost use Rattle.answer_words.specs.Words.{line_of};
-ghost use Rattle.console_state.specs.StateCommands.{clock_put, pending_put, message_put, staged_put, door_put, owner_of, owns_put, room_put, owner_put, places_put, first_terms, started, posted, ran, state_after, terms_after, state_line};
+ghost use Rattle.console_state.specs.StateCommands.{clock_put, pending_put, message_put, staged_put, door_put, owner_of, first_terms, started, posted, ran, state_after, terms_after, state_line};
 
 use console_names::{NUMBERS, StateCommand};
 use line::Line;
@@ -85,46 +85,22 @@ fn put_door(s: State, i: usize, n: u32) -> State
     next
 }
 
-// ---- whose the streams are, and the parties' places: in the state, and in what a start uses
+// ---- whose the streams are
 
+// kept: the new form is no plainer, for a From of another crate's type cannot stand here.
 fn owner_of(n: u32) -> Party
     ensures { result ≡ owner_of n }
 {
     if n == 0 { Party::Ours } else { Party::Theirs }
 }
 
-fn put_owns(s: State, i: usize, n: u32) -> State
-    ensures { result ≡ owns_put s i n }
+// The owners with this party in place i.
+fn put_owner(owners: [Party; 16], i: usize, n: u32) -> [Party; 16]
+    ensures { result ≡ set owners i (owner_of n) }
 {
-    let mut next = s;
-    console_names::place(&mut next.owners, i, owner_of(n));
+    let mut next = owners;
+    console_names::place(&mut next, i, owner_of(n));
     next
-}
-
-fn put_room(s: State, ours: u32, theirs: u32) -> State
-    ensures { result ≡ room_put s ours theirs }
-{
-    State {
-        places: Places { ours, theirs },
-        ..s
-    }
-}
-
-fn put_owner(t: Terms, i: usize, n: u32) -> Terms
-    ensures { result ≡ owner_put t i n }
-{
-    let mut next = t;
-    console_names::place(&mut next.owners, i, owner_of(n));
-    next
-}
-
-fn put_places(t: Terms, ours: u32, theirs: u32) -> Terms
-    ensures { result ≡ places_put t ours theirs }
-{
-    Terms {
-        places: Places { ours, theirs },
-        ..t
-    }
 }
 
 // ---- every command
@@ -182,6 +158,10 @@ pub fn after(x: Set, s: State, t: Terms, k: StateCommand, n: [u32; NUMBERS]) -> 
 {
     let i = n[0] as usize;
     let j = n[1] as usize;
+    let places = Places {
+        ours: n[0],
+        theirs: n[1],
+    };
     match k {
         StateCommand::Start => start(x, t),
         StateCommand::Clock => put(put_clock(s, n[0]), t),
@@ -192,9 +172,15 @@ pub fn after(x: Set, s: State, t: Terms, k: StateCommand, n: [u32; NUMBERS]) -> 
         StateCommand::Done => unit(s, t, true),
         StateCommand::Staged => put(put_staged(s, i, j), t),
         StateCommand::Door => put(put_door(s, i, n[1]), t),
-        StateCommand::Owner => put(s, put_owner(t, i, n[1])),
-        StateCommand::Places => put(s, put_places(t, n[0], n[1])),
-        StateCommand::Owns => put(put_owns(s, i, n[1]), t),
-        StateCommand::Room => put(put_room(s, n[0], n[1]), t),
+        StateCommand::Owner => {
+            let owners = put_owner(t.owners, i, n[1]);
+            put(s, Terms { owners, ..t })
+        }
+        StateCommand::Places => put(s, Terms { places, ..t }),
+        StateCommand::Owns => {
+            let owners = put_owner(s.owners, i, n[1]);
+            put(State { owners, ..s }, t)
+        }
+        StateCommand::Room => put(State { places, ..s }, t),
     }
 }

@@ -32,7 +32,7 @@ use Rattle.text_line.specs.declared.Fault.TheVariants.{NotTask, Task, NotCost, C
 use Rattle.text_line.specs.declared.NumberFault.{NumberFault}
 use Rattle.text_line.specs.declared.NumberFault.TheVariants.{Missing, Outside}
 use Rattle.text_line.specs.declared.Said.{Said}
-use Rattle.text_line.specs.declared.Said.TheVariants.{Stream as IsStream, Version, Nothing}
+use Rattle.text_line.specs.declared.Said.TheVariants.{Stream as IsStream, Version}
 use Rattle.text_line.specs.Lines.{digits, starts_at, ended_at, number_at, field_at, by_field, needed, leads, by_stage, every_at, tuple_at, added, finished, tuples_at, by_jitter, alone, jitter_said, each_way_at, jitter_at, limit_at, with_deadline, deadline_at, stages_end, space_at, cost_at, pair_at, staged, most_stages, too_many, stages_at, version_text, line_read, longest}
 use Rattle.text_line.specs.Lines as lines
 use Rattle.text_tidy.specs.Tidied.{tidied}
@@ -216,13 +216,13 @@ module _ (version : ℕ) where
       stages_end_lem n (gs ++ (g ∷ [])) l end (omega arith) (λ h. let most : length gs + suc n ≤ 1 = one h in omega arith) (all_append ValidStage gs (g ∷ []) v (w, tt))))
       at
 
-  abbrev GoodSaid : Result Said Fault → Type 0
-  GoodSaid (Ok (IsStream s)) = GoodStream version s
-  GoodSaid (Ok Version) = Unit {0}
-  GoodSaid (Ok Nothing) = Unit {0}
+  abbrev GoodSaid : Result (Option Said) Fault → Type 0
+  GoodSaid (Ok (Some (IsStream s))) = GoodStream version s
+  GoodSaid (Ok (Some Version)) = Unit {0}
+  GoodSaid (Ok None) = Unit {0}
   GoodSaid (Err why) = Unit {0}
 
-  said_good : (r : Result Stream Fault) → Good r → GoodSaid (leads r (λ s. Ok (IsStream s)))
+  said_good : (r : Result Stream Fault) → Good r → GoodSaid (leads r (λ s. Ok (Some (IsStream s))))
   unfolding leads
   said_good (Ok s) g = g
   said_good (Err why) g = tt
@@ -231,8 +231,8 @@ module _ (version : ℕ) where
   unfolding line_says line_read
   line_ends l =
       cond_elim GoodSaid (leb (length l) (longest version)) (line_read version l) (Err LongLine)
-      (λ e. cond_elim GoodSaid (eqb (length l) 0) (Ok Nothing) _ (λ n. tt)
-      (λ n. cond_elim GoodSaid (same l version_text) (Ok Version) _ (λ t. tt)
+      (λ e. cond_elim GoodSaid (eqb (length l) 0) (Ok None) _ (λ n. tt)
+      (λ n. cond_elim GoodSaid (same l version_text) (Ok (Some Version)) _ (λ t. tt)
       (λ t. said_good (stages_at version (most_stages version) (stream_of [] 0 []) l 0)
       (stages_end_lem (most_stages version) [] l 0 (omega (arith, most)) (λ h. let z : most_stages version ≡ 1 = rw h in omega arith) tt))))
       (λ e. tt)
@@ -264,18 +264,18 @@ lines_end (l ∷ ls) version n ss w few g =
     (λ e. lines_end ls 2 (following n) ss refl few (none_good 2 ss e))
     (lines_end ls version (following n) ss w few g)
   where
-    said_ends : (r : Result Said Fault) → GoodSaid version r
+    said_ends : (r : Result (Option Said) Fault) → GoodSaid version r
         → ((s : Stream) → length ss < 16 → GoodStream version s → Fits (lines_read version (following n) (ss ++ (s ∷ [])) ls))
         → (length ss ≡ 0 → Fits (lines_read 2 (following n) ss ls))
         → Fits (lines_read version (following n) ss ls)
         → Fits (by_said r (λ s. cond (ltb (length ss) 16) (lines_read version (following n) (ss ++ (s ∷ [])) ls) (is_bad n ManyStreams)) (cond (untold version (length ss)) (lines_read 2 (following n) ss ls) (is_bad n LateVersion)) (lines_read version (following n) ss ls) (λ why. is_bad n why))
-    said_ends (Ok (IsStream s)) good more two on =
+    said_ends (Ok (Some (IsStream s))) good more two on =
         cond_elim Fits (ltb (length ss) 16) (lines_read version (following n) (ss ++ (s ∷ [])) ls) (is_bad n ManyStreams)
         (λ e. more s (ltb-true (length ss) 16 e) good) (λ e. no_set_lem n ManyStreams)
-    said_ends (Ok Version) good more two on =
+    said_ends (Ok (Some Version)) good more two on =
         cond_elim Fits (untold version (length ss)) (lines_read 2 (following n) ss ls) (is_bad n LateVersion)
         (λ e. two (eqb-true (length ss) 0 (and_parts (eqb version 1) (eqb (length ss) 0) e).1)) (λ e. no_set_lem n LateVersion)
-    said_ends (Ok Nothing) good more two on = on
+    said_ends (Ok None) good more two on = on
     said_ends (Err why) good more two on = no_set_lem n why
 
 pub read_valid : ReadValid

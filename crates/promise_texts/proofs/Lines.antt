@@ -23,7 +23,7 @@ use Rattle.rules.proofs.Valid.{valid_place, valid_stream}
 use Rattle.sheet_carried.proofs.Whole.{stream_holds, whole_stream}
 use Rattle.ascii.specs.Decimal.{letters, decimal_of}
 use Rattle.ascii.specs.Same.{same}
-use Rattle.std.specs.Prelude.{Result, Ok, Some}
+use Rattle.std.specs.Prelude.{Option, Result, Ok, Some}
 use Rattle.text_line.specs.declared.Fault.{Fault}
 use Rattle.text_line.specs.declared.Said.{Said}
 use Rattle.text_line.specs.declared.Said.TheVariants.{Stream as IsStream}
@@ -33,8 +33,8 @@ use Rattle.promise_texts.specs.Returns.{LineReturns}
 use Rattle.promise_texts.proofs.Fields.{starts, field_here, starts_not, field_not}
 
 -- what a line says whose stream is read so
-abbrev pub says : Result Stream Fault → Result Said Fault
-says r = leads r (λ s. Ok (IsStream s))
+abbrev pub says : Result Stream Fault → Result (Option Said) Fault
+says r = leads r (λ s. Ok (Some (IsStream s)))
 
 -- ---- a tuple
 

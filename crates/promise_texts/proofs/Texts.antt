@@ -17,7 +17,7 @@ use Rattle.laws.proofs.Fields.{all_take}
 use Rattle.rules.specs.declared.Stream.{Stream}
 use Rattle.rules.specs.declared.Set.{Set}
 use Rattle.rules.specs.declared.ReadResult.{ReadResult}
-use Rattle.std.specs.Prelude.{Result, Ok}
+use Rattle.std.specs.Prelude.{Some, Result, Ok}
 use Rattle.rules.specs.declared.Refusal.{Refusal}
 use Rattle.rules.specs.Streams.{FourPlaces, Placed, streams_of, stream_ok, valid}
 use Rattle.rules.specs.Sheet.{set_of, read_of}
@@ -40,7 +40,7 @@ use Rattle.promise_texts.proofs.Neat.{line_tidy, line_first, line_more, version_
 
 -- ---- one stream
 
-line_is : (version : ℕ) (s : Stream) → FourPlaces s → stream_ok s ≡ true → s.depth ≤ most_stages version → line_read version (stream_text s) ≡ Ok (IsStream s)
+line_is : (version : ℕ) (s : Stream) → FourPlaces s → stream_ok s ≡ true → s.depth ≤ most_stages version → line_read version (stream_text s) ≡ Ok (Some (IsStream s))
 unfolding LineReturns
 line_is = line_returns
 
@@ -54,7 +54,7 @@ pub judged_returns : JudgedReturns
 unfolding JudgedReturns
 judged_returns version s four ok deep = judged_short version (stream_text s) (line_fits version s ok deep) ∙ line_is version s four ok deep
 
-says_stream : (version : ℕ) (s : Stream) → FourPlaces s → stream_ok s ≡ true → s.depth ≤ most_stages version → line_says version (tidied (stream_text s)) ≡ Ok (IsStream s)
+says_stream : (version : ℕ) (s : Stream) → FourPlaces s → stream_ok s ≡ true → s.depth ≤ most_stages version → line_says version (tidied (stream_text s)) ≡ Ok (Some (IsStream s))
 unfolding line_says
 says_stream version s four ok deep =
     rw (line_tidy s, le-leb (length (stream_text s)) (longest version) (line_fits version s ok deep)) (line_is version s four ok deep)

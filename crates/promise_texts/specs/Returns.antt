@@ -6,7 +6,7 @@ use Rattle.rules.specs.declared.TuplePlace.{TuplePlace}
 use Rattle.rules.specs.declared.Stage.{Stage}
 use Rattle.rules.specs.declared.Stream.{Stream}
 use Rattle.rules.specs.declared.Set.{Set}
-use Rattle.std.specs.Prelude.{Ok}
+use Rattle.std.specs.Prelude.{Some, Ok}
 use Rattle.rules.specs.Streams.{FourPlaces, Placed, no_streams, empty_set, stream_ok, valid, jitter_ok}
 use Rattle.rules.specs.Sheet.{stream_of, sheet_of, read_of}
 use Rattle.rules.specs.Valid.{Between, ValidStage}
@@ -21,10 +21,10 @@ use Rattle.text_print.specs.Listed.{text_of}
 
 -- a stream's own line says that stream, in a text of a version that allows its stages; and so does the row that keeps its bytes
 unfoldable pub LineReturns : Type 0
-LineReturns = (version : ℕ) (s : Stream) → FourPlaces s → stream_ok s ≡ true → s.depth ≤ most_stages version → line_read version (stream_text s) ≡ Ok (IsStream s)
+LineReturns = (version : ℕ) (s : Stream) → FourPlaces s → stream_ok s ≡ true → s.depth ≤ most_stages version → line_read version (stream_text s) ≡ Ok (Some (IsStream s))
 
 unfoldable pub JudgedReturns : Type 0
-JudgedReturns = (version : ℕ) (s : Stream) → FourPlaces s → stream_ok s ≡ true → s.depth ≤ most_stages version → judged version (row_of (stream_text s)) ≡ Ok (IsStream s)
+JudgedReturns = (version : ℕ) (s : Stream) → FourPlaces s → stream_ok s ≡ true → s.depth ≤ most_stages version → judged version (row_of (stream_text s)) ≡ Ok (Some (IsStream s))
 
 -- a line with a jitter says the stream with the jitter's two tuples
 unfoldable pub jitter_text : List Stage → ℕ → ℕ → ℕ → List ℕ
@@ -37,7 +37,7 @@ jitter_tuples z j = record { tuple = Once 0 } ∷ record { tuple = Every z (z - 
 unfoldable pub JitterReturns : Type 0
 JitterReturns =
     (version : ℕ) (gs : List Stage) (deadline z j : ℕ) → Between 1 (length gs) (most_stages version) → All ValidStage gs → Between 1 deadline 200000
-    → jitter_ok z j ≡ true → line_read version (jitter_text gs deadline z j) ≡ Ok (IsStream (stream_of gs deadline (jitter_tuples z j)))
+    → jitter_ok z j ≡ true → line_read version (jitter_text gs deadline z j) ≡ Ok (Some (IsStream (stream_of gs deadline (jitter_tuples z j))))
 
 -- a set's own text reads as that set
 unfoldable pub TextReturns : Type 0

@@ -44,9 +44,9 @@ module _ (s new : List ℕ) (p : Place) (w v : ℕ) (r : Result (Unit {0}) NotPu
   room_of e = by_test (leb (bit_at p + w) (8 * length s)) (λ y. leb-true (bit_at p + w) (8 * length s) y)
       (λ y. let x : ◌≡◌ {A = Result (Unit {0}) NotPut} (Err NoRoom) (Ok tt) = sym (without (leb-false (bit_at p + w) (8 * length s) y)) ∙ sym er ∙ e in absurd (let z : ◌≡◌ {A = ℕ} 0 1 = cc in omega arith))
 
-  no_room : (why : NotPut) → r ≡ Err why → 8 * length s < bit_at p + w
-  no_room why e = by_test (leb (bit_at p + w) (8 * length s))
-      (λ y. let x : ◌≡◌ {A = Result (Unit {0}) NotPut} (Ok tt) (Err why) = sym (with_room (leb-true (bit_at p + w) (8 * length s) y)) ∙ sym er ∙ e in absurd (let z : ◌≡◌ {A = ℕ} 0 1 = cc in omega arith))
+  no_room : (r ≡ Ok tt → ⊥) → 8 * length s < bit_at p + w
+  no_room n = by_test (leb (bit_at p + w) (8 * length s))
+      (λ y. absurd (n (er ∙ with_room (leb-true (bit_at p + w) (8 * length s) y))))
       (λ y. leb-false (bit_at p + w) (8 * length s) y)
 
   -- the place behind the field is one that the machine has numbers for
@@ -64,11 +64,11 @@ module _ (s new : List ℕ) (p : Place) (w v : ℕ) (r : Result (Unit {0}) NotPu
             ∙ rw f,
       )
 
-  pub put_full : (why : NotPut) → r ≡ Err why → Put (Err ShortBuffer)
+  pub put_full : (r ≡ Ok tt → ⊥) → Put (Err ShortBuffer)
   unfolding put_answer put_buffer put_bits
-  put_full why e =
-      let h = no_room why e in
+  put_full n =
+      let h = no_room n in
       let f : fits s p field ≡ false = lt-leb (bit_at p + length field) (8 * length s) (omega (arith, to_bits_length w v)) in (
         rw f,
-        bits_inj new s hn hs (eb ∙ ap (λ (x : Result (Unit {0}) NotPut). put_by x (bits s) (bit_at p) w v) (sym er ∙ e)) ∙ rw f,
+        bits_inj new s hn hs (eb ∙ ap (λ (x : Result (Unit {0}) NotPut). put_by x (bits s) (bit_at p) w v) (without h)) ∙ rw f,
       )

@@ -53,10 +53,8 @@ fn put(buf: &mut [u8], at: Place, width: u32, v: u64) -> Result<Place, Refusal>
     requires { (place_in buf.old at ≡ true) × (1 ≤ width) × (width ≤ 9) }
     ensures { (result ≡ put_answer buf.old at (to_bits width v)) × (buf.new ≡ put_buffer buf.old at (to_bits width v)) }
 {
-    match bits::put(buf, at, width, v) {
-        Ok(()) => Ok(bits::after(at, width)),
-        Err(_) => Err(Refusal::ShortBuffer),
-    }
+    bits::put(buf, at, width, v).map_err(|_| Refusal::ShortBuffer)?;
+    Ok(bits::after(at, width))
 }
 
 // Appends a call at a place: 12 for a place that is not in the buffer, 1 for a call that cannot be recorded, 11 without room for it.

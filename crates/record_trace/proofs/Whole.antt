@@ -2,9 +2,9 @@
 -- Assumes nothing.
 use Prim.Native.Nat.{ℕ, ◌+◌, ◌-◌, ◌*◌, ◌≤◌, ◌<◌}
 use native.Mathlib.Omega.{arith}
-use mathlib.Core.Bool.{Bool, true, false, ◌||◌}
+use mathlib.Core.Bool.{Bool, true, false}
 use mathlib.Core.List.{List}
-use mathlib.Core.Path.{◌≡◌, refl, ap, sym, ◌∙◌}
+use mathlib.Core.Path.{◌≡◌, refl, ap, sym, subst, ◌∙◌}
 use borrow.Author.Tests.{leb-true, leb-false, le-leb, lt-leb}
 use lib.Dec.{leb}
 use lib.ListN.{length}
@@ -25,7 +25,7 @@ use Rattle.record_trace.specs.declared.Taking.{Taking}
 use Rattle.record_trace.specs.Traces.{trace_record_of, trace_recorded_to}
 use Rattle.record_trace.specs.Taking.{taking_first, taking_on, put_on}
 use Rattle.record_trace.proofs.Takings.{on_within}
-use Rattle.record_trace.proofs.Scripts.{Taken, taken, puts}
+use Rattle.record_trace.proofs.Scripts.{TakenTo, Taken, taken, puts}
 
 -- ---- whether there is room
 
@@ -41,7 +41,7 @@ room_rest len n p same h = go (leb (p.byte + bytes_for (p.bit + 2)) len) refl
 
 -- ---- the whole
 
-module _ (trace old : List ℕ) (t : Taking) (et : t ≡ taking_on taking_first trace) where
+module _ (trace old : List ℕ) where
   abbrev script : Script
   script = script_of trace
 
@@ -52,45 +52,63 @@ module _ (trace old : List ℕ) (t : Taking) (et : t ≡ taking_on taking_first 
   unfolding trace_recorded_to
   by_answer a new e f = (e, f ∙ ap (λ (x : Result ℕ Refusal). recorded_by x script.calls old) e)
 
-  as_script : Taken first_place script t
-  as_script = rw (et, script_heard trace) (taken first_place false trace (omega arith))
+  as_script : (a : Result Taking Refusal) → a ≡ taking_on taking_first trace → Taken first_place script a
+  as_script a e = subst (λ (x : Result Taking Refusal). Taken first_place script x) (sym e) (rw (script_heard trace) (taken first_place false trace (omega arith)))
 
-  pub small : t.place.bit < 8
-  small = rw et (on_within trace taking_first 0 (record { bit = omega arith; byte = omega arith })).bit
-
-  pub bad_trace : (t.bad || t.waiting) ≡ true → Records (Err BadByte) old
+  is_bad : script.bad ≡ true → Records (Err BadByte) old
   unfolding trace_record_of
-  bad_trace e = by_answer (Err BadByte) old (rw (sym as_script.bad ∙ e)) refl
+  is_bad e = by_answer (Err BadByte) old (rw e refl) refl
 
-  module _ (good : (t.bad || t.waiting) ≡ false) where
-    is_good : script.bad ≡ false
-    is_good = sym as_script.bad ∙ good
+  pub bad_trace : (why : Refusal) → Err why ≡ taking_on taking_first trace → Records (Err why) old
+  bad_trace why e = let k = as_script (Err why) e in rw k.0 (is_bad k.1)
 
-    at_end : t.place ≡ place_after first_place (length (flat call_bits script.calls))
-    at_end = as_script.end is_good
+  module _ (t : Taking) (et : Ok t ≡ taking_on taking_first trace) where
+    to_script : TakenTo first_place script t
+    to_script = as_script (Ok t) et
 
-    bytes : AreBytes old → length (recording_of script.calls) ≡ t.place.byte + bytes_for (t.place.bit + 2)
-    bytes ho = bytes_are script.calls old t.place ho at_end small
+    pub small : t.place.bit < 8
+    small = (on_within trace taking_first t 0 (record { bit = omega arith; byte = omega arith }) (sym et)).bit
 
-    pub no_room : (r : Bool) → AreBytes old → r ≡ leb (t.place.byte + bytes_for (t.place.bit + 2)) (length old) → r ≡ false → Records (Err ShortBuffer) old
-    unfolding trace_record_of record_of
-    no_room r ho e f =
-        by_answer (Err ShortBuffer) old (rw (is_good, ap (λ (k : ℕ). leb k (length old)) (bytes ho) ∙ sym e ∙ f)) refl
+    pub cut_trace : t.waiting ≡ true → Records (Err BadByte) old
+    cut_trace e = is_bad (sym to_script.bad ∙ e)
 
-    calls_put : (new : List ℕ) → AreBytes old → bit_at first_place + length (flat call_bits script.calls) ≤ 8 * length old → new ≡ put_on taking_first trace old
-        → new ≡ written old first_place (flat call_bits script.calls)
-    calls_put new ho h e = e ∙ (rw (script_heard trace) (puts first_place false trace old (omega arith) ho (sym (ap (λ (s : Script). s.bad) (script_heard trace)) ∙ is_good) (rw (script_heard trace) at h)))
+    module _ (good : t.waiting ≡ false) where
+      is_good : script.bad ≡ false
+      is_good = sym to_script.bad ∙ good
 
-    pub recorded : (r : Bool) (mid new : List ℕ) (a : Result ℕ Refusal) → AreBytes old → r ≡ leb (t.place.byte + bytes_for (t.place.bit + 2)) (length old) → r ≡ true → mid ≡ put_on taking_first trace old
-        → a ≡ finish_of mid t.place → new ≡ finished_to mid t.place → Records a new
-    unfolding trace_record_of record_of
-    recorded r mid new a ho e f em ea en =
-        let calls : List Call = script.calls in
-        let n : ℕ = length (recording_of calls) in
-        let room : n ≤ length old = omega (arith, bytes ho, leb-true (t.place.byte + bytes_for (t.place.bit + 2)) (length old) (sym e ∙ f)) in
-        let fit : bit_at first_place + length (flat call_bits calls) ≤ 8 * length old = omega (arith, bytes ho, ap bit_at at_end, place_bit first_place (length (flat call_bits calls))) in
-        let put : mid ≡ written old first_place (flat call_bits calls) = calls_put mid ho fit em in
-        let done : a ≡ Ok n = ea ∙ ap (λ (b : List ℕ). finish_of b t.place) put ∙ finishes calls old t.place ho at_end small room in
-        by_answer a new (done ∙ rw (is_good, le-leb n (length old) room))
-        (en ∙ ap (λ (b : List ℕ). finished_to b t.place) put ∙ finished calls old t.place ho at_end small room
-        ∙ ap (λ (x : Result ℕ Refusal). recorded_by x calls old) (sym done))
+      at_end : t.place ≡ place_after first_place (length (flat call_bits script.calls))
+      at_end = to_script.end is_good
+
+      bytes : AreBytes old → length (recording_of script.calls) ≡ t.place.byte + bytes_for (t.place.bit + 2)
+      bytes ho = bytes_are script.calls old t.place ho at_end small
+
+      pub no_room : (r : Bool) → AreBytes old → r ≡ leb (t.place.byte + bytes_for (t.place.bit + 2)) (length old) → r ≡ false → Records (Err ShortBuffer) old
+      unfolding trace_record_of record_of
+      no_room r ho e f =
+          by_answer (Err ShortBuffer) old (rw (is_good, ap (λ (k : ℕ). leb k (length old)) (bytes ho) ∙ sym e ∙ f)) refl
+
+      calls_put : (new : List ℕ) → AreBytes old → bit_at first_place + length (flat call_bits script.calls) ≤ 8 * length old → new ≡ put_on taking_first trace old
+          → new ≡ written old first_place (flat call_bits script.calls)
+      calls_put new ho h e = e ∙ (rw (script_heard trace) (puts first_place false trace old (omega arith) ho (sym (ap (λ (s : Script). s.bad) (script_heard trace)) ∙ is_good) (rw (script_heard trace) at h)))
+
+      pub recorded : (r : Bool) (mid new : List ℕ) (a : Result ℕ Refusal) → AreBytes old → r ≡ leb (t.place.byte + bytes_for (t.place.bit + 2)) (length old) → r ≡ true → mid ≡ put_on taking_first trace old
+          → a ≡ finish_of mid t.place → new ≡ finished_to mid t.place → Records a new
+      unfolding trace_record_of record_of
+      recorded r mid new a ho e f em ea en =
+          let calls : List Call = script.calls in
+          let n : ℕ = length (recording_of calls) in
+          let room : n ≤ length old = omega (arith, bytes ho, leb-true (t.place.byte + bytes_for (t.place.bit + 2)) (length old) (sym e ∙ f)) in
+          let fit : bit_at first_place + length (flat call_bits calls) ≤ 8 * length old = omega (arith, bytes ho, ap bit_at at_end, place_bit first_place (length (flat call_bits calls))) in
+          let put : mid ≡ written old first_place (flat call_bits calls) = calls_put mid ho fit em in
+          let done : a ≡ Ok n = ea ∙ ap (λ (b : List ℕ). finish_of b t.place) put ∙ finishes calls old t.place ho at_end small room in
+          by_answer a new (done ∙ rw (is_good, le-leb n (length old) room))
+          (en ∙ ap (λ (b : List ℕ). finished_to b t.place) put ∙ finished calls old t.place ho at_end small room
+          ∙ ap (λ (x : Result ℕ Refusal). recorded_by x calls old) (sym done))
+
+-- the second walk ends where the first one did
+module _ (trace : List ℕ) where
+  pub same_end : (t u : Taking) → Ok t ≡ taking_on taking_first trace → Ok u ≡ taking_on taking_first trace → t ≡ u
+  same_end t u e f = let x : ◌≡◌ {A = Result Taking Refusal} (Ok t) (Ok u) = e ∙ sym f in cc
+
+  pub never_bad : (t : Taking) (why : Refusal) {P : Type 0} → Ok t ≡ taking_on taking_first trace → Err why ≡ taking_on taking_first trace → P
+  never_bad t why e f = let x : ◌≡◌ {A = Result Taking Refusal} (Ok t) (Err why) = e ∙ sym f in absurd (let z : ◌≡◌ {A = ℕ} 0 1 = cc in omega arith)

@@ -4,17 +4,16 @@
 ghost use Rattle.std.specs.Prelude.{◌≡◌, ◌+◌, ◌^◌, ◌<◌, length, leb};
 ghost use Rattle.laws.specs.Bits.{bytes_for};
 ghost use Rattle.record_trace.specs.Traces.{trace_record_of, trace_recorded_to};
-ghost use Rattle.record_trace.specs.Taking.{taking_first, taking_next, taking_after, taking_on, put_next, put_after, put_on};
+ghost use Rattle.record_trace.specs.Taking.{taking_first, taking_next, taking_on, put_next, put_on};
 
 use rules::{Place, Refusal};
 use trace_bytes::Heard;
 
-// A trace as far as it was taken: the place behind its calls, whether a p waits for its digit, and whether a byte was no step.
+// A trace as far as it was taken: the place behind its calls, and whether a p waits for its digit.
 #[derive(Clone, Copy)]
 pub struct Taking {
     pub place: Place,
     pub waiting: bool,
-    pub bad: bool,
 }
 
 fn at_first() -> Taking
@@ -23,7 +22,6 @@ fn at_first() -> Taking
     Taking {
         place: Place { byte: 0, bit: 0 },
         waiting: false,
-        bad: false,
     }
 }
 
@@ -33,51 +31,29 @@ fn heard(t: Taking, h: Heard) -> Taking
     requires { (t.place.bit < 8) × (t.place.byte + 1 < 2 ^ 64) }
     ensures { result ≡ taking_next t h }
 {
-    let place = t.place;
     match h {
         Heard::Skip => Taking {
-            place,
             waiting: false,
-            bad: false,
+            ..t
         },
-        Heard::More => Taking {
-            place,
-            waiting: true,
-            bad: false,
-        },
+        Heard::More => Taking { waiting: true, ..t },
         Heard::Makes(c) => Taking {
-            place: bits::after(place, record_call::width(c)),
+            place: bits::after(t.place, record_call::width(c)),
             waiting: false,
-            bad: false,
-        },
-        Heard::Bad => Taking {
-            place,
-            waiting: false,
-            bad: true,
         },
     }
 }
 
-fn take_byte(t: Taking, b: u8) -> Taking
-    requires { (t.place.bit < 8) × (t.place.byte + 1 < 2 ^ 64) }
-    ensures { result ≡ taking_after t b }
-{
-    if t.bad {
-        t
-    } else {
-        heard(t, trace_bytes::hear(t.waiting, b))
-    }
-}
-
-// All bytes of a trace.
-fn measure(trace: &[u8]) -> Taking
+// All bytes of a trace. 9 for a byte that is no step.
+fn measure(trace: &[u8]) -> Result<Taking, Refusal>
     ensures { result ≡ taking_on taking_first trace.now }
 {
     let mut t = at_first();
     for b in trace {
-        t = take_byte(t, *b);
+        let h = trace_bytes::hear(t.waiting, *b)?;
+        t = heard(t, h);
     }
-    t
+    Ok(t)
 }
 
 // ---- the calls in the buffer
@@ -91,23 +67,17 @@ fn put_heard(buf: &mut [u8], t: Taking, h: Heard)
     }
 }
 
-fn put_byte(buf: &mut [u8], t: Taking, b: u8)
-    ensures { buf.new ≡ put_after t b buf.old }
-{
-    if t.bad {
-        return;
-    }
-    put_heard(buf, t, trace_bytes::hear(t.waiting, b));
-}
-
-fn put_calls(trace: &[u8], buf: &mut [u8])
-    ensures { buf.new ≡ put_on taking_first trace.now buf.old }
+// The same walk, which puts each call where it stands.
+fn put_calls(trace: &[u8], buf: &mut [u8]) -> Result<Taking, Refusal>
+    ensures { (result ≡ taking_on taking_first trace.now) × (buf.new ≡ put_on taking_first trace.now buf.old) }
 {
     let mut t = at_first();
     for b in trace {
-        put_byte(buf, t, *b);
-        t = take_byte(t, *b);
+        let h = trace_bytes::hear(t.waiting, *b)?;
+        put_heard(buf, t, h);
+        t = heard(t, h);
     }
+    Ok(t)
 }
 
 // ---- the whole
@@ -125,13 +95,13 @@ fn has_room(len: usize, at: Place) -> bool
 pub fn record(trace: &[u8], buf: &mut [u8]) -> Result<usize, Refusal>
     ensures { (result ≡ trace_record_of trace.now (length buf.old)) × (buf.new ≡ trace_recorded_to trace.now buf.old) }
 {
-    let t = measure(trace);
-    if t.bad | t.waiting {
+    let t = measure(trace)?;
+    if t.waiting {
         return Err(Refusal::BadByte);
     }
     if !has_room(buf.len(), t.place) {
         return Err(Refusal::ShortBuffer);
     }
-    put_calls(trace, buf);
-    record_call::finish(buf, t.place)
+    let end = put_calls(trace, buf)?;
+    record_call::finish(buf, end.place)
 }

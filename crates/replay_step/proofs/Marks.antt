@@ -72,11 +72,11 @@ module _ (s : List ℕ) (at : ℕ) where
         (λ y. let q : ◌≡◌ {A = Result ℕ NotTaken} (Ok v) (Ok (value (take w rest))) = sym f ∙ e ∙ rw (le-leb w 64 small, y) in (omega (arith, leb-true w (8 * length s - at) y, rest_length), cc))
         (λ y. let q : ◌≡◌ {A = Result ℕ NotTaken} (Ok v) (Err Missing) = sym f ∙ e ∙ rw (le-leb w 64 small, y) in absurd (let z : ◌≡◌ {A = ℕ} 0 1 = cc in omega arith))
 
-    pub taken_missing : (why : NotTaken) → t ≡ Err why → length rest < w
+    pub taken_missing : ((v : ℕ) → t ≡ Ok v → ⊥) → length rest < w
     unfolding take_of field_at
-    taken_missing why f =
+    taken_missing n =
         by_test (leb w (8 * length s - at))
-        (λ y. let q : ◌≡◌ {A = Result ℕ NotTaken} (Err why) (Ok (value (take w rest))) = sym f ∙ e ∙ rw (le-leb w 64 small, y) in absurd (let z : ◌≡◌ {A = ℕ} 0 1 = cc in omega arith))
+        (λ y. absurd (n (value (take w rest)) (e ∙ rw (le-leb w 64 small, y))))
         (λ y. omega (arith, leb-false w (8 * length s - at) y, rest_length))
 
   -- ---- the end: fewer than 8 bits, all zero
@@ -110,8 +110,8 @@ module _ (s : List ℕ) (at : ℕ) where
     pub post_made : (k n : ℕ) → t ≡ Ok k → n ≡ k → Ok (Some (Posts n)) ≡ post_mark rest
     post_made k n f q = let r = taken_field 4 (omega arith) t e k f in rw (le-leb 4 (length rest) r.0, q, r.1)
 
-    pub post_cut : (why : NotTaken) → t ≡ Err why → Err StopsEarly ≡ post_mark rest
-    post_cut why f = rw (lt-leb 4 (length rest) (taken_missing 4 (omega arith) t e why f))
+    pub post_cut : ((v : ℕ) → t ≡ Ok v → ⊥) → Err StopsEarly ≡ post_mark rest
+    post_cut n = rw (lt-leb 4 (length rest) (taken_missing 4 (omega arith) t e n))
 
   -- ---- a kind
 
@@ -120,9 +120,9 @@ module _ (s : List ℕ) (at : ℕ) where
     unfolding mark_of
     kind_made kind m f q = let r = taken_field 2 (omega arith) t e kind f in rw (le-leb 2 (length rest) r.0, sym r.1, drop-drop 2 at (bits s)) q
 
-    pub kind_cut : (why : NotTaken) → t ≡ Err why → Err StopsEarly ≡ mark_of rest
+    pub kind_cut : ((v : ℕ) → t ≡ Ok v → ⊥) → Err StopsEarly ≡ mark_of rest
     unfolding mark_of
-    kind_cut why f = rw (lt-leb 2 (length rest) (taken_missing 2 (omega arith) t e why f))
+    kind_cut n = rw (lt-leb 2 (length rest) (taken_missing 2 (omega arith) t e n))
 
 -- the four kinds
 module _ (bs : List ℕ) (kind : ℕ) where

@@ -28,10 +28,8 @@ fn end_at(recording: &[u8], at: Place) -> Result<Option<Call>, Refusal>
 fn post_at(recording: &[u8], at: Place) -> Result<Option<Call>, Refusal>
     ensures { result ≡ post_mark (drop (bit_at at) (bits recording.now)) }
 {
-    match bits::take(recording, at, 4) {
-        Ok(k) => Ok(Some(Call::Posts(k as usize))),
-        Err(_) => Err(Refusal::StopsEarly),
-    }
+    let k = bits::take(recording, at, 4).map_err(|_| Refusal::StopsEarly)?;
+    Ok(Some(Call::Posts(k as usize)))
 }
 
 // A kind, and what comes behind it at a place.
@@ -54,14 +52,13 @@ fn mark_at(recording: &[u8], at: Place) -> Result<Option<Call>, Refusal>
         byte: at.byte,
         bit: at.bit + 2,
     };
-    match bits::take(recording, at, 2) {
-        Ok(kind) => kind_at(kind, recording, behind),
-        Err(_) => Err(Refusal::StopsEarly),
-    }
+    let kind = bits::take(recording, at, 2).map_err(|_| Refusal::StopsEarly)?;
+    kind_at(kind, recording, behind)
 }
 
 // ---- a step
 
+// kept: the literal, in four places, is no plainer.
 fn standing(a: Result<Option<CallAnswer>, Refusal>, s: State, at: Place) -> ReplayResult
     ensures { result ≡ record { answer = a; state = s; place = at } }
 {

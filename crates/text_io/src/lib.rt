@@ -43,12 +43,12 @@ type Text = Result<Draft, BadLine>;
 // A proved loop has to end, and nothing says that the input does: the turns are counted up to a number that no run uses up.
 fn listen(rt: &(impl Input + Eprint)) -> io::Result<Option<Text>> {
     let mut input = rt.reader();
-    let mut text: Text = Ok(text_read::start());
+    let mut text: Text = Ok(Draft::start());
     let mut bytes = [0u8; 512];
     for _ in 0..u64::MAX {
         match input.read(&mut bytes) {
             Ok(0) => return Ok(Some(text)),
-            Ok(n) => text = text.and_then(|draft| text_read::feed(draft, &bytes[..n])),
+            Ok(n) => text = text.and_then(|draft| draft.feed(&bytes[..n])),
             Err(why) => {
                 file_io::fail(rt, "standard input", why)?;
                 break;
@@ -80,7 +80,7 @@ pub fn make(rt: &(impl Files + Input + Print + Eprint)) -> io::Result<bool> {
     let Some(text) = listen(rt)? else {
         return Ok(false);
     };
-    match text.and_then(text_read::close) {
+    match text.and_then(Draft::close) {
         Ok(set) => keep(rt, set),
         Err(bad) => {
             file_io::say(rt, text_faults::fault_line(bad.number, bad.fault))?;
@@ -127,14 +127,14 @@ fn take_byte(rt: &impl Print, p: Pile, b: u8) -> io::Result<Pile> {
     if b == 0 {
         let head = line::one(line::blank(), b"text", p.number);
         file_io::say(rt, line::put(head, b'\n'))?;
-        print_found(rt, p.text.and_then(text_read::close))?;
+        print_found(rt, p.text.and_then(Draft::close))?;
         return Ok(Pile {
-            text: Ok(text_read::start()),
+            text: Ok(Draft::start()),
             number: p.number % 1000000 + 1,
         });
     }
     Ok(Pile {
-        text: p.text.and_then(|draft| text_read::step(draft, b)),
+        text: p.text.and_then(|draft| draft.step(b)),
         ..p
     })
 }
@@ -142,7 +142,7 @@ fn take_byte(rt: &impl Print, p: Pile, b: u8) -> io::Result<Pile> {
 // The texts of an open file.
 fn take_texts(rt: &impl Print, file: &mut impl Read) -> io::Result<()> {
     let mut p = Pile {
-        text: Ok(text_read::start()),
+        text: Ok(Draft::start()),
         number: 1,
     };
     let mut bytes = [0u8; 512];

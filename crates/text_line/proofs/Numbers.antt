@@ -1,19 +1,22 @@
--- A word, and a number behind it, found by loops.
+-- A word, and a number behind it.
 -- Assumes nothing.
 use Prim.Native.Nat.{ℕ, ◌+◌, ◌-◌, ◌*◌, ◌≤◌, ◌<◌}
 use native.Mathlib.Omega.{arith}
 use native.Mathlib.Numerals.{add-one}
-use mathlib.Core.Path.{◌≡◌, refl, ap}
-use mathlib.Core.Bool.{Bool, true, false, ◌&&◌}
+use mathlib.Core.Path.{◌≡◌, refl, sym, ap, ◌∙◌}
+use mathlib.Core.Bool.{Bool, true, false, cond, not, ◌&&◌}
 use mathlib.Core.List.{List, [], ◌∷◌}
-use lib.ListN.{length, get_or, take, drop, drop_of_length-le}
+use lib.ListN.{length, get_or, take, drop, drop_of_length-le, length-drop}
 use lib.Seq.{drop-cons}
-use lib.Dec.{leb}
-use borrow.Author.Tests.{le-leb, lt-leb, ne_eqb, leb-true}
+use lib.Dec.{leb, ltb}
+use borrow.Author.Tests.{le-leb, lt-leb, ne_eqb, leb-true, ltb-false}
+use Rattle.std.specs.Option.{unwrap_or}
+use Rattle.std.specs.List.{position, position_or_len, starts_with}
+use Rattle.std.proofs.lemmas.Cmp.{nat_list_eq_equiv}
+use Rattle.laws.proofs.Sums.{by_test}
 use Rattle.ascii.specs.Decimal.{read_on, is_digit}
 use Rattle.ascii.specs.Same.{same}
-use Rattle.std.specs.Prelude.{Result, Ok, Err}
-use Rattle.text_line.specs.declared.NumberFault.{NumberFault}
+use Rattle.std.specs.Prelude.{Ok, Err, nat_eq}
 use Rattle.text_line.specs.declared.NumberFault.TheVariants.{Outside}
 use Rattle.text_line.specs.Lines.{lead, digits, starts_at, ended_at, number_at}
 
@@ -33,6 +36,21 @@ module _ (w l : List ℕ) (at : ℕ) where
       go true f y = f refl
       go false f y = let z : ◌≡◌ {A = ℕ} 0 1 = cc in absurd (omega arith)
 
+  -- what std's `starts_with` tells of what is left of the line
+  pub starts_is : (r : Bool) → at ≤ length l → (r ≡ true → length w ≤ length (drop at l)) → r ≡ starts_with nat_eq (drop at l) w → r ≡ starts_at w l at
+  unfolding starts_at
+  starts_is r h room e =
+      let turned : r ≡ same (take (length w) (drop at l)) w = e ∙ nat_list_eq_equiv.symm w (take (length w) (drop at l)) in
+      go r room turned
+    where
+      go : (r : Bool) → (r ≡ true → length w ≤ length (drop at l)) → r ≡ same (take (length w) (drop at l)) w → r ≡ (leb (at + length w) (length l) && same (take (length w) (drop at l)) w)
+      go true room f = rw (le-leb (at + length w) (length l) (omega (arith, room refl, length-drop at l))) f
+      go false room f = rw (← f) (sym (and_false (leb (at + length w) (length l))))
+
+  pub starts_past : length l < at → false ≡ starts_at w l at
+  unfolding starts_at
+  starts_past h = rw (lt-leb (at + length w) (length l) (omega arith))
+
 -- ---- where a number's digits end
 
 module _ (low high at end n : ℕ) where
@@ -44,20 +62,54 @@ module _ (low high at end n : ℕ) where
   unfolding ended_at
   too_high h g = rw (ne_eqb end at h, lt-leb n high g, and_false (leb low n))
 
--- ---- the bytes at the front that pass a test, by a loop
+-- ---- the bytes at the front that pass a test
 
-module _ (p : ℕ → Bool) (l : List ℕ) (i : ℕ) where
-  pub lead_on : i < length l → p (get_or l i 0) ≡ true → lead p (drop i l) ≡ get_or l i 0 ∷ lead p (drop (i + 1) l)
+module _ (p : ℕ → Bool) where
+  lead_short : (l : List ℕ) → length (lead p l) ≤ length l
   unfolding lead
-  lead_on h e = rw (drop-cons l i 0 h, e, add-one i)
+  lead_short [] = omega arith
+  lead_short (b ∷ l) = go (p b) (lead_short l)
+    where
+      go : (t : Bool) → length (lead p l) ≤ length l → length (cond t (b ∷ lead p l) []) ≤ length (b ∷ l)
+      go true e = omega arith
+      go false e = omega arith
 
-  pub lead_stop : i < length l → p (get_or l i 0) ≡ false → lead p (drop i l) ≡ []
+  -- they end at the first that does not pass it
+  lead_to : (l : List ℕ) → position_or_len (λ b. not (p b)) l ≡ length (lead p l)
   unfolding lead
-  lead_stop h e = rw (drop-cons l i 0 h, e)
+  lead_to [] = refl
+  lead_to (b ∷ l) = go (p b) (lead_to l)
+    where
+      go : (t : Bool) → position_or_len (λ b. not (p b)) l ≡ length (lead p l)
+          → cond (not (not t)) (1 + position_or_len (λ b. not (p b)) l) 0 ≡ length (cond t (b ∷ lead p l) [])
+      go true e = omega (arith, e)
+      go false e = refl
 
-  pub lead_end : length l ≤ i → lead p (drop i l) ≡ []
+  lead_at : (l : List ℕ) → unwrap_or (position (λ b. not (p b)) l) (length l) ≡ length (lead p l)
+  lead_at l = by_test (ltb (position_or_len (λ b. not (p b)) l) (length l))
+      (λ e. rw (e, lead_to l))
+      (λ e. rw e (omega (arith, lead_to l, lead_short l, ltb-false (position_or_len (λ b. not (p b)) l) (length l) e)))
+
+  lead_take : (l : List ℕ) → take (length (lead p l)) l ≡ lead p l
   unfolding lead
-  lead_end h = rw (drop_of_length-le l h)
+  lead_take [] = refl
+  lead_take (b ∷ l) = go (p b) (lead_take l)
+    where
+      go : (t : Bool) → take (length (lead p l)) l ≡ lead p l → take (length (cond t (b ∷ lead p l) [])) (b ∷ l) ≡ cond t (b ∷ lead p l) []
+      go true e = ap (λ (w : List ℕ). b ∷ w) e
+      go false e = refl
+
+-- the digits at the front
+pub digits_end : (l : List ℕ) → unwrap_or (position (λ b. not (is_digit b)) l) (length l) ≡ length (digits l)
+digits_end l = lead_at is_digit l
+
+pub digits_short : (l : List ℕ) → length (digits l) ≤ length l
+digits_short l = lead_short is_digit l
+
+pub digits_take : (l : List ℕ) → take (length (digits l)) l ≡ digits l
+digits_take l = lead_take is_digit l
+
+-- ---- what they say, byte by byte
 
 -- reading on never makes a number smaller
 read_more : (a : ℕ) (w : List ℕ) → a ≤ read_on a w
@@ -65,44 +117,21 @@ unfolding read_on
 read_more a [] = omega arith
 read_more a (b ∷ w) = omega (arith, read_more (a * 10 + (b - 48)) w)
 
--- what the loop that reads a number has: the number so far, and behind it the rest of the digits
-pub record Reading (l : List ℕ) (at n i : ℕ) : Type 0 where
-  pub small : n ≤ 4294967295
-  pub from : at ≤ i
-  pub value : read_on n (digits (drop i l)) ≡ read_on 0 (digits (drop at l))
-  pub end : i + length (digits (drop i l)) ≡ at + length (digits (drop at l))
+-- the number after k of the digits w, of which one more is d
+module _ (w : List ℕ) (k n : ℕ) (value : read_on n (drop k w) ≡ read_on 0 w) where
+  pub read_end : length w ≤ k → n ≡ read_on 0 w
+  unfolding read_on
+  read_end h = rw (drop_of_length-le w h) at value
 
-pub begun : (l : List ℕ) (at : ℕ) → Reading l at 0 at
-begun l at = record { small = omega arith; from = omega arith; value = refl; end = refl }
-
-module _ (l : List ℕ) (low high at n i : ℕ) (have : Reading l at n i) where
-  stops : (r : Result (ℕ × ℕ) NumberFault) → digits (drop i l) ≡ [] → r ≡ ended_at low high at i n → r ≡ number_at low high l at
-  unfolding number_at read_on
-  stops r e h =
-      let a : n ≡ read_on 0 (digits (drop at l)) = rw e at have.value in
-      let b : i ≡ at + length (digits (drop at l)) = omega (arith, ap length e, have.end) in
-      rw (← b, ← a) h
-
-  pub stop_here : (r : Result (ℕ × ℕ) NumberFault) → i < length l → is_digit (get_or l i 0) ≡ false → r ≡ ended_at low high at i n → r ≡ number_at low high l at
-  stop_here r h e = stops r (lead_stop is_digit l i h e)
-
-  pub stop_end : (r : Result (ℕ × ℕ) NumberFault) → length l ≤ i → r ≡ ended_at low high at i n → r ≡ number_at low high l at
-  stop_end r h = stops r (lead_end is_digit l i h)
-
-  module _ (d : ℕ) (h : i < length l) (t : is_digit (get_or l i 0) ≡ true) (e : d ≡ get_or l i 0 - 48) where
-    next_value : read_on (n * 10 + d) (digits (drop (i + 1) l)) ≡ read_on 0 (digits (drop at l))
+  module _ (d : ℕ) (h : k < length w) (e : d ≡ get_or w k 0 - 48) where
+    pub read_next : read_on (n * 10 + d) (drop (k + 1) w) ≡ read_on 0 w
     unfolding read_on
-    next_value = rw e (rw (lead_on is_digit l i h t) at have.value)
+    read_next = rw e (rw (drop-cons w k 0 h, ← add-one k) at value)
 
-    next_end : (i + 1) + length (digits (drop (i + 1) l)) ≡ at + length (digits (drop at l))
-    next_end = omega (arith, ap length (lead_on is_digit l i h t), have.end)
-
-    pub read_next : n * 10 + d ≤ 4294967295 → Reading l at (n * 10 + d) (i + 1)
-    read_next g = record { small = g; from = omega (arith, have.from); value = next_value; end = next_end }
-
-    pub read_over : high ≤ 4294967295 → 4294967295 < n * 10 + d → Err Outside ≡ number_at low high l at
+    -- a number above 2^32 - 1 is out of range
+    pub read_over : (low high : ℕ) (l : List ℕ) (at : ℕ) → w ≡ digits (drop at l) → high ≤ 4294967295 → 4294967295 < n * 10 + d → Err Outside ≡ number_at low high l at
     unfolding number_at
-    read_over k g =
-        let ne : (at + length (digits (drop at l)) ≡ at → ⊥) = λ (z : at + length (digits (drop at l)) ≡ at). omega (arith, next_end, have.from) in
-        let big : high < read_on 0 (digits (drop at l)) = omega (arith, next_value, read_more (n * 10 + d) (digits (drop (i + 1) l))) in
-        too_high low high at (at + length (digits (drop at l))) (read_on 0 (digits (drop at l))) ne big
+    read_over low high l at is g over =
+        let some : (at + length w ≡ at → ⊥) = λ (z : at + length w ≡ at). omega arith in
+        let big : high < read_on 0 w = omega (arith, read_next, read_more (n * 10 + d) (drop (k + 1) w)) in
+        rw (← is) (too_high low high at (at + length w) (read_on 0 w) some big)

@@ -19,7 +19,7 @@ use Rattle.text_line.specs.declared.Fault.TheVariants.{NotTask, Task, NotCost, C
 use Rattle.text_line.specs.declared.NumberFault.{NumberFault}
 use Rattle.text_line.specs.declared.NumberFault.TheVariants.{Missing, Outside}
 use Rattle.text_line.specs.declared.Said.{Said}
-use Rattle.text_line.specs.declared.Said.TheVariants.{Stream, Version, Nothing}
+use Rattle.text_line.specs.declared.Said.TheVariants.{Stream, Version}
 
 -- ---- the line of a stream
 
@@ -198,15 +198,15 @@ abbrev pub version_text : List ℕ
 version_text = letters "version 2"
 
 -- an empty line says nothing
-unfoldable pub line_read : ℕ → List ℕ → Result Said Fault
+unfoldable pub line_read : ℕ → List ℕ → Result (Option Said) Fault
 line_read version l =
-    cond (eqb (length l) 0) (Ok Nothing)
-    (cond (same l version_text) (Ok Version)
-    (leads (stages_at version (most_stages version) no_stream l 0) (λ s. Ok (Stream s))))
+    cond (eqb (length l) 0) (Ok None)
+    (cond (same l version_text) (Ok (Some Version))
+    (leads (stages_at version (most_stages version) no_stream l 0) (λ s. Ok (Some (Stream s)))))
 
 -- how many bytes a line has at most: no stream's has more than 175, and in a text of version 1 none has more than 118
 abbrev pub longest : ℕ → ℕ
 longest version = cond (eqb version 1) 127 191
 
-unfoldable pub judged : ℕ → Row → Result Said Fault
+unfoldable pub judged : ℕ → Row → Result (Option Said) Fault
 judged version r = cond (leb r.len (longest version)) (line_read version (take r.len r.bytes)) (Err LongLine)

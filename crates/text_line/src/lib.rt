@@ -2,11 +2,12 @@
 // in a text of version 2 with its stages: `task 1 cost 2 task 4 cost 3 deadline 40 every 50@0`.
 #![tactic(auto)]
 
-ghost use Rattle.std.specs.Prelude.{◌≡◌, ◌≤◌, ◌++◌, [], length};
-ghost use Rattle.std.specs.List.{fold};
-ghost use Rattle.rules.specs.Streams.{stages_of, tuples_of};
+ghost use Rattle.std.specs.Prelude.{◌≡◌, ◌≤◌, ◌++◌, [], length, not};
+ghost use Rattle.std.specs.List.{fold, position};
+ghost use Rattle.ascii.specs.Decimal.{is_digit};
+ghost use Rattle.rules.specs.Streams.{no_stream, stages_of, tuples_of};
 ghost use Rattle.line.specs.Line.{holding, puts};
-ghost use Rattle.text_line.specs.Lines.{starts_at, ended_at, number_at, field_at, needed, offset_at, every_at, tuple_at, added, finished, tuples_at, alone, jitter_said, each_way_at, jitter_at, limit_at, with_deadline, deadline_at, stages_end, space_at, cost_at, pair_at, staged, most_stages, too_many, stages_at, line_read, longest, judged, stage_text, place_text, stages_text, limit_text};
+ghost use Rattle.text_line.specs.Lines.{starts_at, digits, ended_at, number_at, field_at, needed, offset_at, every_at, tuple_at, added, finished, tuples_at, alone, jitter_said, each_way_at, jitter_at, limit_at, with_deadline, deadline_at, stages_end, space_at, cost_at, pair_at, staged, most_stages, too_many, stages_at, line_read, longest, judged, stage_text, place_text, stages_text, limit_text};
 
 use line::Line;
 use rules::{Stage, Stream, Tuple, TuplePlace};
@@ -41,27 +42,24 @@ pub enum NumberFault {
     Outside,
 }
 
-// What a line says.
+// What a line says that is not empty.
 #[derive(Clone, Copy)]
 pub enum Said {
     Stream(Stream),
     Version,
-    Nothing,
 }
 
 // ---- reading
 
-// kept: a line and a place in it stand as two parameters, for a struct of them is no plainer: every contract would name its two fields
+// kept: a line and a place in it stand as two parameters. A slice of what is left is no plainer: each of the eight functions that hand a place
+// back would hand back a slice within a pair, a Result and once an Option, and its contract would have to map all of that to the bytes.
+// kept: the least and the greatest number stand as two parameters: a RangeInclusive is not Copy, and a contract would have to say that it is not spent.
 
 // The bytes of w stand in the line from `at` on.
-#[tactic(auto, unfolding(crate::specs::Lines::starts_at))]
 fn starts(line: &[u8], at: usize, w: &[u8]) -> bool
     ensures { result ≡ starts_at w.now line.now at }
 {
-    if line.len() < at || line.len() - at < w.len() {
-        return false;
-    }
-    ascii::same(&line[at..at + w.len()], w)
+    at <= line.len() && line[at..].starts_with(w)
 }
 
 // A number whose digits stand from `at` to `end`, and where it ends.
@@ -72,28 +70,39 @@ fn ended(at: usize, end: usize, n: u64, low: u32, high: u32) -> Result<(u32, usi
     if end == at {
         return Err(NumberFault::Missing);
     }
-    if n < u64::from(low) || u64::from(high) < n {
+    if !(u64::from(low)..=u64::from(high)).contains(&n) {
         return Err(NumberFault::Outside);
     }
     Ok((n as u32, end))
+}
+
+// Where the first byte stands that is no digit.
+fn first_other(rest: &[u8]) -> Option<usize>
+    ensures { result ≡ position (λ b. not (is_digit b)) rest.now }
+{
+    rest.iter().position(|b| !ascii::is_digit(*b))
+}
+
+// The digits at the front.
+fn digits(rest: &[u8]) -> &[u8]
+    ensures { result.now ≡ digits rest.now }
+{
+    &rest[..first_other(rest).unwrap_or(rest.len())]
 }
 
 fn number_at(line: &[u8], at: usize, low: u32, high: u32) -> Result<(u32, usize), NumberFault>
     requires { at ≤ length line.now }
     ensures { result ≡ number_at low high line.now at }
 {
+    let digits = digits(&line[at..]);
     let mut n: u64 = 0;
-    for i in at..line.len() {
-        let b = line[i];
-        if !ascii::is_digit(b) {
-            return ended(at, i, n, low, high);
-        }
-        n = n * 10 + ascii::digit_of(b);
+    for b in digits {
+        n = n * 10 + ascii::digit_of(*b);
         if u64::from(u32::MAX) < n {
             return Err(NumberFault::Outside);
         }
     }
-    ended(at, line.len(), n, low, high)
+    ended(at, at + digits.len(), n, low, high)
 }
 
 // The word w, and behind it a number from low to high.
@@ -116,14 +125,18 @@ fn field_at(
 
 // A field that a line needs: what is wrong with the line where it is missing or out of range.
 #[tactic(auto, unfolding(crate::specs::Lines::needed, crate::specs::Lines::by_field))]
-fn needed(
-    field: Result<(u32, usize), NumberFault>,
+fn need(
+    line: &[u8],
+    at: usize,
+    w: &[u8],
+    low: u32,
+    high: u32,
     missing: Fault,
     outside: Fault,
 ) -> Result<(u32, usize), Fault>
-    ensures { result ≡ needed field missing outside }
+    ensures { result ≡ needed (field_at w.now low high line.now at) missing outside }
 {
-    field.map_err(|why| match why {
+    field_at(line, at, w, low, high).map_err(|why| match why {
         NumberFault::Missing => missing,
         NumberFault::Outside => outside,
     })
@@ -133,8 +146,7 @@ fn needed(
 fn offset_at(line: &[u8], at: usize, z: u32, low: u32, high: u32) -> Result<(Tuple, usize), Fault>
     ensures { result ≡ offset_at z low high line.now at }
 {
-    let field = field_at(line, at, b"@", low, high);
-    let (a, end) = needed(field, Fault::NotTuple, Fault::Offset)?;
+    let (a, end) = need(line, at, b"@", low, high, Fault::NotTuple, Fault::Offset)?;
     Ok((Tuple::Every(z, a), end))
 }
 
@@ -142,8 +154,15 @@ fn offset_at(line: &[u8], at: usize, z: u32, low: u32, high: u32) -> Result<(Tup
 fn every_at(line: &[u8], at: usize, low: u32, high: u32) -> Result<(Tuple, usize), Fault>
     ensures { result ≡ every_at low high line.now at }
 {
-    let field = field_at(line, at, b" every ", 1, 1000000);
-    let (z, end) = needed(field, Fault::NotTuple, Fault::Cycle)?;
+    let (z, end) = need(
+        line,
+        at,
+        b" every ",
+        1,
+        1000000,
+        Fault::NotTuple,
+        Fault::Cycle,
+    )?;
     offset_at(line, end, z, low, high)
 }
 
@@ -186,33 +205,29 @@ fn finish(s: Stream) -> Result<Stream, Fault>
     }
 }
 
-// At most `left` tuples more, the offset of the next from low to high.
-#[tactic(auto, unfolding(crate::specs::Lines::tuples_at, crate::specs::Lines::leads))]
-fn tuples(
-    line: &[u8],
-    at: usize,
-    s: Stream,
-    low: u32,
-    high: u32,
-    left: usize,
-) -> Result<Stream, Fault>
-    ensures { result ≡ tuples_at left s low high line.now at }
+// The tuples, at most four: the first offset is 0, and none falls.
+fn tuples(line: &[u8], at: usize, s: Stream) -> Result<Stream, Fault>
+    ensures { result ≡ tuples_at 4 s 0 0 line.now at }
 {
-    if line.len() <= at {
-        return finish(s);
+    let mut next = s;
+    let mut here = at;
+    let mut low = 0;
+    let mut high = 0;
+    for _ in 0..4usize {
+        if line.len() <= here {
+            return finish(next);
+        }
+        let (t, end) = tuple_at(line, here, low, high)?;
+        next = add(next, t);
+        here = end;
+        low = stream_valid::offset_of(t);
+        high = 100000;
     }
-    if left == 0 {
-        return Err(Fault::FiveTuples);
+    if line.len() <= here {
+        finish(next)
+    } else {
+        Err(Fault::FiveTuples)
     }
-    let (t, end) = tuple_at(line, at, low, high)?;
-    tuples(
-        line,
-        end,
-        add(s, t),
-        stream_valid::offset_of(t),
-        100000,
-        left - 1,
-    )
 }
 
 // The line ends behind a jitter.
@@ -241,8 +256,7 @@ fn jitter_said(line: &[u8], at: usize, s: Stream, z: u32, j: u32) -> Result<Stre
 fn each_way_at(line: &[u8], at: usize, s: Stream, z: u32) -> Result<Stream, Fault>
     ensures { result ≡ each_way_at s z line.now at }
 {
-    let field = field_at(line, at, b" ", 0, u32::MAX);
-    let (j, end) = needed(field, Fault::NotJitter, Fault::Jitter)?;
+    let (j, end) = need(line, at, b" ", 0, u32::MAX, Fault::NotJitter, Fault::Jitter)?;
     jitter_said(line, end, s, z, j)
 }
 
@@ -250,8 +264,15 @@ fn each_way_at(line: &[u8], at: usize, s: Stream, z: u32) -> Result<Stream, Faul
 fn jitter_at(line: &[u8], at: usize, s: Stream) -> Result<Stream, Fault>
     ensures { result ≡ jitter_at s line.now at }
 {
-    let field = field_at(line, at, b" jitter ", 0, u32::MAX);
-    let (z, end) = needed(field, Fault::NotJitter, Fault::Jitter)?;
+    let (z, end) = need(
+        line,
+        at,
+        b" jitter ",
+        0,
+        u32::MAX,
+        Fault::NotJitter,
+        Fault::Jitter,
+    )?;
     each_way_at(line, end, s, z)
 }
 
@@ -263,7 +284,7 @@ fn limit_at(line: &[u8], at: usize, s: Stream) -> Result<Stream, Fault>
     if starts(line, at, b" jitter") {
         jitter_at(line, at, s)
     } else {
-        tuples(line, at, s, 0, 0, 4)
+        tuples(line, at, s)
     }
 }
 
@@ -277,8 +298,15 @@ fn with_deadline(s: Stream, d: u32) -> Stream
 fn deadline_at(line: &[u8], at: usize, s: Stream) -> Result<Stream, Fault>
     ensures { result ≡ deadline_at s line.now at }
 {
-    let field = field_at(line, at, b"deadline ", 1, 200000);
-    let (d, end) = needed(field, Fault::NotDeadline, Fault::Deadline)?;
+    let (d, end) = need(
+        line,
+        at,
+        b"deadline ",
+        1,
+        200000,
+        Fault::NotDeadline,
+        Fault::Deadline,
+    )?;
     limit_at(line, end, with_deadline(s, d))
 }
 
@@ -312,8 +340,7 @@ fn space_at(line: &[u8], at: usize, task: u32, cost: u32) -> Result<(Stage, usiz
 fn cost_at(line: &[u8], at: usize, task: u32) -> Result<(Stage, usize), Fault>
     ensures { result ≡ cost_at task line.now at }
 {
-    let field = field_at(line, at, b" cost ", 1, 65535);
-    let (cost, end) = needed(field, Fault::NotCost, Fault::Cost)?;
+    let (cost, end) = need(line, at, b" cost ", 1, 65535, Fault::NotCost, Fault::Cost)?;
     space_at(line, end, task, cost)
 }
 
@@ -377,39 +404,37 @@ fn last_stage(line: &[u8], at: usize, s: Stream, version: u32) -> Result<Stream,
     }
 }
 
-// At most `left` stages more.
-#[tactic(auto, unfolding(crate::specs::Lines::stages_at, crate::specs::Lines::by_stage))]
-fn stages(line: &[u8], at: usize, s: Stream, version: u32, left: usize) -> Result<Stream, Fault>
-    ensures { result ≡ stages_at version left s line.now at }
+// The stages, and what stands behind them.
+fn stages(line: &[u8], version: u32) -> Result<Stream, Fault>
+    ensures { result ≡ stages_at version (most_stages version) no_stream line.now 0 }
 {
-    if left == 0 {
-        return last_stage(line, at, s, version);
+    let mut next = stream_valid::no_stream();
+    let mut here = 0;
+    for _ in 0..most_stages(version) {
+        match pair_at(line, here)? {
+            Some((g, end)) => {
+                next = add_stage(next, g);
+                here = end;
+            }
+            None => return stages_end(line, here, next),
+        }
     }
-    match pair_at(line, at)? {
-        Some((g, end)) => stages(line, end, add_stage(s, g), version, left - 1),
-        None => stages_end(line, at, s),
-    }
+    last_stage(line, here, next, version)
 }
 
-// What a line says in a text of this version.
+// What a line says in a text of this version; nothing where it is empty.
 #[tactic(auto, unfolding(crate::specs::Lines::line_read, crate::specs::Lines::leads))]
-pub fn read_line(line: &[u8], version: u32) -> Result<Said, Fault>
+pub fn read_line(line: &[u8], version: u32) -> Result<Option<Said>, Fault>
     ensures { result ≡ line_read version line.now }
 {
     if line.is_empty() {
-        return Ok(Said::Nothing);
+        return Ok(None);
     }
-    if ascii::same(line, b"version 2") {
-        return Ok(Said::Version);
+    if line == b"version 2".as_slice() {
+        return Ok(Some(Said::Version));
     }
-    let s = stages(
-        line,
-        0,
-        stream_valid::no_stream(),
-        version,
-        most_stages(version),
-    )?;
-    Ok(Said::Stream(s))
+    let s = stages(line, version)?;
+    Ok(Some(Said::Stream(s)))
 }
 
 // How many bytes a line has at most in a text of this version.
@@ -421,7 +446,7 @@ fn longest_line(version: u32) -> usize
 
 // What the tidy bytes of a line say in a text of this version.
 #[tactic(auto, unfolding(crate::specs::Lines::judged))]
-pub fn judge(row: Row, version: u32) -> Result<Said, Fault>
+pub fn judge(row: Row, version: u32) -> Result<Option<Said>, Fault>
     ensures { result ≡ judged version row }
 {
     if row.len <= longest_line(version) {

@@ -14,10 +14,10 @@ use Rattle.rules.specs.declared.Stream.{Stream}
 use Rattle.rules.specs.Sheet.{set_of}
 use Rattle.text_line.specs.declared.Fault.{Fault}
 use Rattle.text_line.specs.declared.Fault.TheVariants.{LateVersion, ManyStreams}
-use Rattle.std.specs.Prelude.{Result, Ok, Err}
+use Rattle.std.specs.Prelude.{Option, Some, None, Result, Ok, Err}
 use Rattle.rules.specs.declared.Set.{Set}
 use Rattle.text_line.specs.declared.Said.{Said}
-use Rattle.text_line.specs.declared.Said.TheVariants.{Stream as IsStream, Version, Nothing}
+use Rattle.text_line.specs.declared.Said.TheVariants.{Stream as IsStream, Version}
 use Rattle.text_line.specs.Lines.{leads, judged, longest}
 use Rattle.text_line.proofs.Judged.{judged_short, judged_long}
 use Rattle.text_tidy.specs.declared.Spot.{Spot}
@@ -67,7 +67,7 @@ abbrev drafted : ℕ → ℕ → List Stream → Tidy → Draft
 drafted version n ss t = record { set = set_of version ss; number = n; tidy = t }
 
 -- a line that ends: what comes after it decides
-told : ℕ → ℕ → List Stream → Result Said Fault → List (List ℕ) → Result Set BadLine
+told : ℕ → ℕ → List Stream → Result (Option Said) Fault → List (List ℕ) → Result Set BadLine
 told version n ss r ls =
     by_said r (λ s. cond (ltb (length ss) 16) (lines_read version (following n) (ss ++ (s ∷ [])) ls) (is_bad n ManyStreams))
     (cond (untold version (length ss)) (lines_read 2 (following n) ss ls) (is_bad n LateVersion)) (lines_read version (following n) ss ls)
@@ -75,16 +75,16 @@ told version n ss r ls =
 
 module _ (f : Draft → Result Set BadLine) (ls : List (List ℕ)) (version n : ℕ) (ss : List Stream) (t : Tidy)
     (on : (u m : ℕ) (rs : List Stream) → f (drafted u m rs fresh) ≡ lines_read u m rs ls) where
-  ends_as : (w : Result Said Fault)
+  ends_as : (w : Result (Option Said) Fault)
       → leads (by_said w (λ s. with_stream (set_of version ss) n s) (with_version (set_of version ss) n) (Ok (onward (set_of version ss) n)) (λ why. is_bad n why)) f
       ≡ told version n ss w ls
   unfolding with_stream with_version onward leads told
-  ends_as (Ok (IsStream s)) =
+  ends_as (Ok (Some (IsStream s))) =
       by_test (ltb (length ss) 16)
       (λ e. rw (e, set_more version ss s (ltb-true (length ss) 16 e)) (on version (following n) (ss ++ (s ∷ []))))
       (λ e. rw e)
-  ends_as (Ok Version) = by_test (untold version (length ss)) (λ e. rw e (on 2 (following n) ss)) (λ e. rw e)
-  ends_as (Ok Nothing) = on version (following n) ss
+  ends_as (Ok (Some Version)) = by_test (untold version (length ss)) (λ e. rw e (on 2 (following n) ss)) (λ e. rw e)
+  ends_as (Ok None) = on version (following n) ss
   ends_as (Err why) = refl
 
   ends : (v : List ℕ) → t.row ≡ row_of v → leads (line_ended (drafted version n ss t)) f ≡ told version n ss (line_says version v) ls

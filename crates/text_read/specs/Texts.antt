@@ -1,6 +1,6 @@
 -- A readable text of a set: one stream a line; in version 2 `version 2` stands before them.
 -- Assumes nothing.
-use Rattle.std.specs.Prelude.{ℕ, ◌+◌, Bool, cond, ◌&&◌, List, [], ◌∷◌, ◌++◌, length, set, eqb, leb, ltb, Result, Ok, Err}
+use Rattle.std.specs.Prelude.{ℕ, ◌+◌, Bool, cond, ◌&&◌, List, [], ◌∷◌, ◌++◌, length, set, eqb, leb, ltb, Option, Some, None, Result, Ok, Err}
 use Prim.Native.Char.{code}
 use Rattle.rules.specs.declared.Stream.{Stream}
 use Rattle.rules.specs.declared.Set.{Set}
@@ -9,7 +9,7 @@ use Rattle.rules.specs.Sheet.{set_of}
 use Rattle.text_line.specs.declared.Fault.{Fault}
 use Rattle.text_line.specs.declared.Fault.TheVariants.{LongLine, LateVersion, ManyStreams}
 use Rattle.text_line.specs.declared.Said.{Said}
-use Rattle.text_line.specs.declared.Said.TheVariants.{Stream as IsStream, Version, Nothing}
+use Rattle.text_line.specs.declared.Said.TheVariants.{Stream as IsStream, Version}
 use Rattle.text_line.specs.Lines.{leads, line_read, longest, judged}
 use Rattle.text_tidy.specs.Tidied.{tidied, fresh, kept_of}
 use Rattle.text_read.specs.declared.BadLine.{BadLine}
@@ -30,15 +30,15 @@ more_lines [] = []
 more_lines (b ∷ l) = cond (is_newline b) (first_line l ∷ more_lines l) (more_lines l)
 
 -- what a line says in a text of a version, once it is tidy
-unfoldable pub line_says : ℕ → List ℕ → Result Said Fault
+unfoldable pub line_says : ℕ → List ℕ → Result (Option Said) Fault
 line_says version l = cond (leb (length l) (longest version)) (line_read version l) (Err LongLine)
 
 -- what a line that says this leads to
 module _ {A : Type 0} where
-  abbrev pub by_said : Result Said Fault → (Stream → A) → A → A → (Fault → A) → A
-  by_said (Ok (IsStream s)) stream version nothing faulty = stream s
-  by_said (Ok Version) stream version nothing faulty = version
-  by_said (Ok Nothing) stream version nothing faulty = nothing
+  abbrev pub by_said : Result (Option Said) Fault → (Stream → A) → A → A → (Fault → A) → A
+  by_said (Ok (Some (IsStream s))) stream version nothing faulty = stream s
+  by_said (Ok (Some Version)) stream version nothing faulty = version
+  by_said (Ok None) stream version nothing faulty = nothing
   by_said (Err why) stream version nothing faulty = faulty why
 
 -- the number of the next line; it is counted up to 2^64 - 1

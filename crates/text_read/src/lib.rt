@@ -23,115 +23,121 @@ pub struct Draft {
     pub tidy: Tidy,
 }
 
-// A text of which no byte has come.
-#[tactic(auto, unfolding(crate::specs::Texts::start_of))]
-pub fn start() -> Draft
-    ensures { result ≡ start_of }
-{
-    Draft {
-        set: stream_valid::empty_set(),
-        number: 1,
-        tidy: text_tidy::start(),
+impl Draft {
+    // A text of which no byte has come.
+    #[tactic(auto, unfolding(crate::specs::Texts::start_of))]
+    pub fn start() -> Draft
+        ensures { result ≡ start_of }
+    {
+        Draft {
+            set: stream_valid::empty_set(),
+            number: 1,
+            tidy: text_tidy::start(),
+        }
     }
-}
 
-// On with the next line. The lines are counted up to 2^64 - 1.
-#[tactic(auto, unfolding(crate::specs::Texts::onward, crate::specs::Texts::following))]
-fn go_on(set: Set, number: u64) -> Draft
-    ensures { result ≡ onward set number }
-{
-    Draft {
-        set,
-        number: number.saturating_add(1),
-        tidy: text_tidy::start(),
+    // On with the next line, and with this set. The lines are counted up to 2^64 - 1.
+    #[tactic(auto, unfolding(crate::specs::Texts::onward, crate::specs::Texts::following))]
+    fn go_on(self, set: Set) -> Draft
+        ensures { result ≡ onward set self.number }
+    {
+        Draft {
+            set,
+            number: self.number.saturating_add(1),
+            tidy: text_tidy::start(),
+        }
     }
-}
 
-// One stream more.
-#[tactic(auto, unfolding(crate::specs::Texts::with_stream))]
-fn add(set: Set, number: u64, s: Stream) -> Result<Draft, BadLine>
-    ensures { result ≡ with_stream set number s }
-{
-    let k = set.count;
-    if k < 16 {
-        let mut next = set;
-        next.streams[k] = s;
-        next.count = k + 1;
-        Ok(go_on(next, number))
-    } else {
-        Err(BadLine {
-            number,
-            fault: Fault::ManyStreams,
+    // This line is the first bad one.
+    fn bad(self, fault: Fault) -> BadLine
+        ensures { (result.number ≡ self.number) × (result.fault ≡ fault) }
+    {
+        BadLine {
+            number: self.number,
+            fault,
+        }
+    }
+
+    // One stream more.
+    #[tactic(auto, unfolding(crate::specs::Texts::with_stream))]
+    fn add(self, s: Stream) -> Result<Draft, BadLine>
+        ensures { result ≡ with_stream self.set self.number s }
+    {
+        let k = self.set.count;
+        if k < 16 {
+            let mut next = self.set;
+            next.streams[k] = s;
+            next.count = k + 1;
+            Ok(self.go_on(next))
+        } else {
+            Err(self.bad(Fault::ManyStreams))
+        }
+    }
+
+    // `version 2`: nothing but empty lines may stand before it.
+    #[tactic(auto, unfolding(crate::specs::Texts::with_version))]
+    fn say_version(self) -> Result<Draft, BadLine>
+        ensures { result ≡ with_version self.set self.number }
+    {
+        let set = self.set;
+        if set.version == 1 && set.count == 0 {
+            Ok(self.go_on(Set { version: 2, ..set }))
+        } else {
+            Err(self.bad(Fault::LateVersion))
+        }
+    }
+
+    // The line ends here.
+    #[tactic(auto, unfolding(crate::specs::Texts::line_ended))]
+    fn end_line(self) -> Result<Draft, BadLine>
+        ensures { result ≡ line_ended self }
+    {
+        match text_line::judge(self.tidy.row, self.set.version) {
+            Ok(Some(Said::Stream(s))) => self.add(s),
+            Ok(Some(Said::Version)) => self.say_version(),
+            Ok(None) => Ok(self.go_on(self.set)),
+            Err(fault) => Err(self.bad(fault)),
+        }
+    }
+
+    // A text after one more byte.
+    #[tactic(auto, unfolding(crate::specs::Texts::step_of))]
+    pub fn step(self, b: u8) -> Result<Draft, BadLine>
+        ensures { result ≡ step_of self b }
+    {
+        if b == b'\n' {
+            return self.end_line();
+        }
+        Ok(Draft {
+            tidy: text_tidy::keep(self.tidy, b),
+            ..self
         })
     }
-}
 
-// `version 2`: nothing but empty lines may stand before it.
-#[tactic(auto, unfolding(crate::specs::Texts::with_version))]
-fn say_version(set: Set, number: u64) -> Result<Draft, BadLine>
-    ensures { result ≡ with_version set number }
-{
-    if set.version == 1 && set.count == 0 {
-        Ok(go_on(Set { version: 2, ..set }, number))
-    } else {
-        Err(BadLine {
-            number,
-            fault: Fault::LateVersion,
-        })
+    // A text after a piece of its bytes.
+    pub fn feed(self, piece: &[u8]) -> Result<Draft, BadLine>
+        ensures { result ≡ feed_of self piece.now }
+    {
+        let mut next = self;
+        for b in piece {
+            next = next.step(*b)?;
+        }
+        Ok(next)
     }
-}
 
-// The line ends here.
-#[tactic(auto, unfolding(crate::specs::Texts::line_ended))]
-fn end_line(d: Draft) -> Result<Draft, BadLine>
-    ensures { result ≡ line_ended d }
-{
-    let number = d.number;
-    match text_line::judge(d.tidy.row, d.set.version) {
-        Ok(Said::Stream(s)) => add(d.set, number, s),
-        Ok(Said::Version) => say_version(d.set, number),
-        Ok(Said::Nothing) => Ok(go_on(d.set, number)),
-        Err(fault) => Err(BadLine { number, fault }),
+    // The text ends here: its last line counts, with or without a newline.
+    #[tactic(auto, unfolding(crate::specs::Texts::close_of, text_line::specs::Lines::leads))]
+    pub fn close(self) -> Result<Set, BadLine>
+        ensures { result ≡ close_of self }
+    {
+        let last = self.step(b'\n')?;
+        Ok(last.set)
     }
-}
-
-// A text after one more byte.
-#[tactic(auto, unfolding(crate::specs::Texts::step_of))]
-pub fn step(d: Draft, b: u8) -> Result<Draft, BadLine>
-    ensures { result ≡ step_of d b }
-{
-    if b == b'\n' {
-        return end_line(d);
-    }
-    Ok(Draft {
-        tidy: text_tidy::keep(d.tidy, b),
-        ..d
-    })
-}
-
-// A text after a piece of its bytes.
-pub fn feed(d: Draft, piece: &[u8]) -> Result<Draft, BadLine>
-    ensures { result ≡ feed_of d piece.now }
-{
-    let mut next = d;
-    for b in piece {
-        next = step(next, *b)?;
-    }
-    Ok(next)
-}
-
-// The text ends here: its last line counts, with or without a newline.
-#[tactic(auto, unfolding(crate::specs::Texts::close_of, text_line::specs::Lines::leads))]
-pub fn close(d: Draft) -> Result<Set, BadLine>
-    ensures { result ≡ close_of d }
-{
-    let last = step(d, b'\n')?;
-    Ok(last.set)
 }
 
 // A whole text: its set, or its first bad line.
 pub fn read(bytes: &[u8]) -> Result<Set, BadLine>
     ensures { result ≡ text_read bytes.now }
 {
-    close(feed(start(), bytes)?)
+    Draft::start().feed(bytes)?.close()
 }

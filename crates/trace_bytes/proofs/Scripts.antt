@@ -8,9 +8,13 @@ use mathlib.Core.List.{List, [], ◌∷◌}
 use lib.Dec.{eqb}
 use borrow.Author.Tests.{eqb-true}
 use Rattle.rules.specs.declared.Call.TheVariants.{Posts, Units}
+use Rattle.std.specs.Prelude.{Result, Ok, Err}
+use Rattle.rules.specs.declared.Refusal.{Refusal}
+use Rattle.rules.specs.declared.Refusal.TheVariants.{BadByte}
 use Rattle.ascii.specs.Hex.{is_hex, hex_of}
-use Rattle.trace_bytes.specs.declared.Heard.TheVariants.{Skip, More, Makes, Bad}
-use Rattle.trace_bytes.specs.Steps.{between_steps, after_p}
+use Rattle.trace_bytes.specs.declared.Heard.{Heard}
+use Rattle.trace_bytes.specs.declared.Heard.TheVariants.{Skip, More, Makes}
+use Rattle.trace_bytes.specs.Steps.{between_steps, after_p, heard_of}
 use Rattle.trace_bytes.specs.Scripts.{Script, over, stops, step_then, byte_then, digit_then, script_of, heard_then, hearing}
 
 -- a byte between steps: with a p comes what the digit's byte says
@@ -19,7 +23,7 @@ unfolding between_steps
 between b s w = go (eqb b (code "p")) (eqb b (code "u")) (eqb b (code "d")) (eqb b (code " ") || eqb b (code "\n"))
   where
     go : (p u d k : Bool)
-        → heard_then (cond p More (cond u (Makes (Units false)) (cond d (Makes (Units true)) (cond k Skip Bad)))) s w
+        → heard_then (cond p (Ok More) (cond u (Ok (Makes (Units false))) (cond d (Ok (Makes (Units true))) (cond k (Ok Skip) (Err BadByte))))) s w
         ≡ cond p w (cond u (step_then (Units false) s) (cond d (step_then (Units true) s) (cond k s stops)))
     go true u d k = refl
     go false true d k = refl
@@ -32,7 +36,7 @@ behind_p : (d : ℕ) (s w : Script) → heard_then (after_p d) s w ≡ digit_the
 unfolding after_p
 behind_p d s w = go (is_hex d)
   where
-    go : (h : Bool) → heard_then (cond h (Makes (Posts (hex_of d))) Bad) s w ≡ cond h (step_then (Posts (hex_of d)) s) stops
+    go : (h : Bool) → heard_then (cond h (Ok (Makes (Posts (hex_of d)))) (Err BadByte)) s w ≡ cond h (step_then (Posts (hex_of d)) s) stops
     go true = refl
     go false = refl
 
@@ -43,6 +47,27 @@ last_byte b = go (eqb b (code "p")) refl
     go : (t : Bool) → eqb b (code "p") ≡ t → cond t stops (byte_then b over) ≡ byte_then b over
     go true e = sym (ap (λ (n : ℕ). byte_then n over) (eqb-true b (code "p") e))
     go false e = refl
+
+-- what is no step is refused with 9
+abbrev pub Nine : Result Heard Refusal → Type 0
+Nine (Ok h) = true ≡ true
+Nine (Err why) = why ≡ BadByte
+
+pub heard_nine : (waiting : Bool) (b : ℕ) → Nine (heard_of waiting b)
+unfolding after_p between_steps
+heard_nine true b = go (is_hex b)
+  where
+    go : (h : Bool) → Nine (cond h (Ok (Makes (Posts (hex_of b)))) (Err BadByte))
+    go true = refl
+    go false = refl
+heard_nine false b = go (eqb b (code "p")) (eqb b (code "u")) (eqb b (code "d")) (eqb b (code " ") || eqb b (code "\n"))
+  where
+    go : (p u d k : Bool) → Nine (cond p (Ok More) (cond u (Ok (Makes (Units false))) (cond d (Ok (Makes (Units true))) (cond k (Ok Skip) (Err BadByte)))))
+    go true u d k = refl
+    go false true d k = refl
+    go false false true k = refl
+    go false false false true = refl
+    go false false false false = refl
 
 pub script_heard : (l : List ℕ) → script_of l ≡ hearing false l
 unfolding script_of hearing

@@ -1,12 +1,13 @@
 -- Document 01, "The trace program": the steps of a whole trace; and the same heard byte by byte.
 -- Assumes nothing.
-use Rattle.std.specs.Prelude.{ℕ, Bool, true, false, cond, ◌||◌, List, [], ◌∷◌, eqb}
+use Rattle.std.specs.Prelude.{ℕ, Bool, true, false, cond, ◌||◌, List, [], ◌∷◌, eqb, Result, Ok, Err}
 use Prim.Native.Char.{code}
 use Rattle.rules.specs.declared.Call.{Call}
 use Rattle.rules.specs.declared.Call.TheVariants.{Posts, Units}
 use Rattle.ascii.specs.Hex.{is_hex, hex_of}
+use Rattle.rules.specs.declared.Refusal.{Refusal}
 use Rattle.trace_bytes.specs.declared.Heard.{Heard}
-use Rattle.trace_bytes.specs.declared.Heard.TheVariants.{Skip, More, Makes, Bad}
+use Rattle.trace_bytes.specs.declared.Heard.TheVariants.{Skip, More, Makes}
 use Rattle.trace_bytes.specs.Steps.{heard_of, end_of}
 
 -- what a trace asks for: its steps, and whether a byte that is none came behind them
@@ -46,11 +47,11 @@ script_of (b ∷ d ∷ l) = cond (eqb b (code "p")) (digit_then d (script_of l))
 -- ---- byte by byte
 
 -- what is heard, and the script behind it: where no p waits for its digit, and where one does
-abbrev pub heard_then : Heard → Script → Script → Script
-heard_then Skip s w = s
-heard_then More s w = w
-heard_then (Makes c) s w = step_then c s
-heard_then Bad s w = stops
+abbrev pub heard_then : Result Heard Refusal → Script → Script → Script
+heard_then (Ok Skip) s w = s
+heard_then (Ok More) s w = w
+heard_then (Ok (Makes c)) s w = step_then c s
+heard_then (Err why) s w = stops
 
 unfoldable pub hearing : Bool → List ℕ → Script
 hearing waiting [] = heard_then (end_of waiting) over over

@@ -4,7 +4,7 @@
 ghost use Rattle.std.specs.Prelude.{◌≡◌};
 ghost use Rattle.trace_bytes.specs.Steps.{between_steps, after_p, heard_of, end_of};
 
-use rules::Call;
+use rules::{Call, Refusal};
 
 // What is asked.
 #[derive(Clone, Copy)]
@@ -15,35 +15,34 @@ pub enum Heard {
     More,
     // A step.
     Makes(Call),
-    Bad,
 }
 
 #[tactic(auto, unfolding(crate::specs::Steps::between_steps))]
-fn between_steps(b: u8) -> Heard
+fn between_steps(b: u8) -> Result<Heard, Refusal>
     ensures { result ≡ between_steps b }
 {
     match b {
-        b'p' => Heard::More,
-        b'u' => Heard::Makes(Call::Units(false)),
-        b'd' => Heard::Makes(Call::Units(true)),
-        b' ' | b'\n' => Heard::Skip,
-        _ => Heard::Bad,
+        b'p' => Ok(Heard::More),
+        b'u' => Ok(Heard::Makes(Call::Units(false))),
+        b'd' => Ok(Heard::Makes(Call::Units(true))),
+        b' ' | b'\n' => Ok(Heard::Skip),
+        _ => Err(Refusal::BadByte),
     }
 }
 
 #[tactic(auto, unfolding(crate::specs::Steps::after_p))]
-fn after_p(b: u8) -> Heard
+fn after_p(b: u8) -> Result<Heard, Refusal>
     ensures { result ≡ after_p b }
 {
     if ascii::is_hex(b) {
-        Heard::Makes(Call::Posts(usize::from(ascii::hex_of(b))))
+        Ok(Heard::Makes(Call::Posts(usize::from(ascii::hex_of(b)))))
     } else {
-        Heard::Bad
+        Err(Refusal::BadByte)
     }
 }
 
-// A byte of a trace; a p may wait for its digit.
-pub fn hear(waiting: bool, b: u8) -> Heard
+// A byte of a trace; a p may wait for its digit. 9 for a byte that is no step.
+pub fn hear(waiting: bool, b: u8) -> Result<Heard, Refusal>
     ensures { result ≡ heard_of waiting b }
 {
     if waiting {
@@ -53,9 +52,12 @@ pub fn hear(waiting: bool, b: u8) -> Heard
     }
 }
 
-// The end of a trace.
-pub fn at_end(waiting: bool) -> Heard
+// The end of a trace. 9 where a p waits for its digit.
+pub fn at_end(waiting: bool) -> Result<Heard, Refusal>
     ensures { result ≡ end_of waiting }
 {
-    if waiting { Heard::Bad } else { Heard::Skip }
+    if waiting {
+        return Err(Refusal::BadByte);
+    }
+    Ok(Heard::Skip)
 }

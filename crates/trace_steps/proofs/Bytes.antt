@@ -11,7 +11,8 @@ use lib.Seq.{drop-cons, drop-drop, length-take-le}
 use Rattle.rules.specs.declared.State.{State}
 use Rattle.rules.specs.declared.Call.{Call}
 use Rattle.rules.specs.declared.CallResult.{CallResult}
-use Rattle.rules.specs.declared.Refusal.TheVariants.{BadByte}
+use Rattle.std.specs.Prelude.{Result, Ok, Err}
+use Rattle.rules.specs.declared.Refusal.{Refusal}
 use Rattle.rules.specs.Numbers.{number, refused, call_says}
 use Rattle.rules.specs.Steps.{call_of}
 use Rattle.line.specs.declared.Line.{Line}
@@ -19,7 +20,7 @@ use Rattle.line.specs.Line.{holding}
 use Rattle.answer_words.specs.Words.{says, step_line}
 use Rattle.answer_words.proofs.Lengths.{says_short, step_short}
 use Rattle.trace_bytes.specs.declared.Heard.{Heard}
-use Rattle.trace_bytes.specs.declared.Heard.TheVariants.{Skip, More, Makes, Bad}
+use Rattle.trace_bytes.specs.declared.Heard.TheVariants.{Skip, More, Makes}
 use Rattle.trace_bytes.specs.Steps.{heard_of, end_of as at_end}
 use Rattle.page.specs.Pages.{appended, end_of}
 use Rattle.page.proofs.Rooms.{end_at, holds_then, same_size, rest_stays}
@@ -30,11 +31,11 @@ use Rattle.trace_steps.specs.Turns.{going, next_tracing, next_text, tracing_afte
 -- a step, from the scheduler's answer and its line
 pub step_turn : (s : State) (c : Call) (x : CallResult) (l : Line) (t : Turn) → x ≡ call_of s c
     → l ≡ holding (step_line s.clock (call_says x.answer)) → t ≡ record { tracing = going x.state false; line = l }
-    → t ≡ record { tracing = next_tracing s (Makes c); line = holding (next_text s (Makes c)) }
+    → t ≡ record { tracing = next_tracing s (Ok (Makes c)); line = holding (next_text s (Ok (Makes c))) }
 step_turn s c x l t e f g = g ∙ rw (f, e)
 
 -- a byte for a trace that goes on, and for one that has stopped
-pub alive : (r : Tracing) (b : ℕ) (h : Heard) (t : Turn) → r.live ≡ true → h ≡ heard_of r.waiting b
+pub alive : (r : Tracing) (b : ℕ) (h : Result Heard Refusal) (t : Turn) → r.live ≡ true → h ≡ heard_of r.waiting b
     → t ≡ record { tracing = next_tracing r.state h; line = holding (next_text r.state h) }
     → t ≡ record { tracing = tracing_after r b; line = holding (text_after r b) }
 unfolding tracing_after text_after
@@ -46,12 +47,12 @@ unfolding tracing_after text_after
 stopped r b l a e = rw (a, e)
 
 -- no byte prints more than a line has room for
-heard_short : (s : State) (h : Heard) → length (next_text s h) ≤ 128
-heard_short s Skip = omega arith
-heard_short s More = omega arith
-heard_short s (Makes c) = step_short s.clock (call_says (call_of s c).answer)
-heard_short s Bad =
-    omega (arith, length-append (says (refused (number BadByte))) (10 ∷ []), says_short (refused (number BadByte)))
+heard_short : (s : State) (h : Result Heard Refusal) → length (next_text s h) ≤ 128
+heard_short s (Ok Skip) = omega arith
+heard_short s (Ok More) = omega arith
+heard_short s (Ok (Makes c)) = step_short s.clock (call_says (call_of s c).answer)
+heard_short s (Err why) =
+    omega (arith, length-append (says (refused (number why))) (10 ∷ []), says_short (refused (number why)))
 
 text_short : (r : Tracing) (b : ℕ) → length (text_after r b) ≤ 128
 unfolding text_after
@@ -153,7 +154,7 @@ feed_end r₀ r piece out₀ out i at h m g =
     )
 
 -- the end of the trace, of one that goes on and of one that has stopped
-pub end_alive : (t : Tracing) (h : Heard) (u : Turn) → t.live ≡ true → h ≡ at_end t.waiting
+pub end_alive : (t : Tracing) (h : Result Heard Refusal) (u : Turn) → t.live ≡ true → h ≡ at_end t.waiting
     → u ≡ record { tracing = next_tracing t.state h; line = holding (next_text t.state h) } → Ending t u.line
 unfolding text_end
 end_alive t h u a e f = rw (a, ← e, f)

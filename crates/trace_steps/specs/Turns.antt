@@ -3,7 +3,7 @@
 use Rattle.std.specs.Prelude.{ℕ, ◌*◌, ◌≤◌, ◌<◌, ◌≡◌, length, drop, Bool, true, false, cond, List, [], ◌∷◌, ◌++◌}
 use Rattle.rules.specs.declared.Set.{Set}
 use Rattle.rules.specs.declared.State.{State}
-use Rattle.std.specs.Prelude.{Result, is_ok}
+use Rattle.std.specs.Prelude.{Result, Ok, Err, is_ok}
 use Rattle.rules.specs.declared.Refusal.{Refusal}
 use Rattle.rules.specs.declared.ReadResult.{ReadResult}
 use Rattle.rules.specs.declared.Refusal.TheVariants.{BadByte}
@@ -15,7 +15,7 @@ use Rattle.line.specs.declared.Line.{Line}
 use Rattle.line.specs.Line.{line_room, holding}
 use Rattle.answer_words.specs.Words.{says, line_of, step_line}
 use Rattle.trace_bytes.specs.declared.Heard.{Heard}
-use Rattle.trace_bytes.specs.declared.Heard.TheVariants.{Skip, More, Makes, Bad}
+use Rattle.trace_bytes.specs.declared.Heard.TheVariants.{Skip, More, Makes}
 use Rattle.trace_bytes.specs.Steps.{heard_of, end_of}
 use Rattle.trace_steps.specs.declared.Tracing.{Tracing}
 use Rattle.trace_steps.specs.declared.Turn.{Turn}
@@ -47,22 +47,22 @@ pub record Beginning (r : ReadResult) (t : Turn) : Type 0 where
 abbrev pub going : State → Bool → Tracing
 going s waiting = record { state = s; waiting = waiting; live = true }
 
-abbrev pub next_tracing : State → Heard → Tracing
-next_tracing s Skip = going s false
-next_tracing s More = going s true
-next_tracing s (Makes c) = going (call_of s c).state false
-next_tracing s Bad = record { state = s; waiting = false; live = false }
+abbrev pub next_tracing : State → Result Heard Refusal → Tracing
+next_tracing s (Ok Skip) = going s false
+next_tracing s (Ok More) = going s true
+next_tracing s (Ok (Makes c)) = going (call_of s c).state false
+next_tracing s (Err why) = record { state = s; waiting = false; live = false }
 
 -- "Any other byte, or p without its digit, prints the line `refused 9`, with no clock, and stops."
 abbrev pub nine : List ℕ
 nine = line_of (says (refused (number BadByte)))
 
 -- "Each step prints the clock before it and its answer"
-abbrev pub next_text : State → Heard → List ℕ
-next_text s Skip = []
-next_text s More = []
-next_text s (Makes c) = step_line s.clock (call_says (call_of s c).answer)
-next_text s Bad = nine
+abbrev pub next_text : State → Result Heard Refusal → List ℕ
+next_text s (Ok Skip) = []
+next_text s (Ok More) = []
+next_text s (Ok (Makes c)) = step_line s.clock (call_says (call_of s c).answer)
+next_text s (Err why) = line_of (says (refused (number why)))
 
 -- a byte; a trace that has stopped takes no more
 unfoldable pub tracing_after : Tracing → ℕ → Tracing

@@ -1,7 +1,7 @@
 // The trace program: the steps that the bytes of a trace ask for, and all that is printed.
 #![tactic(auto)]
 
-ghost use Rattle.std.specs.Prelude.{◌≡◌, true, false, ◌++◌, [], ◌+◌, ◌*◌, ◌≤◌, length, drop};
+ghost use Rattle.std.specs.Prelude.{Ok, Err, ◌≡◌, true, false, ◌++◌, [], ◌+◌, ◌*◌, ◌≤◌, length, drop};
 ghost use Rattle.line.specs.Line.{line_room, holding};
 ghost use Rattle.trace_steps.specs.Turns.{tracing_from, Beginning, going, next_tracing, next_text, tracing_after, text_after, tracing_on, text_on, Ending, PieceTraced};
 
@@ -61,22 +61,22 @@ fn turn_at(state: State, line: Line) -> Turn
 }
 
 fn stepped(s: State, c: Call) -> Turn
-    ensures { result ≡ record { tracing = next_tracing s (Heard.Makes c); line = holding (next_text s (Heard.Makes c)) } }
+    ensures { result ≡ record { tracing = next_tracing s (Ok (Heard.Makes c)); line = holding (next_text s (Ok (Heard.Makes c))) } }
 {
     let clock = s.clock;
     let r = scheduler::call(s, c);
     turn_at(r.state, answer_words::call_line(clock, r.answer))
 }
 
-fn refused(s: State) -> Turn
-    ensures { result ≡ record { tracing = next_tracing s Heard.Bad; line = holding (next_text s Heard.Bad) } }
+fn refused(s: State, why: Refusal) -> Turn
+    ensures { result ≡ record { tracing = next_tracing s (Err why); line = holding (next_text s (Err why)) } }
 {
     let tracing = Tracing {
         state: s,
         waiting: false,
         live: false,
     };
-    let line = answer_words::verdict_line(Verdict::Refused(Refusal::BadByte));
+    let line = answer_words::verdict_line(Verdict::Refused(why));
     Turn { tracing, line }
 }
 
@@ -92,14 +92,14 @@ fn skipped(s: State, waiting: bool) -> Turn
     Turn { tracing, line }
 }
 
-fn heard(s: State, h: Heard) -> Turn
+fn heard(s: State, h: Result<Heard, Refusal>) -> Turn
     ensures { result ≡ record { tracing = next_tracing s h; line = holding (next_text s h) } }
 {
     match h {
-        Heard::Skip => skipped(s, false),
-        Heard::More => skipped(s, true),
-        Heard::Makes(c) => stepped(s, c),
-        Heard::Bad => refused(s),
+        Ok(Heard::Skip) => skipped(s, false),
+        Ok(Heard::More) => skipped(s, true),
+        Ok(Heard::Makes(c)) => stepped(s, c),
+        Err(why) => refused(s, why),
     }
 }
 

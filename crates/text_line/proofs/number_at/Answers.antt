@@ -1,33 +1,22 @@
-use Rattle.std.proofs.Common.{◌≡◌, length, sym, ◌∙◌}
-use Rattle.text_line.proofs.Numbers.{begun, stop_here, stop_end, read_over, read_next}
+use Rattle.std.proofs.Common.{◌≡◌, ◌-◌, length, drop, take}
+use lib.Seq.{take_all}
+use lib.ListN.{length-drop}
 use native.Mathlib.Omega.{arith}
+use Rattle.text_line.specs.Lines.{number_at}
+use Rattle.text_line.proofs.Numbers.{read_end, read_next, read_over}
 use Rattle.text_line.proofs.number_at.Goals as goal
-
-pub loop-i-init : goal.loop-i-init
-loop-i-init c =
-    begun _ _
-
-pub returns-then-not-is_digit : goal.returns-then-not-is_digit
-returns-then-not-is_digit c =
-    stop_here _ _ _ _ _ _ c.loop-i.invariant _ (omega arith) (sym c.is_digit.ensures ∙ c.if-not-is_digit.true) c.ended.ensures
-
-pub overflow_mul-n : goal.overflow_mul-n
-overflow_mul-n c =
-    omega (arith, c.loop-i.invariant.small)
-
-pub overflow_add-n : goal.overflow_add-n
-overflow_add-n c =
-    omega (arith, c.loop-i.invariant.small, c.digit_of.ensures, c.type_inv.line c.loop-i.i)
 
 pub returns-then-from-n : goal.returns-then-from-n
 returns-then-from-n c =
-    read_over _ _ _ _ _ _ c.loop-i.invariant _ (omega arith) (sym c.is_digit.ensures ∙ c.if-not-is_digit.false) c.digit_of.ensures (omega arith) (omega arith)
+    let all : take (length c.args.line.now - c.args.at) (drop c.args.at c.args.line.now) ≡ drop c.args.at c.args.line.now = take_all _ _ (omega (arith, length-drop c.args.at c.args.line.now)) in
+    read_over c.digits-digits.result.now c.loop-b.b-index c.loop-b.n c.loop-b.invariant.1 c.digit_of.result c.loop-b-test.true c.digit_of.ensures c.args.low _ _ _ (rw all at c.digits-digits.ensures) (omega arith) (omega arith)
 
-pub loop-i-preserved : goal.loop-i-preserved
-loop-i-preserved c =
-    read_next _ 0 0 _ _ _ c.loop-i.invariant _ (omega arith) (sym c.is_digit.ensures ∙ c.if-not-is_digit.false) c.digit_of.ensures (omega arith)
+pub loop-b-preserved : goal.loop-b-preserved
+loop-b-preserved c =
+    (omega arith, read_next _ _ _ c.loop-b.invariant.1 _ c.loop-b-test.true c.digit_of.ensures)
 
 pub returns : goal.returns
+unfolding number_at
 returns c =
-    let end : c.loop-i.i ≡ length c.args.line.now = omega arith in
-    stop_end _ _ _ _ _ _ c.loop-i.invariant _ (omega arith) (rw (← end) at c.ended-2.ensures)
+    let all : take (length c.args.line.now - c.args.at) (drop c.args.at c.args.line.now) ≡ drop c.args.at c.args.line.now = take_all _ _ (omega (arith, length-drop c.args.at c.args.line.now)) in
+    rw (read_end c.digits-digits.result.now c.loop-b.b-index c.loop-b.n c.loop-b.invariant.1 (omega arith), rw all at c.digits-digits.ensures) at c.ended.ensures

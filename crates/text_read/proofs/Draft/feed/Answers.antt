@@ -1,7 +1,7 @@
 use Rattle.std.proofs.Common.{arith, sym, ◌∙◌}
 use Rattle.std.proofs.lemmas.Result.{err_from_is_err_and}
 use Rattle.text_read.proofs.Steps.{feed_turn, feed_faulty, feed_end}
-use Rattle.text_read.proofs.feed.Goals as goal
+use Rattle.text_read.proofs.Draft.feed.Goals as goal
 
 pub returns-in_err-next : goal.returns-in_err-next
 returns-in_err-next c =

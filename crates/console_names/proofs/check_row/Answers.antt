@@ -1,8 +1,0 @@
-use Rattle.console_names.specs.Rows.{check_row}
-use Rattle.console_names.proofs.Names.{take_of}
-use Rattle.console_names.proofs.check_row.Goals as goal
-
-pub returns : goal.returns
-unfolding check_row
-returns c =
-    simp (c.found.ensures, c.asks.ensures, c.asks-2.ensures, c.asks-3.ensures, take_of)

@@ -1,8 +1,0 @@
-use Rattle.console_names.specs.Rows.{set_row}
-use Rattle.console_names.proofs.Names.{take_of}
-use Rattle.console_names.proofs.set_row.Goals as goal
-
-pub returns : goal.returns
-unfolding set_row
-returns c =
-    simp (c.found.ensures, c.asks.ensures, c.asks-2.ensures, c.asks-3.ensures, c.asks-4.ensures, c.asks-5.ensures, c.asks-6.ensures, c.asks-7.ensures, c.asks_with.ensures, take_of)

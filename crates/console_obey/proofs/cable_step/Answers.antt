@@ -1,7 +1,0 @@
-use Rattle.console_obey.proofs.Obeys.{cable_step}
-use Rattle.console_obey.proofs.cable_step.Goals as goal
-
-pub returns : goal.returns
-returns c =
-    let a = c.args in
-    cable_step a.d a.n a.text.now a.out.now a.at _ _ a.k a.bytes.now _ c.requires c.after-a.ensures c.append-end.ensures
