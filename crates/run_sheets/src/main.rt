@@ -254,77 +254,58 @@ fn with_cost(rt: &impl Print, cost: u32) -> io::Result<()> {
     println!(rt; "two stages, the second's cost {cost:03}: {said}")
 }
 
-fn main(rt: HostRuntime) -> io::Result<()> {
-    rows(&rt, &NAMED)?;
-    edge(&rt, "full", set_of(FULL), 377, 0, 378)?;
-    edge(&rt, "full, a byte less", set_of(FULL), 377, 0, 377)?;
-    edge(&rt, "full, a byte more", set_of(FULL), 377, 0, 379)?;
-    edge(&rt, "full, a set padding bit", set_of(FULL), 377, 1, 378)?;
-    rows(&rt, &COUNTS)?;
-    rows(&rt, &STREAMS)?;
-    rows(&rt, &TUPLES)?;
+// Sheets of version 1: named ones, a full one at the buffer's edges, each number, and what is lent.
+fn version_1(rt: &impl Print) -> io::Result<()> {
+    rows(rt, &NAMED)?;
+    edge(rt, "full", set_of(FULL), 377, 0, 378)?;
+    edge(rt, "full, a byte less", set_of(FULL), 377, 0, 377)?;
+    edge(rt, "full, a byte more", set_of(FULL), 377, 0, 379)?;
+    edge(rt, "full, a set padding bit", set_of(FULL), 377, 1, 378)?;
+    rows(rt, &COUNTS)?;
+    rows(rt, &STREAMS)?;
+    rows(rt, &TUPLES)?;
+    let set = set_of(ONE_STREAM);
     for room in [0, 10, 11, 12] {
-        lent(
-            &rt,
-            set_of(ONE_STREAM),
-            &mut [238; 16],
-            room,
-            [0, 10, 11, 15],
-        )?;
+        lent(rt, set, &mut [238; 16], room, [0, 10, 11, 15])?;
     }
-    rows(&rt, &STAGED)?;
-    both_ways(&rt, b"\x10\x00")?;
-    both_ways(&rt, b"\x20\x00")?;
-    both_ways(&rt, ONE_STREAM)?;
-    both_ways(&rt, b"\x20\x80\x00\xa1\x80\x01\x00\x00\x14\x00\x00")?;
-    both_ways(&rt, TWO_STAGES)?;
+    Ok(())
+}
+
+// Sheets that are read and written again, and stages in either version.
+fn either_version(rt: &impl Print) -> io::Result<()> {
+    rows(rt, &STAGED)?;
+    both_ways(rt, b"\x10\x00")?;
+    both_ways(rt, b"\x20\x00")?;
+    both_ways(rt, ONE_STREAM)?;
+    both_ways(rt, b"\x20\x80\x00\xa1\x80\x01\x00\x00\x14\x00\x00")?;
+    both_ways(rt, TWO_STAGES)?;
     for version in 0..4 {
-        as_version(&rt, version)?;
+        as_version(rt, version)?;
     }
     for cost in 0..2 {
-        with_cost(&rt, cost)?;
+        with_cost(rt, cost)?;
     }
+    let set = set_of(TWO_STAGES);
     for room in [23, 24, 25] {
-        lent(
-            &rt,
-            set_of(TWO_STAGES),
-            &mut [238; 32],
-            room,
-            [0, 23, 24, 31],
-        )?;
+        lent(rt, set, &mut [238; 32], room, [0, 23, 24, 31])?;
     }
+    Ok(())
+}
+
+// A full sheet of version 2: what is lent, and the buffer's edges.
+fn version_2(rt: &impl Print) -> io::Result<()> {
+    let set = set_of(FULL_STAGES);
     for room in [501, 502, 503] {
-        lent(
-            &rt,
-            set_of(FULL_STAGES),
-            &mut [238; 503],
-            room,
-            [0, 500, 501, 502],
-        )?;
+        lent(rt, set, &mut [238; 503], room, [0, 500, 501, 502])?;
     }
-    edge(&rt, "version 2, full", set_of(FULL_STAGES), 501, 0, 502)?;
-    edge(
-        &rt,
-        "version 2, full, a byte less",
-        set_of(FULL_STAGES),
-        501,
-        0,
-        501,
-    )?;
-    edge(
-        &rt,
-        "version 2, full, a byte more",
-        set_of(FULL_STAGES),
-        501,
-        0,
-        503,
-    )?;
-    edge(
-        &rt,
-        "version 2, full, a set padding bit",
-        set_of(FULL_STAGES),
-        501,
-        1,
-        502,
-    )
+    edge(rt, "version 2, full", set, 501, 0, 502)?;
+    edge(rt, "version 2, full, a byte less", set, 501, 0, 501)?;
+    edge(rt, "version 2, full, a byte more", set, 501, 0, 503)?;
+    edge(rt, "version 2, full, a set padding bit", set, 501, 1, 502)
+}
+
+fn main(rt: HostRuntime) -> io::Result<()> {
+    version_1(&rt)?;
+    either_version(&rt)?;
+    version_2(&rt)
 }
