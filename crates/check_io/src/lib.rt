@@ -4,6 +4,7 @@
 ghost use Rattle.rules.specs.Load.{VerdictOf};
 ghost use Rattle.load_check.specs.Sheets.{SheetVerdict};
 
+use load_resume::Listener;
 use rules::{Position, ReadResult, Refusal, Set, Verdict};
 use std::io;
 use std::rt::Files;
@@ -16,10 +17,19 @@ fn lengths_of(x: Set) -> u32 {
     load_cycles::begin(x).map_or(0, |end| end.saturating_sub(1))
 }
 
-// Tells on standard error how far the check is. The check goes on where nothing takes that.
-fn tell(rt: &impl Eprint, p: Position, all: u32) {
-    let line = check_lines::progress_line(p.next.saturating_sub(1), all);
-    let _ = file_io::warn(rt, line);
+// Who reads standard error, and how many lengths there are.
+#[derive(Clone, Copy)]
+struct Reader<'a, R: Eprint> {
+    rt: &'a R,
+    all: u32,
+}
+
+impl<R: Eprint> Listener for Reader<'_, R> {
+    // Tells on standard error how far the check is. The check goes on where nothing takes that.
+    fn tell(&mut self, next: Position) {
+        let line = check_lines::progress_line(next.next.saturating_sub(1), self.all);
+        let _ = file_io::warn(self.rt, line);
+    }
 }
 
 // Calls one after the other, each followed by a line of progress, until the verdict falls.
@@ -27,7 +37,7 @@ fn check(rt: &impl Eprint, x: Set) -> Verdict
     ensures { VerdictOf x result }
 {
     let all = lengths_of(x);
-    load_resume::told_in_calls(x, STEP, |next| tell(rt, next, all))
+    load_resume::told_in_calls(x, STEP, &mut Reader { rt, all })
 }
 
 // The verdict of a sheet, from what it reads as: a refused sheet's is its refusal.

@@ -54,18 +54,30 @@ pub fn go(p: Position, n: u32) -> Result<Progress, Refusal>
 
 // ---- the work divided among calls
 
+// Who is told each next position while the calls go on. A trait and no closure: a function that takes a closure has to require that it may be called.
+pub trait Listener {
+    fn tell(&mut self, next: Position);
+}
+
+// Nobody listens.
+#[derive(Clone, Copy)]
+struct Nobody;
+
+impl Listener for Nobody {
+    fn tell(&mut self, _next: Position) {}
+}
+
 // Calls with the number n, one after the other, until the verdict falls. Each next position is told.
-fn call_by_call<F: FnMut(Position)>(begun: Position, n: u32, mut tell: F) -> Verdict
+fn call_by_call<L: Listener>(begun: Position, n: u32, listener: &mut L) -> Verdict
     requires underway { Underway begun.set begun }
     requires some { 0 < n }
-    requires call { F.IsAlwaysCallable tell }
     ensures { VerdictOf begun.set result }
 {
     let mut p = begun;
     loop {
         match go(p, n) {
             Ok(Progress::Next(_, next)) => {
-                tell(next);
+                listener.tell(next);
                 p = next;
             }
             Ok(Progress::Falls(_, v)) => return v,
@@ -75,12 +87,11 @@ fn call_by_call<F: FnMut(Position)>(begun: Position, n: u32, mut tell: F) -> Ver
 }
 
 // The verdict of a set, by calls with the number n; each next position is told. With 0 no call would come further, so that it is taken as 1.
-pub fn told_in_calls<F: FnMut(Position)>(x: Set, n: u32, tell: F) -> Verdict
-    requires call { F.IsAlwaysCallable tell }
+pub fn told_in_calls<L: Listener>(x: Set, n: u32, listener: &mut L) -> Verdict
     ensures { VerdictOf x result }
 {
     match open(x) {
-        Ok(p) => call_by_call(p, n.max(1), tell),
+        Ok(p) => call_by_call(p, n.max(1), listener),
         Err(v) => v,
     }
 }
@@ -89,5 +100,5 @@ pub fn told_in_calls<F: FnMut(Position)>(x: Set, n: u32, tell: F) -> Verdict
 pub fn in_calls(x: Set, n: u32) -> Verdict
     ensures { VerdictOf x result }
 {
-    told_in_calls(x, n, |_| {})
+    told_in_calls(x, n, &mut Nobody)
 }

@@ -3,13 +3,28 @@
 
 use rules::Refusal;
 use sheet_carried::{Carried, Point};
-use std::io;
+use std::{fmt, io};
 
 // ---- what is printed
 
 fn refused(rt: &impl Print, why: Refusal) -> io::Result<()> {
     let number = answer_numbers::refusal_number(why);
     println!(rt; "refused {number}")
+}
+
+// Bytes in hex, printed at once and not one by one.
+#[derive(Clone, Copy)]
+struct Hex<'a> {
+    bytes: &'a [u8],
+}
+
+impl fmt::Display for Hex<'_> {
+    fn fmt<W: fmt::Write>(&self, f: &mut fmt::Formatter<W>) -> fmt::Result {
+        for b in self.bytes {
+            write!(f, "{b:02x}")?;
+        }
+        Ok(())
+    }
 }
 
 // What closing gives: the number of streams and the set's sheet, written again, or the refusal.
@@ -19,14 +34,12 @@ fn close(rt: &impl Print, c: Carried) -> io::Result<()> {
         return refused(rt, why);
     }
     let count = r.set.count;
-    print!(rt; "set {count} ")?;
     let mut bytes = [0u8; rules::LONGEST_SHEET];
-    if let Ok(n) = sheet_write::write(r.set, &mut bytes) {
-        for b in bytes.get(..n).unwrap_or(&[]) {
-            print!(rt; "{b:02x}")?;
-        }
-    }
-    println!(rt; "")
+    let n = sheet_write::write(r.set, &mut bytes).unwrap_or(0);
+    let sheet = Hex {
+        bytes: bytes.get(..n).unwrap_or(&[]),
+    };
+    println!(rt; "set {count} {sheet}")
 }
 
 // ---- pieces

@@ -7,7 +7,8 @@ use mathlib.Core.List.{List}
 use mathlib.Core.Path.{◌≡◌, refl, ap, sym}
 use lib.ListN.{length, get_or, drop, set, replicate, drop_of_length-le}
 use lib.Seq.{drop-cons}
-use Rattle.std.specs.Prelude.{Option, Some, None}
+use Rattle.std.specs.Prelude.{Option, Some, None, Result, Ok, Err}
+use Rattle.std.specs.Result.{result_ok}
 use Rattle.laws.specs.Lists.{scan}
 use Rattle.laws.proofs.Sums.{and_no}
 use Rattle.rules.specs.declared.Set.{Set}
@@ -29,6 +30,15 @@ told_none false v e = refl
 pub told_some : {A : Type 0} (b : Bool) (w v : A) → Some w ≡ cond b (Some v) None → (b ≡ true) × (w ≡ v)
 told_some true w v e = (refl, cc)
 told_some false w v e = absurd (let z : ⊥ = cc in z)
+
+-- the same of a value that is told in either case
+pub kept_none : {A : Type 0} (b : Bool) (v : A) → None ≡ result_ok (cond b (Ok v) (Err v)) → b ≡ false
+kept_none true v e = absurd (let z : ⊥ = cc in z)
+kept_none false v e = refl
+
+pub kept_some : {A : Type 0} (b : Bool) (w v : A) → Some w ≡ result_ok (cond b (Ok v) (Err v)) → (b ≡ true) × (w ≡ v)
+kept_some true w v e = (refl, cc)
+kept_some false w v e = absurd (let z : ⊥ = cc in z)
 
 pub pass_start : (x : Set) (clock : ℕ) (l : List Message) → Pass x clock l 0 0 (replicate 16 false)
 unfolding messages_ok

@@ -8,6 +8,7 @@ use borrow.Author.Tests.{le-leb, lt-leb}
 use lib.Dec.{leb}
 use lib.ListN.{drop}
 use Rattle.std.specs.Prelude.{Some, None, is_some}
+use Rattle.std.specs.Result.{result_ok}
 use Rattle.std.specs.List.{list_all}
 use Rattle.laws.specs.Lists.{below}
 use Rattle.laws.proofs.Fits.{and_assoc}
@@ -19,7 +20,7 @@ use Rattle.state_parties.specs.declared.Held.{Held}
 use Rattle.state_parties.specs.Shares.{fits_of, shared_of}
 use Rattle.state_formed.specs.declared.Tested.{Tested}
 use Rattle.state_formed.specs.InRange.{messages_pass, door_allows, waits_left, rest_formed, passing, tested_of, whole_of}
-use Rattle.state_formed.proofs.Pass.{told_none, told_some}
+use Rattle.state_formed.proofs.Pass.{told_none, told_some, kept_none, kept_some}
 
 module _ (s : State) where
   abbrev messages : Bool
@@ -62,15 +63,15 @@ module _ (s : State) where
   unfolding waits_left
   waits_no e = behind (and_no messages _ (and_no unused _ (rw (told_none waits _ e) refl)))
 
-  pub parties_no : None ≡ shared_of (pending s) s.owners s.set.count s.places → None ≡ tested_of s
-  parties_no e = behind (and_no messages _ (and_no unused _ (and_no waits _ (told_none parties _ e))))
+  pub parties_no : None ≡ result_ok (shared_of (pending s) s.owners s.set.count s.places) → None ≡ tested_of s
+  parties_no e = behind (and_no messages _ (and_no unused _ (and_no waits _ (kept_none parties _ e))))
 
   pub all_yes : s.count ≤ 64 → s.clock ≤ 4000000000 → true ≡ messages → true ≡ unused → (ws : List ℕ) → Some ws ≡ waits_left s.set.streams s.waits
-      → (h : Held) → Some h ≡ shared_of (pending s) s.owners s.set.count s.places → Some (let r : Tested = record { later = ws; held = h } in r) ≡ tested_of s
+      → (h : Held) → Some h ≡ result_ok (shared_of (pending s) s.owners s.set.count s.places) → Some (let r : Tested = record { later = ws; held = h } in r) ≡ tested_of s
   unfolding tested_of waits_left
   all_yes a b c d ws e h f =
       let w = told_some waits ws _ e in
-      let p = told_some parties h _ f in
+      let p = kept_some parties h _ f in
       rw (by_parts, le-leb s.count 64 a, le-leb s.clock 4000000000 b, ← c, ← d, w.0, p.0, w.1, p.1)
 
   -- the set's test first

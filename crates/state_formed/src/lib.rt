@@ -113,7 +113,7 @@ pub fn formed(s: &State) -> Option<Tested>
         return None;
     }
     let later = waits_left(&s.set.streams, &s.waits)?;
-    let held = state_parties::share(pending, &s.owners, s.set.count, s.places)?;
+    let held = state_parties::share(pending, &s.owners, s.set.count, s.places).ok()?;
     Some(Tested { later, held })
 }
 

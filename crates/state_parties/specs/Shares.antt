@@ -1,6 +1,6 @@
 -- What the parties have of the message table, and their rules.
 -- Assumes nothing.
-use Rattle.std.specs.Prelude.{ℕ, Bool, ◌&&◌, cond, List, leb, ltb, drop, Option, Some, None}
+use Rattle.std.specs.Prelude.{ℕ, Bool, ◌&&◌, cond, List, leb, ltb, drop, Result, Ok, Err}
 use Rattle.std.specs.List.{list_all}
 use Rattle.rules.specs.declared.Message.{Message}
 use Rattle.rules.specs.declared.Party.{Party}
@@ -25,9 +25,9 @@ fits_of ms owners streams places =
     && (leb (held_of owners Ours ms) (places_of places Ours)
     && leb (held_of owners Theirs ms) (places_of places Theirs)))
 
--- how many each party has, where the rules are kept
-abbrev pub shared_of : List Message → List Party → ℕ → Places → Option Held
-shared_of ms owners streams places = cond (fits_of ms owners streams places) (Some (held_in owners ms)) None
+-- how many each party has, and whether the rules are kept
+abbrev pub shared_of : List Message → List Party → ℕ → Places → Result Held Held
+shared_of ms owners streams places = cond (fits_of ms owners streams places) (Ok (held_in owners ms)) (Err (held_in owners ms))
 
 -- is a place left for a party?
 unfoldable pub place_left : Party → Held → Places → Bool

@@ -56,14 +56,14 @@ pub fn places_fit(places: Places) -> bool
     u64::from(places.ours) + u64::from(places.theirs) <= 64
 }
 
-// How many of the pending messages each party has, where the parties' rules are kept: the places together are at most 64, what a set of so many streams does
-// not use is ours, and neither party has more pending than its number.
+// How many of the pending messages each party has, as an error where the parties' rules are not kept: the places together are at most 64, what a set of so
+// many streams does not use is ours, and neither party has more pending than its number.
 pub fn share(
     pending: &[Message],
     owners: &[Party; 16],
     streams: usize,
     places: Places,
-) -> Option<Held>
+) -> Result<Held, Held>
     ensures { result ≡ shared_of pending.now owners.now streams places }
 {
     let held = counted(pending, owners);
@@ -71,7 +71,7 @@ pub fn share(
         && rest_ours(owners, streams)
         && held.ours <= places.ours as usize
         && held.theirs <= places.theirs as usize;
-    if fits { Some(held) } else { None }
+    if fits { Ok(held) } else { Err(held) }
 }
 
 // ---- a start

@@ -1,7 +1,7 @@
 // Streams and sets: is a set valid, and what is read of it.
 #![tactic(auto)]
 
-ghost use Rattle.std.specs.Prelude.{◌≡◌, ◌≤◌, Bool, ◌&&◌, length, take, drop};
+ghost use Rattle.std.specs.Prelude.{◌≡◌, ◌≤◌, ◌-◌, Bool, ◌&&◌, length, take, drop};
 ghost use Rattle.std.specs.List.{list_all};
 ghost use Rattle.laws.specs.Lists.{within};
 ghost use Rattle.rules.specs.Streams.{offset, cycle_ok, tuple_ok, tuples_ok, tuple_unused, tuples_of, stage_ok, stage_unused, stages_of, stream_ok, stream_unused, one_stage, streams_of, version_ok, valid, no_stream, empty_set, stream_at};
@@ -241,4 +241,13 @@ pub fn stream_at(x: Set, k: usize) -> Stream
         Some(s) => *s,
         None => no_stream(),
     }
+}
+
+// ---- numbers
+
+// The difference, 0 where it would be below.
+pub fn less(a: u32, b: u32) -> u32
+    ensures { result ≡ a - b }
+{
+    a.saturating_sub(b)
 }

@@ -6,7 +6,7 @@ use rules::{Refusal, Set, Verdict};
 use std::io::Read;
 use std::rt::Files;
 use std::{fs, io};
-use text_read::{BadLine, Draft};
+use text_read::{BadLine, Text};
 
 fn refuse(rt: &impl Print, why: Refusal) -> io::Result<()> {
     file_io::say(rt, answer_words::verdict_line(Verdict::Refused(why)))
@@ -36,19 +36,16 @@ pub fn show(rt: &(impl Files + Print)) -> io::Result<()> {
 
 // ---- a sheet, from a set's text
 
-// A text as far as it has come, or its first bad line. What stands behind that is read all the same, and does not count.
-type Text = Result<Draft, BadLine>;
-
-// The text of standard input. None: the input cannot be read, which is told, and no sheet is made of what came before.
+// The text of standard input. What stands behind a bad line is read all the same, and does not count. None: the input cannot be read, which is told, and no sheet is made of what came before.
 // A proved loop has to end, and nothing says that the input does: the turns are counted up to a number that no run uses up.
 fn listen(rt: &(impl Input + Eprint)) -> io::Result<Option<Text>> {
     let mut input = rt.reader();
-    let mut text: Text = Ok(Draft::start());
+    let mut text = text_read::start();
     let mut bytes = [0u8; 512];
     for _ in 0..u64::MAX {
         match input.read(&mut bytes) {
             Ok(0) => return Ok(Some(text)),
-            Ok(n) => text = text.and_then(|draft| draft.feed(&bytes[..n])),
+            Ok(n) => text = text_read::feed(text, &bytes[..n]),
             Err(why) => {
                 file_io::fail(rt, "standard input", why)?;
                 break;
@@ -80,7 +77,7 @@ pub fn make(rt: &(impl Files + Input + Print + Eprint)) -> io::Result<bool> {
     let Some(text) = listen(rt)? else {
         return Ok(false);
     };
-    match text.and_then(Draft::close) {
+    match text_read::close(text) {
         Ok(set) => keep(rt, set),
         Err(bad) => {
             file_io::say(rt, text_faults::fault_line(bad.number, bad.fault))?;
@@ -122,27 +119,36 @@ struct Pile {
     number: u64,
 }
 
-// A zero byte ends a text.
-fn take_byte(rt: &impl Print, p: Pile, b: u8) -> io::Result<Pile> {
-    if b == 0 {
-        let head = line::one(line::blank(), b"text", p.number);
-        file_io::say(rt, line::put(head, b'\n'))?;
-        print_found(rt, p.text.and_then(Draft::close))?;
-        return Ok(Pile {
-            text: Ok(Draft::start()),
-            number: p.number % 1000000 + 1,
-        });
-    }
+// A text ends here.
+fn end_text(rt: &impl Print, p: Pile) -> io::Result<Pile> {
+    let head = line::one(line::blank(), b"text", p.number);
+    file_io::say(rt, line::put(head, b'\n'))?;
+    print_found(rt, text_read::close(p.text))?;
     Ok(Pile {
-        text: p.text.and_then(|draft| draft.step(b)),
-        ..p
+        text: text_read::start(),
+        number: p.number % 1000000 + 1,
     })
+}
+
+// A zero byte ends a text. What stands between two of them is fed at once: a text that is handed over and back is copied.
+fn take_piece(rt: &impl Print, p: Pile, piece: &[u8]) -> io::Result<Pile> {
+    let mut next = p;
+    let mut from = 0;
+    for (k, b) in piece.iter().enumerate() {
+        if *b == 0 {
+            next.text = text_read::feed(next.text, &piece[from..k]);
+            next = end_text(rt, next)?;
+            from = k + 1;
+        }
+    }
+    next.text = text_read::feed(next.text, &piece[from..]);
+    Ok(next)
 }
 
 // The texts of an open file.
 fn take_texts(rt: &impl Print, file: &mut impl Read) -> io::Result<()> {
     let mut p = Pile {
-        text: Ok(Draft::start()),
+        text: text_read::start(),
         number: 1,
     };
     let mut bytes = [0u8; 512];
@@ -151,9 +157,7 @@ fn take_texts(rt: &impl Print, file: &mut impl Read) -> io::Result<()> {
         if n == 0 {
             break;
         }
-        for b in &bytes[..n] {
-            p = take_byte(rt, p, *b)?;
-        }
+        p = take_piece(rt, p, &bytes[..n])?;
     }
     Ok(())
 }

@@ -27,7 +27,7 @@ use Rattle.text_tidy.specs.Tidied.{row_of, fresh, kept_of}
 use Rattle.text_tidy.proofs.Whole.{kept, with, with_none, with_all, Next, next}
 use Rattle.text_read.specs.declared.BadLine.{BadLine}
 use Rattle.text_read.specs.declared.Draft.{Draft}
-use Rattle.text_read.specs.Texts.{is_newline, first_line, more_lines, line_says, by_said, untold, following, is_bad, lines_read, text_read, onward, with_stream, with_version, line_ended, start_of, step_of, feed_of, close_of}
+use Rattle.text_read.specs.Texts.{is_newline, first_line, more_lines, line_says, by_said, untold, following, is_bad, lines_read, text_read, onward, with_stream, with_version, line_ended, start_of, step_of, feed_of, close_of, begun, stepped, fed, closed}
 
 -- what leads on twice
 pub leads_twice : {A B C E : Type 0} (r : Result A E) (f : A → Result B E) (g : B → Result C E) → leads (leads r f) g ≡ leads r (λ x. leads (f x) g)
@@ -169,3 +169,26 @@ module _ (l : List ℕ) (a : Draft) (r : Result Draft BadLine) (e : a ≡ start_
   pub read_whole : (d : Draft) (z : Result Set BadLine) → r ≡ Ok d → z ≡ close_of d → z ≡ text_read l
   unfolding leads
   read_whole d z g k = let h : feed_of start_of l ≡ Ok d = rw (e) at (sym f ∙ g) in k ∙ (rw h at (whole l))
+
+-- ---- a text so far, or its first bad line
+
+-- it may be cut anywhere, behind a bad line too
+pub pieces_anywhere : (t : Result Draft BadLine) (v w : List ℕ) → fed t (v ++ w) ≡ fed (fed t v) w
+unfolding fed leads
+pieces_anywhere (Ok d) v w = cut_anywhere d v w
+pieces_anywhere (Err bad) v w = refl
+
+-- a byte is a piece of one
+pub byte_alone : (t : Result Draft BadLine) (b : ℕ) → stepped t b ≡ fed t (b ∷ [])
+unfolding stepped fed leads feed_of
+byte_alone (Err bad) b = refl
+byte_alone (Ok d) b = alone (step_of d b)
+  where
+    alone : (r : Result Draft BadLine) → r ≡ leads r (λ e. Ok e)
+    alone (Ok e) = refl
+    alone (Err bad) = refl
+
+-- however it was cut, what the programs close is the whole text's answer
+pub whole_text : (l : List ℕ) → closed (fed begun l) ≡ text_read l
+unfolding closed fed leads
+whole_text l = whole l

@@ -71,6 +71,10 @@ text_read l = lines_read 1 1 [] (first_line l ∷ more_lines l)
 
 -- ---- the same, byte by byte
 
+-- a draft that is changed in place: what it has become, or the first bad line
+unfoldable pub leaves : Result (Unit {0}) BadLine → Draft → Result Draft BadLine
+leaves r d = leads r (λ nothing. Ok d)
+
 unfoldable pub onward : Set → ℕ → Draft
 onward x n = record { set = x; number = following n; tidy = fresh }
 
@@ -105,3 +109,17 @@ feed_of d (b ∷ l) = leads (step_of d b) (λ e. feed_of e l)
 
 unfoldable pub close_of : Draft → Result Set BadLine
 close_of d = leads (step_of d (code "\n")) (λ e. Ok e.set)
+
+-- ---- a text so far, or its first bad line: behind that nothing counts
+
+abbrev pub begun : Result Draft BadLine
+begun = Ok start_of
+
+unfoldable pub stepped : Result Draft BadLine → ℕ → Result Draft BadLine
+stepped t b = leads t (λ d. step_of d b)
+
+unfoldable pub fed : Result Draft BadLine → List ℕ → Result Draft BadLine
+fed t l = leads t (λ d. feed_of d l)
+
+unfoldable pub closed : Result Draft BadLine → Result Set BadLine
+closed t = leads t (λ d. close_of d)

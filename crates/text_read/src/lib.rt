@@ -2,7 +2,7 @@
 #![tactic(auto)]
 
 ghost use Rattle.std.specs.Prelude.{◌≡◌};
-ghost use Rattle.text_read.specs.Texts.{onward, with_stream, with_version, line_ended, start_of, step_of, feed_of, close_of, text_read};
+ghost use Rattle.text_read.specs.Texts.{leaves, onward, with_stream, with_version, line_ended, start_of, step_of, feed_of, close_of, begun, stepped, fed, closed, text_read};
 
 use rules::{Set, Stream};
 use text_line::{Fault, Said};
@@ -36,21 +36,18 @@ impl Draft {
         }
     }
 
-    // On with the next line, and with this set. The lines are counted up to 2^64 - 1.
+    // On with the next line. The lines are counted up to 2^64 - 1.
     #[tactic(auto, unfolding(crate::specs::Texts::onward, crate::specs::Texts::following))]
-    fn go_on(self, set: Set) -> Draft
-        ensures { result ≡ onward set self.number }
+    fn go_on(&mut self)
+        ensures { self.new ≡ onward self.old.set self.old.number }
     {
-        Draft {
-            set,
-            number: self.number.saturating_add(1),
-            tidy: text_tidy::start(),
-        }
+        self.number = self.number.saturating_add(1);
+        self.tidy = text_tidy::start();
     }
 
     // This line is the first bad one.
-    fn bad(self, fault: Fault) -> BadLine
-        ensures { (result.number ≡ self.number) × (result.fault ≡ fault) }
+    fn bad(&self, fault: Fault) -> BadLine
+        ensures { (result.number ≡ self.now.number) × (result.fault ≡ fault) }
     {
         BadLine {
             number: self.number,
@@ -58,60 +55,71 @@ impl Draft {
         }
     }
 
-    // One stream more.
-    #[tactic(auto, unfolding(crate::specs::Texts::with_stream))]
-    fn add(self, s: Stream) -> Result<Draft, BadLine>
-        ensures { result ≡ with_stream self.set self.number s }
+    // One stream more. Here and below a draft is changed in place: one that is handed over and back is copied, its set too.
+    #[tactic(auto, unfolding(crate::specs::Texts::with_stream, crate::specs::Texts::leaves, text_line::specs::Lines::leads))]
+    fn add(&mut self, s: Stream) -> Result<(), BadLine>
+        ensures { leaves result self.new ≡ with_stream self.old.set self.old.number s }
     {
         let k = self.set.count;
-        if k < 16 {
-            let mut next = self.set;
-            next.streams[k] = s;
-            next.count = k + 1;
-            Ok(self.go_on(next))
-        } else {
-            Err(self.bad(Fault::ManyStreams))
+        if 16 <= k {
+            return Err(self.bad(Fault::ManyStreams));
         }
+        self.set.streams[k] = s;
+        self.set.count = k + 1;
+        self.go_on();
+        Ok(())
     }
 
     // `version 2`: nothing but empty lines may stand before it.
-    #[tactic(auto, unfolding(crate::specs::Texts::with_version))]
-    fn say_version(self) -> Result<Draft, BadLine>
-        ensures { result ≡ with_version self.set self.number }
+    #[tactic(auto, unfolding(crate::specs::Texts::with_version, crate::specs::Texts::leaves, text_line::specs::Lines::leads))]
+    fn say_version(&mut self) -> Result<(), BadLine>
+        ensures { leaves result self.new ≡ with_version self.old.set self.old.number }
     {
-        let set = self.set;
-        if set.version == 1 && set.count == 0 {
-            Ok(self.go_on(Set { version: 2, ..set }))
+        if self.set.version == 1 && self.set.count == 0 {
+            self.set.version = 2;
+            self.go_on();
+            Ok(())
         } else {
             Err(self.bad(Fault::LateVersion))
         }
     }
 
     // The line ends here.
-    #[tactic(auto, unfolding(crate::specs::Texts::line_ended))]
-    fn end_line(self) -> Result<Draft, BadLine>
-        ensures { result ≡ line_ended self }
+    #[tactic(auto, unfolding(crate::specs::Texts::line_ended, crate::specs::Texts::leaves, text_line::specs::Lines::leads))]
+    fn end_line(&mut self) -> Result<(), BadLine>
+        ensures { leaves result self.new ≡ line_ended self.old }
     {
         match text_line::judge(self.tidy.row, self.set.version) {
             Ok(Some(Said::Stream(s))) => self.add(s),
             Ok(Some(Said::Version)) => self.say_version(),
-            Ok(None) => Ok(self.go_on(self.set)),
+            Ok(None) => {
+                self.go_on();
+                Ok(())
+            }
             Err(fault) => Err(self.bad(fault)),
         }
     }
 
-    // A text after one more byte.
-    #[tactic(auto, unfolding(crate::specs::Texts::step_of))]
-    pub fn step(self, b: u8) -> Result<Draft, BadLine>
-        ensures { result ≡ step_of self b }
+    // One byte more.
+    #[tactic(auto, unfolding(crate::specs::Texts::step_of, crate::specs::Texts::leaves, text_line::specs::Lines::leads))]
+    fn take(&mut self, b: u8) -> Result<(), BadLine>
+        ensures { leaves result self.new ≡ step_of self.old b }
     {
         if b == b'\n' {
             return self.end_line();
         }
-        Ok(Draft {
-            tidy: text_tidy::keep(self.tidy, b),
-            ..self
-        })
+        self.tidy = text_tidy::keep(self.tidy, b);
+        Ok(())
+    }
+
+    // A text after one more byte.
+    #[tactic(auto, unfolding(crate::specs::Texts::leaves, text_line::specs::Lines::leads))]
+    pub fn step(self, b: u8) -> Result<Draft, BadLine>
+        ensures { result ≡ step_of self b }
+    {
+        let mut next = self;
+        next.take(b)?;
+        Ok(next)
     }
 
     // A text after a piece of its bytes.
@@ -120,7 +128,7 @@ impl Draft {
     {
         let mut next = self;
         for b in piece {
-            next = next.step(*b)?;
+            next.take(*b)?;
         }
         Ok(next)
     }
@@ -133,6 +141,40 @@ impl Draft {
         let last = self.step(b'\n')?;
         Ok(last.set)
     }
+}
+
+// A text as far as it has come, or its first bad line: behind that nothing counts. These take what the ones above left.
+pub type Text = Result<Draft, BadLine>;
+
+// A text of which no byte has come.
+pub fn start() -> Text
+    ensures { result ≡ begun }
+{
+    Ok(Draft::start())
+}
+
+// A text after one more byte.
+#[tactic(auto, unfolding(crate::specs::Texts::stepped, text_line::specs::Lines::leads))]
+pub fn step(text: Text, b: u8) -> Text
+    ensures { result ≡ stepped text b }
+{
+    text?.step(b)
+}
+
+// A text after a piece of its bytes.
+#[tactic(auto, unfolding(crate::specs::Texts::fed, text_line::specs::Lines::leads))]
+pub fn feed(text: Text, piece: &[u8]) -> Text
+    ensures { result ≡ fed text piece.now }
+{
+    text?.feed(piece)
+}
+
+// The text ends here: its set, or its first bad line.
+#[tactic(auto, unfolding(crate::specs::Texts::closed, text_line::specs::Lines::leads))]
+pub fn close(text: Text) -> Result<Set, BadLine>
+    ensures { result ≡ closed text }
+{
+    text?.close()
 }
 
 // A whole text: its set, or its first bad line.

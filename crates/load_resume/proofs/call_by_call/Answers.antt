@@ -8,7 +8,7 @@ loop-next-smaller g c =
 
 pub returns-in-Ok-Falls : goal.returns-in-Ok-Falls
 returns-in-Ok-Falls g c =
-    underway_falls c.args.begun.set c.loop-next.p c.args.n c.in-Ok-Falls.field-0-0 c.in-Ok-Falls.v c.loop-next.invariant.underway (rw c.in-Ok-Falls.field-0-is at c.in-Ok-Falls.ensures)
+    underway_falls c.args.begun.set c.loop-next.p c.args.n c.in-Ok-Falls.field-0-0 c.in-Ok-Falls.v c.loop-next.invariant (rw c.in-Ok-Falls.field-0-is at c.in-Ok-Falls.ensures)
 
 pub returns-in-Err : goal.returns-in-Err
-returns-in-Err g c = absurd (underway_goes c.args.begun.set c.loop-next.p c.args.n c.loop-next.invariant.underway c.in-Err.ensures)
+returns-in-Err g c = absurd (underway_goes c.args.begun.set c.loop-next.p c.args.n c.loop-next.invariant c.in-Err.ensures)

@@ -1,5 +1,6 @@
 use mathlib.Core.Path.{ap, ◌∙◌}
 use mathlib.Core.List.{List}
+use Rattle.std.specs.Result.{result_ok}
 use Rattle.std.specs.List.{list_all}
 use Rattle.rules.specs.declared.Message.{Message}
 use Rattle.rules.specs.States.{message_unused}
@@ -36,7 +37,7 @@ pub returns-in_err-held : goal.returns-in_err-held
 returns-in_err-held c =
     let s = c.args.s.now in
     c.from_residual-in_err-held.ensures
-    ∙ parties_no _ (c.in_err-held.ensures ∙ ap (λ (l : List Message). shared_of l s.owners s.set.count s.places) c.split_at.ensures.front)
+    ∙ parties_no _ (c.in_err-held.ensures.value ∙ ap result_ok (c.share.ensures ∙ ap (λ (l : List Message). shared_of l s.owners s.set.count s.places) c.split_at.ensures.front))
 
 pub returns : goal.returns
 returns c =
@@ -46,4 +47,4 @@ returns c =
     (c.if-not-messages_pass.ensures ∙ ap (λ (l : List Message). messages_pass s.set s.clock l) front)
     (c.if-not-places_unused.ensures ∙ ap (list_all message_unused) c.split_at.ensures.back)
     _ c.in_ok-later.ensures
-    _ (c.in_ok-held.ensures ∙ ap (λ (l : List Message). shared_of l s.owners s.set.count s.places) front)
+    _ (c.in_ok-held.ensures.value ∙ ap result_ok (c.share.ensures ∙ ap (λ (l : List Message). shared_of l s.owners s.set.count s.places) front))
